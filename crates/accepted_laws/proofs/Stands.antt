@@ -15,16 +15,16 @@ use Rattle.algo_tree.specs.Valid.{IsTree}
 use Rattle.flat_graph.specs.declared.vertex.Vertex.{Vertex}
 use Rattle.flat_graph.specs.Graph.{with_vertex}
 use Rattle.flat_graph.specs.Meaning.{level_source, level_guard}
-use Rattle.inlining_laws.specs.Flat.{Operation, Task, runs, gets, sets}
-use Rattle.inlining_laws.specs.Inlined.{wire, wirings, stages, inlined_by, inlined, inlined_all, operations}
-use Rattle.inlining_laws.specs.Plain.{IsKindPlain, IsPlain, AllPlain}
-use Rattle.factorisation_laws.specs.Unrolled.{unroll}
-use Rattle.factorisation_laws.proofs.Names.{names-unroll}
-use Rattle.factorisation_laws.proofs.Unrepeated.{no-unroll}
-use Rattle.factorisation_laws.proofs.Trees.{tree-unroll}
-use Rattle.conditioning_laws.specs.Guarded.{guard}
-use Rattle.conditioning_laws.proofs.Names.{names-guard}
-use Rattle.conditioning_laws.proofs.Trees.{tree-guard}
+use Rattle.flat_laws.specs.Flat.{Operation, Task, runs, gets, sets}
+use Rattle.flat_laws.specs.Inlined.{wire, wirings, stages, inlined_by, inlined, inlined_all, operations}
+use Rattle.flat_laws.specs.Plain.{IsKindPlain, IsPlain, AllPlain}
+use Rattle.flat_laws.specs.Unrolled.{unroll}
+use Rattle.flat_laws.proofs.UnrolledNames.{names-unroll}
+use Rattle.flat_laws.proofs.Unrepeated.{no-unroll}
+use Rattle.flat_laws.proofs.UnrolledTrees.{tree-unroll}
+use Rattle.flat_laws.specs.Guarded.{guard}
+use Rattle.flat_laws.proofs.GuardedNames.{names-guard}
+use Rattle.flat_laws.proofs.GuardedTrees.{tree-guard}
 use Rattle.flat_laws.specs.FlatOf.{flat_source, flat_guard, flat_kind, twin_of, body_of, vertices_from, bodies_of, graph_of, flat_of}
 use Rattle.flat_laws.specs.Stands.{task_of, IsTwin, AllStand, Stands}
 use Rattle.flat_laws.proofs.Flattened as flattened

@@ -39,7 +39,7 @@ use Rattle.sensor_table.specs.SensorTable.{reactions_of, refused, rows_of}
 use Rattle.elaboration.specs.Laws.{IsElaborated}
 use Rattle.elaboration.proofs.Resolved.{sound}
 use Rattle.elaboration.proofs.Whole.{accepted_elaborated}
-use Rattle.reading_laws.proofs.Lines.{accepted_well}
+use Rattle.algo_laws.proofs.Lines.{accepted_well}
 use Rattle.accepted_laws.specs.Told.{Algorithm, DoesAsTold, AcceptedDoAsTold}
 
 -- what may be marked is no sensor and no actuator

@@ -4,12 +4,12 @@ use Rattle.std.proofs.Common.{◌≡◌, ℕ, ℤ, pos, List, [], ◌∷◌, ◌
 use Rattle.std.specs.Prelude.{codes}
 use Rattle.syn_base.specs.Bytes.{Bytes}
 use Rattle.level_meaning.specs.Level.{Values}
-use Rattle.algo_defs.specs.declared.definition.Defs.{Defs}
+use Rattle.algo_text.specs.declared.definition.Defs.{Defs}
 use Rattle.body_text.specs.Words.{form_of}
 use Rattle.algo_text.specs.Text.{definitions_of}
 use Rattle.algo_rules.specs.Resolved.{resolution_of, tree_of}
 use Rattle.multi_period.specs.declared.mark.Mark.{Mark}
-use Rattle.period_marks.specs.Marking.{marking_of}
+use Rattle.elaboration.specs.Marking.{marking_of}
 use Rattle.accepted_laws.specs.Told.{Algorithm, taken}
 
 abbrev line : List ℕ → List ℕ → List ℕ

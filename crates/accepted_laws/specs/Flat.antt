@@ -7,11 +7,11 @@ use Rattle.algo_tree.specs.Meaning.{act_row}
 use Rattle.flat_graph.specs.Graph.{Graph}
 use Rattle.flat_graph.specs.Valid.{is_flat}
 use Rattle.flat_graph.specs.Meaning.{initial_cells, flat_act_row}
-use Rattle.factorisation_laws.specs.Unrolled.{unroll}
-use Rattle.conditioning_laws.specs.Guarded.{guard}
-use Rattle.inlining_laws.specs.Inlined.{operations}
-use Rattle.operation_paths.specs.Named.{HasNames}
-use Rattle.operation_paths.specs.Bounded.{HasBounds}
+use Rattle.flat_laws.specs.Unrolled.{unroll}
+use Rattle.flat_laws.specs.Guarded.{guard}
+use Rattle.flat_laws.specs.Inlined.{operations}
+use Rattle.algo_tree.specs.Named.{HasNames}
+use Rattle.algo_tree.specs.Bounded.{HasBounds}
 use Rattle.flat_laws.specs.EndLengths.{HasEndLengths}
 use Rattle.flat_laws.specs.Stands.{Stands}
 use Rattle.flat_laws.specs.FlatOf.{flat_of}

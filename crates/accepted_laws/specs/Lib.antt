@@ -1,3 +1,4 @@
+pub mod TextLines
 pub mod Flat
 pub mod Accepted
 pub mod Told

@@ -2,14 +2,14 @@
 use Rattle.std.specs.Prelude.{◌≡◌, ℕ, List, [], map, length, Ok}
 use Rattle.syn_base.specs.Bytes.{Bytes}
 use Rattle.level_meaning.specs.Level.{Values, numbers_below}
-use Rattle.algo_defs.specs.declared.definition.Defs.{Defs}
+use Rattle.algo_text.specs.declared.definition.Defs.{Defs}
 use Rattle.algo_text.specs.Text.{definitions_of}
 use Rattle.algo_rules.specs.Resolved.{resolution_of}
 use Rattle.algo_tree.specs.Tree.{Vertex}
 use Rattle.algo_tree.specs.Meaning.{act_row}
 use Rattle.multi_period.specs.declared.mark.Mark.{Mark}
 use Rattle.multi_period.specs.Meaning.{act_row_at}
-use Rattle.period_marks.specs.Marking.{marking_of}
+use Rattle.elaboration.specs.Marking.{marking_of}
 use Rattle.elaboration.specs.Elaborated.{elaboration_of}
 use Rattle.act_text.specs.Names.{actuator_names}
 use Rattle.act_text.specs.Text.{output_text}

@@ -1,13 +1,22 @@
-//! The laws of accepted texts: the definitions of an algorithm have a flat graph that is valid and means the same, and
-//! the rows of a sensor table have the vectors of the algorithm's sensors.
+//! The laws of accepted texts: the definitions of an algorithm have a flat graph that is valid and means the
+//! same, and the rows of a sensor table have the vectors of the algorithm's sensors.
 //!
-//! Each law is the contract of a function that does nothing. Whoever says what an accepted command makes, over texts
-//! that are only told and not read, stands on them.
+//! In the tree of an algorithm text the lines of a repetition stand, by ascending outer input, in the order of
+//! the text (`lines_stand_in_text_order`), with and without references that run in every nth reaction. So
+//! flattening makes an explode for each fork line, in the order of the lines: `flat_laws` says the operations
+//! of any tree, and this law says what that order is where the tree is one of a text.
+//!
+//! Each law is the contract of a function that does nothing. Whoever says what an accepted command makes, over
+//! texts that are only told and not read, stands on them.
 #![tactic(auto)]
+
+mod lines;
 
 ghost use Rattle.accepted_laws.specs.Accepted.{AcceptedHaveFlat, TablesFit};
 ghost use Rattle.accepted_laws.specs.Flat.{FlatOfStands, FlatTakesTheSame, TreesHaveFlat};
 ghost use Rattle.accepted_laws.specs.Told.{AcceptedDoAsTold};
+
+pub use lines::lines_stand_in_text_order;
 
 /// The flat graph that is defined for a tree stands for the tree's flat list.
 pub fn flat_of_stands()

@@ -6,9 +6,8 @@ ghost use Rattle.act_text.specs.Text.{values_text, actuator_line, reaction_text,
 
 use crate::names::actuators_of;
 use algo_tree::Tree;
-use grown_text::{append, append_count};
 use std::alloc::Global;
-use syn_base::{ActRows, OutOfMemory, print_int};
+use syn_base::{ActRows, OutOfMemory, append, append_count, print_int};
 
 /// The output text of an algorithm whose actuators took these rows: for each reaction in order and each
 /// actuator reference of the main graph in declared order the line `k name v0 v1` and so on.

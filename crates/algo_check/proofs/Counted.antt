@@ -7,19 +7,19 @@ use Rattle.std.proofs.lemmas.List.{get_or_default, length-append}
 use Rattle.std.proofs.lemmas.List.Sums.{sum_by-append, sum_by-cons, sum_by-le}
 use Rattle.std.proofs.lemmas.Nat.{mul-le}
 use Rattle.std.proofs.lemmas.Option.{get_or_from_slice_get, slice_get_past}
-use Rattle.algo_defs.specs.declared.definition.Def.{Def}
-use Rattle.algo_defs.specs.declared.definition.Body.{Body}
-use Rattle.algo_defs.specs.declared.definition.Body.TheVariants.{Sensor, Actuator, Constant, Delay, Function, Graph, Switch, Repeat}
-use Rattle.algo_defs.specs.declared.definition.Frontier.{Frontier}
-use Rattle.algo_defs.specs.declared.definition.Frontier.TheVariants.{Fork, Diffuse, Iterate, Join}
-use Rattle.algo_defs.specs.declared.definition.FrontierLine.{FrontierLine}
+use Rattle.algo_text.specs.declared.definition.Def.{Def}
+use Rattle.algo_text.specs.declared.definition.Body.{Body}
+use Rattle.algo_text.specs.declared.definition.Body.TheVariants.{Sensor, Actuator, Constant, Delay, Function, Graph, Switch, Repeat}
+use Rattle.algo_text.specs.declared.definition.Frontier.{Frontier}
+use Rattle.algo_text.specs.declared.definition.Frontier.TheVariants.{Fork, Diffuse, Iterate, Join}
+use Rattle.algo_text.specs.declared.definition.FrontierLine.{FrontierLine}
 use Rattle.syn_base.specs.Bytes.{Bytes}
 use Rattle.algo_rules.specs.Links.{definition, unknown}
 use Rattle.algo_rules.specs.Resolved.{count_by, count_in, count_within, is_fork, operations}
 use Rattle.algo_rules.specs.WellRead.{IsWellRead}
-use Rattle.algo_links.specs.Linked.{AreLinked, IsLinked, named}
-use Rattle.algo_links.proofs.Found.{found}
-use Rattle.algo_links.proofs.Leading.{all_lead}
+use Rattle.algo_check.specs.Linked.{AreLinked, IsLinked, named}
+use Rattle.algo_check.proofs.Found.{found}
+use Rattle.algo_check.proofs.Leading.{all_lead}
 use Rattle.algo_check.specs.Counts.{AreCounts, count_here, most, next_from, row}
 use Rattle.algo_check.proofs.Inside.{as_many, linked_below, there}
 

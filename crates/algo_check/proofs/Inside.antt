@@ -4,11 +4,11 @@ use Rattle.std.specs.Prelude.{slice_get}
 use Rattle.std.proofs.lemmas.List.{get_or_default}
 use Rattle.std.proofs.lemmas.Bool.{ltb-true}
 use Rattle.std.proofs.lemmas.List.FromFn.{length-range_with_len}
-use Rattle.algo_defs.specs.declared.definition.Def.{Def}
+use Rattle.algo_text.specs.declared.definition.Def.{Def}
 use Rattle.syn_base.specs.Bytes.{Bytes}
 use Rattle.algo_rules.specs.Links.{unknown, links_of}
-use Rattle.algo_links.specs.Linked.{AreLinked, named}
-use Rattle.algo_links.proofs.Leading.{all_lead}
+use Rattle.algo_check.specs.Linked.{AreLinked, named}
+use Rattle.algo_check.proofs.Leading.{all_lead}
 use Rattle.reference_graph.specs.Links.{Links, first_recursive}
 use Rattle.reference_graph.specs.Answer.{AreInside}
 

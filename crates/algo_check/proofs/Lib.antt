@@ -1,3 +1,7 @@
+pub mod Fresh
+pub mod Found
+pub mod Firsts
+pub mod Leading
 pub mod InOrder
 pub mod Inside
 pub mod Small

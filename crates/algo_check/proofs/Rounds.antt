@@ -3,8 +3,8 @@ use Rattle.std.proofs.Common.{◌≡◌, ℕ, ◌+◌, ◌<◌, List, [], ◌∷
 use Rattle.std.specs.Prelude.{slice_index}
 use Rattle.std.specs.List.{sum_by}
 use Rattle.std.proofs.Math.Numerals.{suc-eq-add-one}
-use Rattle.algo_defs.specs.declared.definition.Def.{Def}
-use Rattle.algo_links.proofs.Fresh.{from_here}
+use Rattle.algo_text.specs.declared.definition.Def.{Def}
+use Rattle.algo_check.proofs.Fresh.{from_here}
 use Rattle.algo_check.specs.Counts.{count_here, next_from, row}
 
 pub one_count : (ds rest : List Def) (counts next whole : List ℕ) (k n : ℕ) (d : Def) → k < length rest → d ≡ get_or rest k d

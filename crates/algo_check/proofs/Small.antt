@@ -5,14 +5,14 @@ use Rattle.std.proofs.lemmas.Bool.{eqb-true, ltb-false}
 use Rattle.std.proofs.lemmas.List.{length-append}
 use Rattle.std.proofs.lemmas.List.Elements.{All-append}
 use Rattle.body_lang.specs.declared.expression.Port.{Port}
-use Rattle.algo_defs.specs.declared.definition.Def.{Def}
-use Rattle.algo_defs.specs.declared.definition.Body.{Body}
-use Rattle.algo_defs.specs.declared.definition.Body.TheVariants.{Repeat}
-use Rattle.algo_defs.specs.declared.definition.Frontier.{Frontier}
-use Rattle.algo_defs.specs.declared.definition.Frontier.TheVariants.{Fork, Diffuse, Iterate, Join}
-use Rattle.algo_defs.specs.declared.definition.FrontierLine.{FrontierLine}
-use Rattle.algo_defs.specs.declared.fault.AlgoError.{AlgoError}
-use Rattle.algo_defs.specs.declared.fault.AlgoCause.TheVariants.{BadRepeat}
+use Rattle.algo_text.specs.declared.definition.Def.{Def}
+use Rattle.algo_text.specs.declared.definition.Body.{Body}
+use Rattle.algo_text.specs.declared.definition.Body.TheVariants.{Repeat}
+use Rattle.algo_text.specs.declared.definition.Frontier.{Frontier}
+use Rattle.algo_text.specs.declared.definition.Frontier.TheVariants.{Fork, Diffuse, Iterate, Join}
+use Rattle.algo_text.specs.declared.definition.FrontierLine.{FrontierLine}
+use Rattle.algo_text.specs.declared.fault.AlgoError.{AlgoError}
+use Rattle.algo_text.specs.declared.fault.AlgoCause.TheVariants.{BadRepeat}
 use Rattle.syn_base.specs.Bytes.{Bytes}
 use Rattle.algo_rules.specs.Links.{fault, first_of}
 use Rattle.algo_rules.specs.Frontiers.{too_long, used_by, is_open, frontier_fault, frontier_faults, repeat_fault, unfed}
@@ -20,7 +20,7 @@ use Rattle.algo_rules.specs.Ports.{has_port, len_of, one_port, outer_ins, outer_
 use Rattle.algo_rules.specs.Resolved.{body_fault}
 use Rattle.algo_rules.specs.WellRead.{IsWellRead}
 use Rattle.algo_rules.specs.declared.ports.Ports.{Ports}
-use Rattle.frontier_check.specs.Bounds.{AreShort}
+use Rattle.body_check.specs.Bounds.{AreShort}
 use Rattle.algo_check.specs.Tables.{IsSmall}
 use Rattle.algo_check.proofs.InOrder.{both_none}
 

@@ -1,11 +1,11 @@
 -- Tables of counts of flat operations, in rounds.
 use Rattle.std.specs.Prelude.{◌≡◌, ℕ, zero, suc, ◌+◌, ◌*◌, ◌≤◌, List, [], ◌∷◌, length, slice_index, slice_index_or}
 use Rattle.std.specs.List.{All, sum_by}
-use Rattle.algo_defs.specs.declared.definition.Def.{Def}
-use Rattle.algo_defs.specs.declared.definition.Body.{Body}
-use Rattle.algo_defs.specs.declared.definition.Body.TheVariants.{Delay, Graph, Switch, Repeat}
+use Rattle.algo_text.specs.declared.definition.Def.{Def}
+use Rattle.algo_text.specs.declared.definition.Body.{Body}
+use Rattle.algo_text.specs.declared.definition.Body.TheVariants.{Delay, Graph, Switch, Repeat}
 use Rattle.syn_base.specs.Bytes.{Bytes}
-use Rattle.algo_links.specs.Linked.{IsLinked}
+use Rattle.algo_check.specs.Linked.{IsLinked}
 use Rattle.algo_rules.specs.Links.{links_of}
 use Rattle.algo_rules.specs.Resolved.{count_within, is_fork}
 

@@ -1,6 +1,6 @@
 -- Definitions whose links and depths are known: every name is there, none reaches itself, and no depth is above 8.
 use Rattle.std.specs.Prelude.{◌≡◌, ℕ, List, None}
-use Rattle.algo_defs.specs.declared.definition.Def.{Def}
+use Rattle.algo_text.specs.declared.definition.Def.{Def}
 use Rattle.algo_rules.specs.Links.{links_of, unknown, too_deep}
 use Rattle.reference_graph.specs.Links.{Links, depths, first_recursive}
 

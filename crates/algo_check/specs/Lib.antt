@@ -1,3 +1,5 @@
+pub mod Placing
+pub mod Linked
 pub mod Leveled
 pub mod Tables
 pub mod Counts

@@ -1,17 +1,16 @@
 //! The check of a definition by itself, and its ports once it has passed, for the table of all definitions.
 ghost use Rattle.std.specs.Prelude.{◌≡◌, ◌∷◌, [], IfOk, None};
 ghost use Rattle.std.specs.List.{All};
-ghost use Rattle.algo_links.specs.Linked.{named};
+ghost use Rattle.algo_check.specs.Linked.{named};
 ghost use Rattle.algo_rules.specs.Placed.{ArePlaced, Checks};
 ghost use Rattle.algo_rules.specs.Ports.{no_ports, ports_by, ports_of};
 ghost use Rattle.algo_rules.specs.Resolved.{body_fault};
 ghost use Rattle.algo_rules.specs.WellRead.{IsWellRead};
 ghost use Rattle.algo_check.specs.Tables.{IsSmall};
 
-use algo_defs::{AlgoError, Body, Def};
 use algo_rules::Ports;
-use frontier_check::{SwitchParts, check_repeat, check_switch, ports_of_body};
-use graph_check::{GraphParts, check_graph};
+use algo_text::{AlgoError, Body, Def};
+use body_check::{GraphParts, SwitchParts, check_graph, check_repeat, check_switch, ports_of_body};
 use std::alloc::Global;
 use syn_base::{Items, Name, OutOfMemory};
 

@@ -14,8 +14,8 @@ use crate::counts::check_operations;
 use crate::levels::{Levels, levels_of};
 use crate::main_graph::check_main;
 use crate::tables::ports_of_bodies;
-use algo_defs::{AlgoError, Def, Defs};
 use algo_rules::Ports;
+use algo_text::{AlgoError, Def, Defs};
 use std::alloc::Global;
 
 /// The first refusal of definitions in the order of the checks, or their ports, by place.

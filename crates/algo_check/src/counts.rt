@@ -9,7 +9,7 @@ ghost use Rattle.algo_check.specs.Counts.{AreCounts, count_here, next_from, row}
 ghost use Rattle.algo_check.specs.Leveled.{AreLeveled};
 
 use crate::levels::Levels;
-use algo_defs::{AlgoError, Body, Def, Frontier, FrontierLine};
+use algo_text::{AlgoError, Body, Def, Frontier, FrontierLine};
 use std::alloc::Global;
 use syn_base::{LimitFault, LimitKind, OutOfMemory};
 

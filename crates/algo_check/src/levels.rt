@@ -2,14 +2,14 @@
 ghost use Rattle.std.specs.Prelude.{◌≡◌, ◌<◌, ◌≤◌, ◌∷◌, [], IfOk, None, Some, length, map};
 ghost use Rattle.syn_base.specs.Limits.{most_in_text};
 ghost use Rattle.algo_tree.specs.Well.{AreDistinctNames};
-ghost use Rattle.algo_defs.specs.Returned.{Tells};
+ghost use Rattle.algo_text.specs.Returned.{Tells};
 ghost use Rattle.algo_rules.specs.Links.{first_of, links_of, misplaced, recursive, recursive_by, too_deep, too_deep_by, unknown};
 ghost use Rattle.algo_rules.specs.Placed.{Checks};
 ghost use Rattle.reference_graph.specs.Links.{depths, first_recursive};
 ghost use Rattle.algo_check.specs.Leveled.{AreLeveled};
 
-use algo_defs::{AlgoCause, AlgoError, AlgoFault, Def, Defs};
-use algo_links::links_of;
+use crate::links::links_of;
+use algo_text::{AlgoCause, AlgoError, AlgoFault, Def, Defs};
 use reference_graph::{Depths, depths_of};
 use std::alloc::Global;
 use syn_base::{Items, LimitFault, LimitKind};
@@ -25,7 +25,7 @@ pub struct Levels {
 
 /// The links and depths of definitions.
 ///
-/// Refused with UnknownName or Misplaced comes as `algo_links::links_of` returns it; where there is
+/// Refused with UnknownName or Misplaced comes as `links_of` returns it; where there is
 /// none, Refused with Recursive at the first definition that reaches itself; then Limit with the
 /// first depth above 8. OutOfMemory may come in place of any result.
 pub fn levels_of(alloc: Global, defs: &Defs) -> Result<Levels, AlgoError>

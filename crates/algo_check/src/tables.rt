@@ -12,8 +12,8 @@ ghost use Rattle.algo_check.specs.Tables.{IsFilling, IsTable};
 
 use crate::bodies::{check_body, no_ports, ports_of_checked};
 use crate::levels::Levels;
-use algo_defs::{AlgoError, Def};
 use algo_rules::Ports;
+use algo_text::{AlgoError, Def};
 use std::alloc::Global;
 use syn_base::OutOfMemory;
 

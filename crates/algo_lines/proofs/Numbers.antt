@@ -3,7 +3,7 @@ use Rattle.std.proofs.Common.{◌≡◌, ℕ, ◌≤◌, List, ◌++◌, length,
 use Rattle.std.proofs.lemmas.List.{drop_all}
 use Rattle.algo_text.specs.Blocks.{and_then}
 use Rattle.algo_text.specs.Text.{numbers_of}
-use Rattle.algo_defs.specs.declared.fault.AlgoError.{AlgoError}
+use Rattle.algo_text.specs.declared.fault.AlgoError.{AlgoError}
 
 abbrev pub with_front : List ℤ → Result (List ℤ) AlgoError → Result (List ℤ) AlgoError
 with_front front read = and_then read (λ vs. Ok (front ++ vs))

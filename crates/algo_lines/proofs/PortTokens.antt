@@ -6,7 +6,7 @@ use Rattle.body_text.specs.Ports.{resolved}
 use Rattle.body_text.specs.Reads.{IsUnknown, Reads}
 use Rattle.body_text.specs.declared.fault.BodyFault.{BodyFault}
 use Rattle.body_text.specs.declared.fault.BodyFault.TheVariants.{UnknownPort}
-use Rattle.algo_defs.specs.declared.fault.AlgoCause.TheVariants.{UnknownName}
+use Rattle.algo_text.specs.declared.fault.AlgoCause.TheVariants.{UnknownName}
 use Rattle.algo_text.specs.Blocks.{refused}
 use Rattle.algo_text.specs.Formulas.{name_in, known_by, formula_of}
 use Rattle.algo_text.proofs.Grammars.{written_formula}

@@ -1,9 +1,9 @@
 -- What fails where a part of it fails.
 use Rattle.std.proofs.Common.{◌≡◌, Result, Err, ap, ◌∙◌}
-use Rattle.algo_defs.specs.declared.fault.AlgoError.{AlgoError}
-use Rattle.algo_defs.specs.declared.fault.AlgoError.TheVariants.{Refused, Limit, TooLarge, OutOfMemory}
+use Rattle.algo_text.specs.declared.fault.AlgoError.{AlgoError}
+use Rattle.algo_text.specs.declared.fault.AlgoError.TheVariants.{Refused, Limit, TooLarge, OutOfMemory}
 use Rattle.algo_text.specs.Blocks.{and_then}
-use Rattle.algo_defs.specs.Returned.{Fails}
+use Rattle.algo_text.specs.Returned.{Fails}
 use Rattle.algo_lines.specs.Given.{IsStop}
 
 pub fails_on : {A B : Type 0} (e : AlgoError) (x : Result A AlgoError) (go : A → Result B AlgoError) → Fails e x → Fails e (and_then x go)

@@ -1,9 +1,9 @@
 //! The refusals of a line, which every reader of lines makes.
 ghost use Rattle.std.specs.Prelude.{◌≡◌};
 ghost use Rattle.algo_lines.specs.Given.{IsStop, stop};
-ghost use Rattle.algo_defs.specs.declared.fault.AlgoCause.TheVariants.{NotText, BadLine, BadName, BadNumber, BadExpression, DuplicateName, UnknownName, BadDelay};
+ghost use Rattle.algo_text.specs.declared.fault.AlgoCause.TheVariants.{NotText, BadLine, BadName, BadNumber, BadExpression, DuplicateName, UnknownName, BadDelay};
 
-use algo_defs::{AlgoCause, AlgoError, AlgoFault};
+use algo_text::{AlgoCause, AlgoError, AlgoFault};
 use std::alloc::Global;
 use syn_base::Items;
 

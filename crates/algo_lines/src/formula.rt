@@ -2,11 +2,11 @@
 ghost use Rattle.std.specs.Prelude.{◌≡◌, ◌≤◌, length, map, position, drop};
 ghost use Rattle.syn_base.specs.Limits.{most_in_text};
 ghost use Rattle.algo_text.specs.Formulas.{formula_of};
-ghost use Rattle.algo_defs.specs.Returned.{Gives};
+ghost use Rattle.algo_text.specs.Returned.{Gives};
 ghost use Rattle.algo_lines.specs.Lines.{name_length, name_from, is_other};
 
 use crate::fault::{bad_expression, unknown};
-use algo_defs::{AlgoError, Formula};
+use algo_text::{AlgoError, Formula};
 use body_lang::Port;
 use body_text::{BodyFault, read_body};
 use std::alloc::Global;

@@ -2,9 +2,9 @@
 ghost use Rattle.algo_lines.specs.Given.{AddsNew};
 
 use crate::fault::duplicate;
-use algo_defs::AlgoError;
-use name_table::Names;
+use algo_text::AlgoError;
 use std::alloc::Global;
+use text_lines::Names;
 
 /// Adds the name of a line's definition, or refuses the line where a definition has the name.
 pub fn add_new<'a>(

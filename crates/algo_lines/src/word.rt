@@ -7,7 +7,7 @@ ghost use Rattle.algo_text.specs.Words.{number_of, count_of, period_of, end_of, 
 ghost use Rattle.algo_text.specs.Text.{version_of};
 
 use crate::fault::bad_name;
-use algo_defs::{AlgoError, End};
+use algo_text::{AlgoError, End};
 use std::alloc::Global;
 use syn_base::{Name, read_int};
 use text_lines::read_name;

@@ -1,9 +1,9 @@
 -- The canonical text does not depend on the numbers of lines.
 use Rattle.std.proofs.Common.{◌≡◌, ℕ, List, [], ◌∷◌, ◌++◌, map, refl, ap, ap₂, sym, ◌∙◌, codes}
-use Rattle.algo_defs.specs.declared.definition.Def.{Def}
-use Rattle.algo_defs.specs.declared.definition.Defs.{Defs}
-use Rattle.algo_defs.specs.declared.definition.Body.{Body}
-use Rattle.algo_defs.specs.declared.definition.Body.TheVariants.{Sensor, Actuator, Constant, Delay, Function, Graph, Switch, Repeat}
+use Rattle.algo_text.specs.declared.definition.Def.{Def}
+use Rattle.algo_text.specs.declared.definition.Defs.{Defs}
+use Rattle.algo_text.specs.declared.definition.Body.{Body}
+use Rattle.algo_text.specs.declared.definition.Body.TheVariants.{Sensor, Actuator, Constant, Delay, Function, Graph, Switch, Repeat}
 use Rattle.syn_base.specs.Bytes.{Bytes}
 use Rattle.algo_print.specs.Canonical.{count, port_words, reference_words, edge_words, case_words, frontier_words, end_words, otherwise_lines, body_lines, definition_lines, version_words, text_of, canonical_text}
 use Rattle.algo_print.specs.ReadBack.{bare, bare_body, bare_reference, bare_edge, bare_case, bare_frontier}

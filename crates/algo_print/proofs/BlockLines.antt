@@ -3,15 +3,15 @@ use Rattle.std.proofs.Common.{◌≡◌, ℕ, ◌==◌, not, ◌||◌, true, fal
 use Rattle.std.proofs.lemmas.List.{map-append}
 use Rattle.syn_base.specs.Name.{is_name}
 use Rattle.body_lang.specs.declared.expression.Port.{Port}
-use Rattle.algo_defs.specs.declared.definition.Def.{Def}
-use Rattle.algo_defs.specs.declared.definition.Body.{Body}
-use Rattle.algo_defs.specs.declared.definition.Reference.{Reference}
-use Rattle.algo_defs.specs.declared.definition.Edge.{Edge}
-use Rattle.algo_defs.specs.declared.definition.Case.{Case}
-use Rattle.algo_defs.specs.declared.definition.FrontierLine.{FrontierLine}
-use Rattle.algo_defs.specs.declared.fault.AlgoError.{AlgoError}
+use Rattle.algo_text.specs.declared.definition.Def.{Def}
+use Rattle.algo_text.specs.declared.definition.Body.{Body}
+use Rattle.algo_text.specs.declared.definition.Reference.{Reference}
+use Rattle.algo_text.specs.declared.definition.Edge.{Edge}
+use Rattle.algo_text.specs.declared.definition.Case.{Case}
+use Rattle.algo_text.specs.declared.definition.FrontierLine.{FrontierLine}
+use Rattle.algo_text.specs.declared.fault.AlgoError.{AlgoError}
 use Rattle.syn_base.specs.Bytes.{Bytes}
-use Rattle.algo_defs.specs.Words.{is_among}
+use Rattle.algo_text.specs.Among.{is_among}
 use Rattle.algo_text.specs.Words.{word, count_of}
 use Rattle.algo_text.specs.Blocks.{Block, is_taken, port_line, in_line, with_in, out_line, with_out}
 use Rattle.algo_text.specs.Text.{Stage, between, Reading, in_block, by_stage}

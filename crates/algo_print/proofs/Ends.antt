@@ -3,7 +3,7 @@ use Rattle.std.proofs.Common.{◌≡◌, ℕ, ◌<◌, ◌&&◌, Bool, true, fal
 use Rattle.std.specs.List.{before_first, after_first, position_or_len}
 use Rattle.std.proofs.lemmas.List.Sums.{split_at_first, passes_at_first}
 use Rattle.syn_base.specs.Name.{is_name}
-use Rattle.algo_defs.specs.declared.definition.End.{End}
+use Rattle.algo_text.specs.declared.definition.End.{End}
 use Rattle.syn_base.specs.Bytes.{Bytes}
 use Rattle.algo_text.specs.Words.{is_dot, end_of}
 use Rattle.algo_print.specs.Canonical.{end_word}

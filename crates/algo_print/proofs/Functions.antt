@@ -12,9 +12,9 @@ use Rattle.body_text.specs.Reads.{IsBody}
 use Rattle.body_text.specs.Canonical.{canonical, IsRead}
 use Rattle.body_text.proofs.CanonicalTokens.{without_places}
 use Rattle.body_text.proofs.CanonicalReads.{reads_back}
-use Rattle.algo_defs.specs.declared.definition.Def.{Def}
-use Rattle.algo_defs.specs.declared.definition.Output.{Output}
-use Rattle.algo_defs.specs.declared.definition.Body.TheVariants.{Function}
+use Rattle.algo_text.specs.declared.definition.Def.{Def}
+use Rattle.algo_text.specs.declared.definition.Output.{Output}
+use Rattle.algo_text.specs.declared.definition.Body.TheVariants.{Function}
 use Rattle.syn_base.specs.Bytes.{Bytes}
 use Rattle.algo_text.specs.Words.{word}
 use Rattle.algo_text.specs.Formulas.{formula_of}

@@ -6,7 +6,7 @@ ghost use Rattle.algo_print.specs.Canonical.{text_of, line_of, spaced, port_word
 
 use crate::lines::{print_case, print_edge, print_frontier, print_output, print_reference};
 use crate::words::{print_named, print_sized, put, put_count, put_number, put_word};
-use algo_defs::{Case, Edge, FrontierLine, Output, Reference};
+use algo_text::{Case, Edge, FrontierLine, Output, Reference};
 use body_lang::Port;
 use syn_base::OutOfMemory;
 

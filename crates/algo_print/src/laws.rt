@@ -3,7 +3,7 @@ ghost use Rattle.std.specs.Prelude.{◌≡◌, ◌≤◌, Ok, length, map};
 ghost use Rattle.text_lines.specs.Text.{lines_of};
 ghost use Rattle.syn_base.specs.Bytes.{Bytes};
 ghost use Rattle.algo_text.specs.Text.{definitions_of};
-ghost use Rattle.algo_defs.specs.declared.definition.Defs.{Defs};
+ghost use Rattle.algo_text.specs.declared.definition.Defs.{Defs};
 ghost use Rattle.algo_print.specs.Canonical.{canonical_text, ArePrintable};
 ghost use Rattle.algo_print.specs.ReadBack.{Says, bare};
 

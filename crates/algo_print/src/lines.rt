@@ -4,7 +4,7 @@ ghost use Rattle.body_text.specs.Canonical.{IsRead};
 ghost use Rattle.algo_print.specs.Canonical.{end_word, line_of, spaced, mark_words, output_words, reference_words, edge_words, case_words, words_of_frontier};
 
 use crate::words::{print_pair, put, put_count, put_number, put_word};
-use algo_defs::{Case, Edge, End, Frontier, Output, Reference};
+use algo_text::{Case, Edge, End, Frontier, Output, Reference};
 use body_lang::Port;
 use body_text::print_body;
 use syn_base::OutOfMemory;

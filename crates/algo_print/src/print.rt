@@ -6,7 +6,7 @@ use crate::blocks::{
     SwitchParts, print_delay, print_function, print_graph, print_repeat, print_switch, print_values,
 };
 use crate::words::{print_sized, put, put_count};
-use algo_defs::{Body, Def, Defs};
+use algo_text::{Body, Def, Defs};
 use std::alloc::Global;
 use syn_base::OutOfMemory;
 

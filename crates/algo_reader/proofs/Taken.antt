@@ -4,7 +4,7 @@ use Rattle.std.specs.Str.{bytes_eq}
 use Rattle.std.proofs.lemmas.List.Folds.{list_any-append}
 use Rattle.syn_base.specs.Name.{is_name}
 use Rattle.syn_base.specs.Bytes.{Bytes}
-use Rattle.algo_defs.specs.Words.{is_among}
+use Rattle.algo_text.specs.Among.{is_among}
 
 -- A name is not empty.
 pub not_empty : (w : Bytes) → is_name w ≡ true → bytes_eq w [] ≡ false

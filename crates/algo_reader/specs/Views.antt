@@ -19,10 +19,10 @@ use Rattle.std.specs.Prelude.{
   Err,
 }
 use Rattle.syn_base.specs.Bytes.{Bytes}
-use Rattle.algo_defs.specs.declared.definition.Def.{Def}
-use Rattle.algo_defs.specs.declared.definition.Frontier.{Frontier}
-use Rattle.algo_defs.specs.declared.definition.Body.{Body}
-use Rattle.algo_defs.specs.declared.definition.Body.TheVariants.{
+use Rattle.algo_text.specs.declared.definition.Def.{Def}
+use Rattle.algo_text.specs.declared.definition.Frontier.{Frontier}
+use Rattle.algo_text.specs.declared.definition.Body.{Body}
+use Rattle.algo_text.specs.declared.definition.Body.TheVariants.{
   Sensor,
   Actuator,
   Constant,
@@ -32,8 +32,8 @@ use Rattle.algo_defs.specs.declared.definition.Body.TheVariants.{
   Switch,
   Repeat,
 }
-use Rattle.algo_defs.specs.declared.fault.AlgoError.{AlgoError}
-use Rattle.algo_defs.specs.declared.fault.AlgoCause.TheVariants.{BadLine}
+use Rattle.algo_text.specs.declared.fault.AlgoError.{AlgoError}
+use Rattle.algo_text.specs.declared.fault.AlgoCause.TheVariants.{BadLine}
 use Rattle.algo_text.specs.declared.part.Part.{Part}
 use Rattle.algo_text.specs.declared.part.Part.TheVariants as parts
 use Rattle.algo_text.specs.Parts.{is_whole}

@@ -1,13 +1,12 @@
 //! The block of a function: its lines so far, which the reader gives it one by one.
 ghost use Rattle.std.specs.Prelude.{◌≡◌, ◌≤◌, map, length, drop, position};
-ghost use Rattle.algo_defs.specs.Words.{is_among};
+ghost use Rattle.algo_text.specs.Among.{is_among};
 ghost use Rattle.algo_text.specs.Blocks.{in_line, result_line, result_words, is_equals, is_taken, new_block};
 ghost use Rattle.algo_lines.specs.Given.{Steps};
 ghost use Rattle.algo_reader.specs.Views.{function_view, function_def};
 
-use algo_defs::{AlgoError, Body, Def, Output};
 use algo_lines::{Ports, bad_line, duplicate, read_formula, read_port};
-use algo_text::Part;
+use algo_text::{AlgoError, Body, Def, Output, Part};
 use std::alloc::Global;
 use syn_base::{Items, Name};
 use text_lines::Words;

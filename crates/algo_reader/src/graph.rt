@@ -1,16 +1,15 @@
 //! The block of a graph: its lines so far, which the reader gives it one by one.
 ghost use Rattle.std.specs.Prelude.{◌≡◌, ◌≤◌, map, true, length};
-ghost use Rattle.algo_defs.specs.Words.{is_among};
+ghost use Rattle.algo_text.specs.Among.{is_among};
 ghost use Rattle.algo_text.specs.Blocks.{in_line, out_line, reference_of, with_reference, plain_line, marked_line, reference_line, edge_line, is_taken, new_block};
-ghost use Rattle.algo_defs.specs.Returned.{Gives};
+ghost use Rattle.algo_text.specs.Returned.{Gives};
 ghost use Rattle.algo_lines.specs.Given.{Steps};
 ghost use Rattle.algo_reader.specs.Views.{graph_view, graph_def};
 
-use algo_defs::{AlgoError, Body, Def, Edge, Reference};
 use algo_lines::{
     Ports, bad_line, bad_name, bad_number, duplicate, line_name, read_end, read_period, read_port,
 };
-use algo_text::Part;
+use algo_text::{AlgoError, Body, Def, Edge, Part, Reference};
 use std::alloc::Global;
 use syn_base::{Items, LimitKind, Name};
 use text_lines::{Words, check_limit};

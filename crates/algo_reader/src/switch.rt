@@ -6,9 +6,8 @@ ghost use Rattle.algo_text.specs.Blocks.{in_line, out_line, on_line, case_line, 
 ghost use Rattle.algo_lines.specs.Given.{Steps};
 ghost use Rattle.algo_reader.specs.Views.{switch_view, switch_def, part_of, on_of};
 
-use algo_defs::{AlgoError, Body, Case, Def};
 use algo_lines::{Ports, bad_line, bad_number, duplicate, line_name, read_number, read_port};
-use algo_text::Part;
+use algo_text::{AlgoError, Body, Case, Def, Part};
 use std::alloc::Global;
 use syn_base::{Items, LimitKind, Name};
 use text_lines::{Words, check_limit};

@@ -4,18 +4,18 @@ use Rattle.std.specs.Prelude.{slice_get, slice_index, replicate}
 use Rattle.std.specs.List.{sum_by}
 use Rattle.std.proofs.lemmas.List.Sums.{sum_by-append, sum_by-cons}
 use Rattle.algo_tree.proofs.Capped.{product_capped}
-use Rattle.algo_defs.specs.declared.definition.Def.{Def}
-use Rattle.algo_defs.specs.declared.definition.Body.{Body}
-use Rattle.algo_defs.specs.declared.definition.Body.TheVariants.{Sensor, Actuator, Constant, Delay, Function, Graph, Switch, Repeat}
+use Rattle.algo_text.specs.declared.definition.Def.{Def}
+use Rattle.algo_text.specs.declared.definition.Body.{Body}
+use Rattle.algo_text.specs.declared.definition.Body.TheVariants.{Sensor, Actuator, Constant, Delay, Function, Graph, Switch, Repeat}
 use Rattle.syn_base.specs.Bytes.{Bytes}
 use Rattle.algo_rules.specs.Links.{unknown}
 use Rattle.algo_rules.specs.Resolved.{is_fork}
-use Rattle.algo_links.specs.Linked.{AreLinked, IsLinked, named}
-use Rattle.algo_links.proofs.Leading.{all_lead}
+use Rattle.algo_check.specs.Linked.{AreLinked, IsLinked, named}
+use Rattle.algo_check.proofs.Leading.{all_lead}
 use Rattle.algo_check.proofs.Counted.{sum_mapped}
 use Rattle.algo_check.proofs.Inside.{there}
 use Rattle.algo_check.specs.Counts.{row}
-use Rattle.tree_laws.specs.Sizes.{made_in, made_of, made_within}
+use Rattle.algo_laws.specs.Sizes.{made_in, made_of, made_within}
 use Rattle.algo_resolve.specs.Sizes.{AreSizes, next_from, size_by}
 
 abbrev cap : ℕ

@@ -13,11 +13,11 @@ use Rattle.algo_tree.specs.Tree as tree
 use Rattle.algo_tree.specs.View.{kind_view, view}
 use Rattle.algo_tree.specs.declared.vertex.Vertex.{Vertex}
 use Rattle.algo_tree.specs.declared.vertex.Kind.{Kind}
-use Rattle.algo_defs.specs.declared.definition.Def.{Def}
-use Rattle.algo_defs.specs.declared.definition.Reference.{Reference}
-use Rattle.algo_defs.specs.declared.definition.Edge.{Edge}
+use Rattle.algo_text.specs.declared.definition.Def.{Def}
+use Rattle.algo_text.specs.declared.definition.Reference.{Reference}
+use Rattle.algo_text.specs.declared.definition.Edge.{Edge}
 use Rattle.syn_base.specs.Bytes.{Bytes}
-use Rattle.algo_links.proofs.Fresh.{from_here}
+use Rattle.algo_check.proofs.Fresh.{from_here}
 use Rattle.algo_rules.specs.Links.{definition}
 use Rattle.algo_rules.specs.Placed.{ArePlaced, IsPlaced}
 use Rattle.algo_rules.specs.Ports.{ports_of}

@@ -1,6 +1,6 @@
 -- A graph with the definitions that its references name.
 use Rattle.std.specs.Prelude.{◌≡◌, List, map, Some}
-use Rattle.algo_defs.specs.declared.definition.Def.{Def}
+use Rattle.algo_text.specs.declared.definition.Def.{Def}
 use Rattle.syn_base.specs.Bytes.{Bytes}
 use Rattle.algo_rules.specs.declared.ports.Ports.{Ports}
 use Rattle.algo_rules.specs.Ports.{ports_of}

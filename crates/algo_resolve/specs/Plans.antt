@@ -4,9 +4,9 @@ use Rattle.level_meaning.specs.declared.source.Source.{Source}
 use Rattle.level_meaning.specs.declared.source.Guard.{Guard}
 use Rattle.algo_tree.specs.Tree.{Kind}
 use Rattle.algo_tree.specs.View.{kind_view}
-use Rattle.algo_defs.specs.declared.definition.Def.{Def}
-use Rattle.algo_defs.specs.declared.definition.Body.{Body}
-use Rattle.algo_defs.specs.declared.definition.Body.TheVariants.{Graph, Switch, Repeat}
+use Rattle.algo_text.specs.declared.definition.Def.{Def}
+use Rattle.algo_text.specs.declared.definition.Body.{Body}
+use Rattle.algo_text.specs.declared.definition.Body.TheVariants.{Graph, Switch, Repeat}
 use Rattle.syn_base.specs.Bytes.{Bytes}
 use Rattle.algo_rules.specs.Ports.{lens_of, ports_of}
 use Rattle.algo_rules.specs.Resolved.{kind_by, owns, sources_to, vertex_within}

@@ -1,7 +1,7 @@
 -- Definitions with the places of those that each names, and with their ports.
 use Rattle.std.specs.Prelude.{◌≡◌, List, map, None}
 use Rattle.std.specs.List.{All}
-use Rattle.algo_defs.specs.declared.definition.Def.{Def}
+use Rattle.algo_text.specs.declared.definition.Def.{Def}
 use Rattle.algo_rules.specs.Links.{links_of, unknown}
 use Rattle.algo_rules.specs.Ports.{ports_of}
 use Rattle.algo_rules.specs.WellRead.{IsWellRead}

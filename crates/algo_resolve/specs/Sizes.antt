@@ -1,14 +1,14 @@
 -- Tables of how many vertices definitions are made of, in rounds, counted to the most that a number holds.
 use Rattle.std.specs.Prelude.{◌≡◌, ℕ, suc, ◌+◌, ◌-◌, ◌*◌, ◌^◌, List, [], ◌∷◌, length, min, slice_index}
 use Rattle.std.specs.List.{sum_by}
-use Rattle.algo_defs.specs.declared.definition.Def.{Def}
-use Rattle.algo_defs.specs.declared.definition.Body.{Body}
-use Rattle.algo_defs.specs.declared.definition.Body.TheVariants.{Graph, Switch, Repeat}
+use Rattle.algo_text.specs.declared.definition.Def.{Def}
+use Rattle.algo_text.specs.declared.definition.Body.{Body}
+use Rattle.algo_text.specs.declared.definition.Body.TheVariants.{Graph, Switch, Repeat}
 use Rattle.syn_base.specs.Bytes.{Bytes}
-use Rattle.algo_links.specs.Linked.{IsLinked}
+use Rattle.algo_check.specs.Linked.{IsLinked}
 use Rattle.algo_check.specs.Counts.{row}
 use Rattle.algo_rules.specs.Resolved.{is_fork}
-use Rattle.tree_laws.specs.Sizes.{made_within}
+use Rattle.algo_laws.specs.Sizes.{made_within}
 
 -- A body, by the size of all together that it names.
 abbrev pub size_by : ℕ → Body → ℕ

@@ -1,7 +1,7 @@
 -- Trees within the bound on vertices.
 use Rattle.std.specs.Prelude.{◌≡◌, true, false, Result, Ok, Err, if◌then◌else◌}
-use Rattle.algo_defs.specs.declared.fault.AlgoError.{AlgoError}
-use Rattle.algo_defs.specs.declared.fault.AlgoError.TheVariants as refusal
+use Rattle.algo_text.specs.declared.fault.AlgoError.{AlgoError}
+use Rattle.algo_text.specs.declared.fault.AlgoError.TheVariants as refusal
 use Rattle.algo_tree.specs.Size.{is_large}
 use Rattle.algo_tree.specs.Tree.{Vertex}
 use Rattle.algo_tree.specs.declared.size.SizeError.{SizeError}

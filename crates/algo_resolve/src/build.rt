@@ -1,6 +1,6 @@
 //! The vertices that definitions become, each with what is inside it, built from their plans.
 ghost use Rattle.std.specs.Prelude.{◌≡◌, ◌+◌, ◌<◌, ◌≤◌, ◌∷◌, ◌++◌, [], IfOk, Some, length, map, slice_get};
-ghost use Rattle.algo_links.specs.Linked.{named};
+ghost use Rattle.algo_check.specs.Linked.{named};
 ghost use Rattle.algo_rules.specs.Placed.{ArePlaced, IsPlaced};
 ghost use Rattle.algo_rules.specs.Ports.{lens_of, ports_of};
 ghost use Rattle.body_lang.specs.declared.expression.Port.{Port};
@@ -9,7 +9,7 @@ ghost use Rattle.algo_rules.specs.WellRead.{IsWellRead};
 ghost use Rattle.algo_tree.specs.Tree.{graph as no_graph};
 ghost use Rattle.algo_tree.specs.View.{kind_view, view};
 ghost use Rattle.algo_rules.specs.declared.ports.Ports.{Ports as PortLists};
-ghost use Rattle.algo_defs.specs.declared.definition.Def.{Def as Definition};
+ghost use Rattle.algo_text.specs.declared.definition.Def.{Def as Definition};
 ghost use Rattle.level_meaning.specs.declared.part.Part.TheVariants.{Named, Numbered};
 ghost use Rattle.std.specs.Prelude.{List};
 ghost use Rattle.algo_resolve.specs.Parts.{ArePlanned, IsWired};
@@ -18,12 +18,11 @@ ghost use Rattle.algo_resolve.specs.Plans.{wires_by};
 use crate::builder::{Builder, WiredGraph};
 use crate::lookup::copy_name;
 use crate::plan::Plan;
-use algo_defs::{Body, Case, Def, Reference};
+use algo_text::{Body, Case, Def, Reference};
 use algo_tree::{Kind, Vertex, share_kind};
 use level_meaning::{Guard, Part, Source};
-use shared_items::Shared;
 use std::alloc::Global;
-use syn_base::{Items, Name, OutOfMemory, to_u32};
+use syn_base::{Items, Name, OutOfMemory, Shared, to_u32};
 
 /// Where a vertex stands.
 #[derive(Drop)]

@@ -1,11 +1,10 @@
 //! The checked definitions with a plan for each, from which vertices are built.
 use crate::plan::Plan;
-use algo_defs::{Def, Edge, Reference};
 use algo_rules::Ports;
+use algo_text::{Def, Edge, Reference};
 use body_lang::Port;
 use level_meaning::Source;
-use shared_items::Shared;
-use syn_base::Items;
+use syn_base::{Items, Shared};
 
 /// The definitions of a text that has passed its checks, with what their vertices have in common.
 #[derive(Clone, Copy)]

@@ -1,17 +1,16 @@
 //! The frontier of a repetition as a tree has it: how it feeds its body, and what it gives.
 ghost use Rattle.std.specs.Prelude.{◌≡◌, ℕ, IfOk, List, map, option_to_list};
 ghost use Rattle.std.specs.List.{flat_map};
-ghost use Rattle.algo_defs.specs.declared.definition.Frontier.TheVariants.{Diffuse, Fork, Iterate};
+ghost use Rattle.algo_text.specs.declared.definition.Frontier.TheVariants.{Diffuse, Fork, Iterate};
 ghost use Rattle.algo_rules.specs.Resolved.{feed_by, feed_of, give_by};
 
 use crate::lookup::{copy_name, port_len};
-use algo_defs::{Frontier, FrontierLine};
 use algo_rules::Ports;
-use graph_check::find_port;
+use algo_text::{Frontier, FrontierLine};
+use body_check::find_port;
 use level_meaning::{Feed, Give};
-use shared_items::Shared;
 use std::alloc::Global;
-use syn_base::{Name, OutOfMemory, to_u32};
+use syn_base::{Name, OutOfMemory, Shared, to_u32};
 
 /// How the inputs of the body are fed, in order.
 pub fn feeds(

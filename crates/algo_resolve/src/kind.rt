@@ -1,7 +1,7 @@
 //! The kind of the vertices of a definition, which its plan keeps.
 ghost use Rattle.std.specs.Prelude.{◌≡◌, ◌≤◌, ◌/◌, ◌∷◌, [], IfOk, List, drop, length, map, take};
 ghost use Rattle.std.specs.List.{flat_map};
-ghost use Rattle.algo_links.specs.Linked.{named};
+ghost use Rattle.algo_check.specs.Linked.{named};
 ghost use Rattle.algo_rules.specs.Placed.{ArePlaced};
 ghost use Rattle.algo_rules.specs.Ports.{lens_of, ports_of};
 ghost use Rattle.algo_rules.specs.Resolved.{Making, feed_of, give_by, groups, kind_by};
@@ -14,13 +14,12 @@ use crate::checked::Checked;
 use crate::frontier::{feeds, gives};
 use crate::lookup::copy_name;
 use crate::sources::Graph;
-use algo_defs::{Body, Case, FrontierLine, Output};
 use algo_rules::Ports;
+use algo_text::{Body, Case, FrontierLine, Output};
 use algo_tree::{Kind, copy_numbers};
 use body_lang::{Body as Function, Expr, Port};
-use shared_items::Shared;
 use std::alloc::Global;
-use syn_base::{Items, Name, OutOfMemory};
+use syn_base::{Items, Name, OutOfMemory, Shared};
 
 impl<'a> Checked<'a> {
     /// The kind of the vertices of this definition, which has the ports `own`. The definitions that it

@@ -1,6 +1,6 @@
 //! The plan of a definition: what all its vertices have in common, made once.
 ghost use Rattle.std.specs.Prelude.{◌≡◌, ◌<◌, ◌∷◌, [], IfOk, Some, map, slice_get};
-ghost use Rattle.algo_links.specs.Linked.{named};
+ghost use Rattle.algo_check.specs.Linked.{named};
 ghost use Rattle.algo_rules.specs.Placed.{ArePlaced};
 ghost use Rattle.algo_rules.specs.Resolved.{owns, sources_to};
 ghost use Rattle.algo_resolve.specs.Parts.{AreReady, IsPlacedGraph, of};
@@ -10,13 +10,12 @@ ghost use Rattle.algo_tree.specs.View.{kind_view};
 use crate::checked::Checked;
 use crate::kind::{port_lens, port_names};
 use crate::sources::{Graph, own_inputs};
-use algo_defs::{Body, Def, Reference};
 use algo_rules::Ports;
+use algo_text::{Body, Def, Reference};
 use algo_tree::Kind;
 use level_meaning::{Guard, Source};
-use shared_items::Shared;
 use std::alloc::Global;
-use syn_base::{Items, Name, OutOfMemory};
+use syn_base::{Items, Name, OutOfMemory, Shared};
 
 /// What a vertex of a definition is made from, wherever it stands: all its vertices share these lists.
 #[derive(Drop)]

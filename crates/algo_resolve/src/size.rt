@@ -8,7 +8,7 @@ ghost use Rattle.algo_resolve.specs.Sizes.{AreSizes, next_from, size_by};
 
 use crate::checked::Checked;
 use algo_check::count_forks;
-use algo_defs::{Body, Def};
+use algo_text::{Body, Def};
 use std::alloc::Global;
 use syn_base::OutOfMemory;
 

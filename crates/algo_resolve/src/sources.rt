@@ -7,14 +7,13 @@ ghost use Rattle.algo_resolve.specs.Parts.{IsPlacedGraph, of};
 ghost use Rattle.algo_resolve.specs.Wiring.{into, source_among};
 
 use crate::checked::Checked;
-use algo_defs::{Edge, End, Reference};
 use algo_rules::Ports;
+use algo_text::{Edge, End, Reference};
+use body_check::{find_port, find_reference, is_same_name};
 use body_lang::Port;
-use graph_check::{find_port, find_reference, is_same_name};
 use level_meaning::Source;
-use shared_items::Shared;
 use std::alloc::Global;
-use syn_base::{Name, OutOfMemory, to_u32};
+use syn_base::{Name, OutOfMemory, Shared, to_u32};
 
 /// A graph among the definitions of its text.
 #[derive(Clone, Copy)]

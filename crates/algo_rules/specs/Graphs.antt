@@ -21,14 +21,14 @@ use Rattle.std.specs.Prelude.{
 use Rattle.std.specs.List.{list_any, flat_map, position_or_len}
 use Rattle.std.specs.Str.{bytes_eq}
 use Rattle.body_lang.specs.declared.expression.Port.{Port}
-use Rattle.algo_defs.specs.declared.definition.Def.{Def}
-use Rattle.algo_defs.specs.declared.definition.Body.{Body}
-use Rattle.algo_defs.specs.declared.definition.Body.TheVariants.{Delay}
-use Rattle.algo_defs.specs.declared.definition.Reference.{Reference}
-use Rattle.algo_defs.specs.declared.definition.Edge.{Edge}
-use Rattle.algo_defs.specs.declared.definition.End.{End}
-use Rattle.algo_defs.specs.declared.fault.AlgoError.{AlgoError}
-use Rattle.algo_defs.specs.declared.fault.AlgoCause.TheVariants.{
+use Rattle.algo_text.specs.declared.definition.Def.{Def}
+use Rattle.algo_text.specs.declared.definition.Body.{Body}
+use Rattle.algo_text.specs.declared.definition.Body.TheVariants.{Delay}
+use Rattle.algo_text.specs.declared.definition.Reference.{Reference}
+use Rattle.algo_text.specs.declared.definition.Edge.{Edge}
+use Rattle.algo_text.specs.declared.definition.End.{End}
+use Rattle.algo_text.specs.declared.fault.AlgoError.{AlgoError}
+use Rattle.algo_text.specs.declared.fault.AlgoCause.TheVariants.{
   UnknownName,
   WrongLength,
   TwiceConnected,

@@ -24,13 +24,13 @@ use Rattle.std.specs.List.{flat_map, position_or_len}
 use Rattle.std.specs.Str.{bytes_eq}
 use Rattle.syn_base.specs.declared.limits.LimitKind.TheVariants.{Depth}
 use Rattle.syn_base.specs.Limits.{bound_of}
-use Rattle.algo_defs.specs.declared.definition.Def.{Def}
-use Rattle.algo_defs.specs.declared.definition.Body.{Body}
-use Rattle.algo_defs.specs.declared.definition.Body.TheVariants.{Sensor, Actuator, Function, Graph, Switch, Repeat}
-use Rattle.algo_defs.specs.declared.fault.AlgoError.{AlgoError}
-use Rattle.algo_defs.specs.declared.fault.AlgoError.TheVariants.{Refused, Limit}
-use Rattle.algo_defs.specs.declared.fault.AlgoCause.{AlgoCause}
-use Rattle.algo_defs.specs.declared.fault.AlgoCause.TheVariants.{UnknownName, Misplaced, Recursive}
+use Rattle.algo_text.specs.declared.definition.Def.{Def}
+use Rattle.algo_text.specs.declared.definition.Body.{Body}
+use Rattle.algo_text.specs.declared.definition.Body.TheVariants.{Sensor, Actuator, Function, Graph, Switch, Repeat}
+use Rattle.algo_text.specs.declared.fault.AlgoError.{AlgoError}
+use Rattle.algo_text.specs.declared.fault.AlgoError.TheVariants.{Refused, Limit}
+use Rattle.algo_text.specs.declared.fault.AlgoCause.{AlgoCause}
+use Rattle.algo_text.specs.declared.fault.AlgoCause.TheVariants.{UnknownName, Misplaced, Recursive}
 use Rattle.syn_base.specs.Bytes.{Bytes}
 use Rattle.reference_graph.specs.Links.{Links, first_recursive, depths}
 

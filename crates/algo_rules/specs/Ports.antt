@@ -24,9 +24,9 @@ use Rattle.std.specs.Prelude.{
 use Rattle.std.specs.List.{flat_map, list_any, position_or_len}
 use Rattle.std.specs.Str.{bytes_eq}
 use Rattle.body_lang.specs.declared.expression.Port.{Port}
-use Rattle.algo_defs.specs.declared.definition.Def.{Def}
-use Rattle.algo_defs.specs.declared.definition.Body.{Body}
-use Rattle.algo_defs.specs.declared.definition.Body.TheVariants.{
+use Rattle.algo_text.specs.declared.definition.Def.{Def}
+use Rattle.algo_text.specs.declared.definition.Body.{Body}
+use Rattle.algo_text.specs.declared.definition.Body.TheVariants.{
   Sensor,
   Actuator,
   Constant,
@@ -36,9 +36,9 @@ use Rattle.algo_defs.specs.declared.definition.Body.TheVariants.{
   Switch,
   Repeat,
 }
-use Rattle.algo_defs.specs.declared.definition.Frontier.{Frontier}
-use Rattle.algo_defs.specs.declared.definition.Frontier.TheVariants.{Fork, Diffuse, Iterate, Join}
-use Rattle.algo_defs.specs.declared.definition.FrontierLine.{FrontierLine}
+use Rattle.algo_text.specs.declared.definition.Frontier.{Frontier}
+use Rattle.algo_text.specs.declared.definition.Frontier.TheVariants.{Fork, Diffuse, Iterate, Join}
+use Rattle.algo_text.specs.declared.definition.FrontierLine.{FrontierLine}
 use Rattle.syn_base.specs.Bytes.{Bytes}
 use Rattle.algo_rules.specs.Links.{definition}
 use Rattle.algo_rules.specs.declared.ports.Ports.{Ports}

@@ -13,7 +13,7 @@ use Rattle.body_text.proofs.Fronts.{IsFront, parse_sound}
 use Rattle.body_text.proofs.Complete.{complete_alone}
 use Rattle.body_text.proofs.Failures.{parse_fails}
 use Rattle.body_text.proofs.Judged.{is_written, fails_at, one_place, fails_is_none}
-use Rattle.algo_defs.specs.declared.fault.AlgoCause.TheVariants.{BadExpression}
+use Rattle.algo_text.specs.declared.fault.AlgoCause.TheVariants.{BadExpression}
 use Rattle.syn_base.specs.Bytes.{Bytes}
 use Rattle.algo_text.specs.Blocks.{refused}
 use Rattle.algo_text.specs.Formulas.{known_by, read_by, formula_of}

@@ -9,10 +9,10 @@ use Rattle.body_text.specs.Ports.{unknown, resolved}
 use Rattle.body_text.specs.Parse.{Parse, good, stops, parse, alone}
 use Rattle.body_text.specs.Reads.{AreFew, place_of, IsUnknown}
 use Rattle.body_text.proofs.Judged.{is_written}
-use Rattle.algo_defs.specs.declared.fault.AlgoCause.{AlgoCause}
-use Rattle.algo_defs.specs.declared.fault.AlgoCause.TheVariants.{NotText, BadLine, BadName, BadNumber, BadExpression, DuplicateName, UnknownName, WrongLength, Unconnected, TwiceConnected, Recursive, Cycle, NoMain, BadCase, Misplaced, BadRepeat, BadDelay, BadEvery}
-use Rattle.algo_defs.specs.declared.fault.AlgoError.{AlgoError}
-use Rattle.algo_defs.specs.declared.fault.AlgoError.TheVariants.{Refused, Limit, TooLarge, OutOfMemory}
+use Rattle.algo_text.specs.declared.fault.AlgoCause.{AlgoCause}
+use Rattle.algo_text.specs.declared.fault.AlgoCause.TheVariants.{NotText, BadLine, BadName, BadNumber, BadExpression, DuplicateName, UnknownName, WrongLength, Unconnected, TwiceConnected, Recursive, Cycle, NoMain, BadCase, Misplaced, BadRepeat, BadDelay, BadEvery}
+use Rattle.algo_text.specs.declared.fault.AlgoError.{AlgoError}
+use Rattle.algo_text.specs.declared.fault.AlgoError.TheVariants.{Refused, Limit, TooLarge, OutOfMemory}
 use Rattle.syn_base.specs.Bytes.{Bytes}
 use Rattle.algo_text.specs.Blocks.{refused}
 use Rattle.algo_text.specs.Formulas.{name_in, known_by, read_by, formula_of}

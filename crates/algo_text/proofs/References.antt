@@ -3,9 +3,9 @@ use Rattle.std.proofs.Common.{◌≡◌, ℕ, ◌+◌, ◌==◌, ◌&&◌, ◌||
 use Rattle.std.specs.Str.{bytes_eq}
 use Rattle.syn_base.specs.Name.{is_name}
 use Rattle.syn_base.specs.declared.limits.LimitKind.TheVariants as limits
-use Rattle.algo_defs.specs.declared.definition.Reference.{Reference}
+use Rattle.algo_text.specs.declared.definition.Reference.{Reference}
 use Rattle.syn_base.specs.Bytes.{Bytes}
-use Rattle.algo_defs.specs.Words.{is_among}
+use Rattle.algo_text.specs.Among.{is_among}
 use Rattle.algo_text.specs.declared.part.Part.TheVariants.{References}
 use Rattle.algo_text.specs.Parts.{admits}
 use Rattle.algo_text.specs.Words.{word, period_of}

@@ -6,14 +6,14 @@ use Rattle.syn_base.specs.declared.limits.LimitKind.TheVariants.{PortLength, Cop
 use Rattle.syn_base.specs.declared.limits.LimitKind.TheVariants as limits
 use Rattle.body_lang.specs.Expr.{literal, element, apply}
 use Rattle.body_text.specs.Words.{form_of}
-use Rattle.algo_defs.specs.declared.definition.Def.{Def}
-use Rattle.algo_defs.specs.declared.definition.Reference.{Reference}
-use Rattle.algo_defs.specs.declared.definition.Defs.{Defs}
-use Rattle.algo_defs.specs.declared.definition.Body.TheVariants.{Sensor, Actuator, Constant, Delay, Function, Graph, Switch, Repeat}
-use Rattle.algo_defs.specs.declared.definition.Frontier.TheVariants.{Fork, Diffuse, Iterate, Join}
-use Rattle.algo_defs.specs.declared.fault.AlgoError.{AlgoError}
-use Rattle.algo_defs.specs.declared.fault.AlgoError.TheVariants.{Limit}
-use Rattle.algo_defs.specs.declared.fault.AlgoCause.TheVariants.{NotText, BadLine, BadName, BadNumber, BadExpression, DuplicateName, UnknownName, BadDelay}
+use Rattle.algo_text.specs.declared.definition.Def.{Def}
+use Rattle.algo_text.specs.declared.definition.Reference.{Reference}
+use Rattle.algo_text.specs.declared.definition.Defs.{Defs}
+use Rattle.algo_text.specs.declared.definition.Body.TheVariants.{Sensor, Actuator, Constant, Delay, Function, Graph, Switch, Repeat}
+use Rattle.algo_text.specs.declared.definition.Frontier.TheVariants.{Fork, Diffuse, Iterate, Join}
+use Rattle.algo_text.specs.declared.fault.AlgoError.{AlgoError}
+use Rattle.algo_text.specs.declared.fault.AlgoError.TheVariants.{Limit}
+use Rattle.algo_text.specs.declared.fault.AlgoCause.TheVariants.{NotText, BadLine, BadName, BadNumber, BadExpression, DuplicateName, UnknownName, BadDelay}
 use Rattle.syn_base.specs.Bytes.{Bytes}
 use Rattle.algo_text.specs.Blocks.{refused}
 use Rattle.algo_text.specs.Text.{definitions_of}

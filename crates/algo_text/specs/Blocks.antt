@@ -35,20 +35,20 @@ use Rattle.syn_base.specs.declared.limits.LimitKind.{LimitKind}
 use Rattle.syn_base.specs.declared.limits.LimitKind.TheVariants.{PortLength, Ports, Cases, References}
 use Rattle.body_lang.specs.declared.expression.Port.{Port}
 use Rattle.body_lang.specs.Expr.{Expr}
-use Rattle.algo_defs.specs.declared.definition.Output.{Output}
-use Rattle.algo_defs.specs.declared.definition.Reference.{Reference}
-use Rattle.algo_defs.specs.declared.definition.Edge.{Edge}
-use Rattle.algo_defs.specs.declared.definition.Case.{Case}
-use Rattle.algo_defs.specs.declared.definition.Frontier.{Frontier}
-use Rattle.algo_defs.specs.declared.definition.Frontier.TheVariants.{Fork, Diffuse, Iterate, Join}
-use Rattle.algo_defs.specs.declared.definition.FrontierLine.{FrontierLine}
-use Rattle.algo_defs.specs.declared.fault.AlgoError.{AlgoError}
-use Rattle.algo_defs.specs.declared.fault.AlgoError.TheVariants.{Refused, Limit}
-use Rattle.algo_defs.specs.declared.fault.AlgoCause.{AlgoCause}
-use Rattle.algo_defs.specs.declared.fault.AlgoCause.TheVariants.{BadLine, BadName, BadNumber, DuplicateName}
+use Rattle.algo_text.specs.declared.definition.Output.{Output}
+use Rattle.algo_text.specs.declared.definition.Reference.{Reference}
+use Rattle.algo_text.specs.declared.definition.Edge.{Edge}
+use Rattle.algo_text.specs.declared.definition.Case.{Case}
+use Rattle.algo_text.specs.declared.definition.Frontier.{Frontier}
+use Rattle.algo_text.specs.declared.definition.Frontier.TheVariants.{Fork, Diffuse, Iterate, Join}
+use Rattle.algo_text.specs.declared.definition.FrontierLine.{FrontierLine}
+use Rattle.algo_text.specs.declared.fault.AlgoError.{AlgoError}
+use Rattle.algo_text.specs.declared.fault.AlgoError.TheVariants.{Refused, Limit}
+use Rattle.algo_text.specs.declared.fault.AlgoCause.{AlgoCause}
+use Rattle.algo_text.specs.declared.fault.AlgoCause.TheVariants.{BadLine, BadName, BadNumber, DuplicateName}
 use Rattle.syn_base.specs.Bytes.{Bytes}
-use Rattle.algo_defs.specs.Words.{is_among}
-use Rattle.algo_defs.specs.Outer.{outer_names, all_outer}
+use Rattle.algo_text.specs.Among.{is_among}
+use Rattle.algo_text.specs.Outer.{outer_names, all_outer}
 use Rattle.algo_text.specs.declared.part.Part.{Part}
 use Rattle.algo_text.specs.declared.part.Part.TheVariants as parts
 use Rattle.algo_text.specs.Parts.{admits, is_conditioning}

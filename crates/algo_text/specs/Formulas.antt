@@ -23,9 +23,9 @@ use Rattle.body_text.specs.Tokens.{Token, tokens, name}
 use Rattle.body_text.specs.Ports.{unknown, resolved}
 use Rattle.body_text.specs.Parse.{Parse, good, stops, parse, alone}
 use Rattle.body_text.specs.Reads.{place_of}
-use Rattle.algo_defs.specs.declared.fault.AlgoError.{AlgoError}
-use Rattle.algo_defs.specs.declared.fault.AlgoError.TheVariants.{Refused, Limit}
-use Rattle.algo_defs.specs.declared.fault.AlgoCause.TheVariants.{BadExpression, UnknownName}
+use Rattle.algo_text.specs.declared.fault.AlgoError.{AlgoError}
+use Rattle.algo_text.specs.declared.fault.AlgoError.TheVariants.{Refused, Limit}
+use Rattle.algo_text.specs.declared.fault.AlgoCause.TheVariants.{BadExpression, UnknownName}
 use Rattle.syn_base.specs.Bytes.{Bytes}
 
 -- The name that the token is; the empty text if it is no name, or if there is no token.

@@ -6,8 +6,8 @@ use Rattle.syn_base.specs.Limits.{bound_of}
 use Rattle.body_lang.specs.Expr.{Expr}
 use Rattle.body_text.specs.Tokens.{tokens, name}
 use Rattle.body_text.specs.Reads.{IsBody, IsBad, IsUnknown}
-use Rattle.algo_defs.specs.declared.fault.AlgoCause.{AlgoCause}
-use Rattle.algo_defs.specs.declared.fault.AlgoCause.TheVariants.{
+use Rattle.algo_text.specs.declared.fault.AlgoCause.{AlgoCause}
+use Rattle.algo_text.specs.declared.fault.AlgoCause.TheVariants.{
   NotText,
   BadLine,
   BadName,
@@ -27,8 +27,8 @@ use Rattle.algo_defs.specs.declared.fault.AlgoCause.TheVariants.{
   BadDelay,
   BadEvery,
 }
-use Rattle.algo_defs.specs.declared.fault.AlgoError.{AlgoError}
-use Rattle.algo_defs.specs.declared.fault.AlgoError.TheVariants.{Refused, Limit, TooLarge, OutOfMemory}
+use Rattle.algo_text.specs.declared.fault.AlgoError.{AlgoError}
+use Rattle.algo_text.specs.declared.fault.AlgoError.TheVariants.{Refused, Limit, TooLarge, OutOfMemory}
 use Rattle.syn_base.specs.Bytes.{Bytes}
 
 -- The first port that the text names and that is none of these has this name.

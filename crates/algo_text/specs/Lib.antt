@@ -1,3 +1,6 @@
+pub mod Among
+pub mod Outer
+pub mod Returned
 pub mod Words
 pub mod Parts
 pub mod Formulas

@@ -31,10 +31,10 @@ use Rattle.std.specs.Str.{bytes_eq}
 use Rattle.text_lines.specs.Text.{lines_of, words_of, code_of, foreign_place}
 use Rattle.syn_base.specs.declared.limits.LimitKind.TheVariants.{PortLength, Copies}
 use Rattle.syn_base.specs.declared.limits.LimitKind.TheVariants as limits
-use Rattle.algo_defs.specs.declared.definition.Def.{Def}
-use Rattle.algo_defs.specs.declared.definition.Defs.{Defs}
-use Rattle.algo_defs.specs.declared.definition.Body.{Body}
-use Rattle.algo_defs.specs.declared.definition.Body.TheVariants.{
+use Rattle.algo_text.specs.declared.definition.Def.{Def}
+use Rattle.algo_text.specs.declared.definition.Defs.{Defs}
+use Rattle.algo_text.specs.declared.definition.Body.{Body}
+use Rattle.algo_text.specs.declared.definition.Body.TheVariants.{
   Sensor,
   Actuator,
   Constant,
@@ -44,10 +44,10 @@ use Rattle.algo_defs.specs.declared.definition.Body.TheVariants.{
   Switch,
   Repeat,
 }
-use Rattle.algo_defs.specs.declared.fault.AlgoError.{AlgoError}
-use Rattle.algo_defs.specs.declared.fault.AlgoCause.TheVariants.{NotText, BadLine, BadNumber, DuplicateName, BadDelay}
+use Rattle.algo_text.specs.declared.fault.AlgoError.{AlgoError}
+use Rattle.algo_text.specs.declared.fault.AlgoCause.TheVariants.{NotText, BadLine, BadNumber, DuplicateName, BadDelay}
 use Rattle.syn_base.specs.Bytes.{Bytes}
-use Rattle.algo_defs.specs.Words.{is_among}
+use Rattle.algo_text.specs.Among.{is_among}
 use Rattle.algo_text.specs.Words.{word, number_of, count_of}
 use Rattle.algo_text.specs.declared.part.Part.{Part}
 use Rattle.algo_text.specs.declared.part.Part.TheVariants.{Conditioning, Inputs}

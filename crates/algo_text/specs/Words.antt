@@ -23,7 +23,7 @@ use Rattle.std.specs.List.{before_first, after_first}
 use Rattle.syn_base.specs.Name.{is_name}
 use Rattle.syn_base.specs.Integer.{integer_of}
 use Rattle.syn_base.specs.declared.integer.NumFault.{NumFault}
-use Rattle.algo_defs.specs.declared.definition.End.{End}
+use Rattle.algo_text.specs.declared.definition.End.{End}
 use Rattle.syn_base.specs.Bytes.{Bytes}
 
 -- The word at a place of a line.

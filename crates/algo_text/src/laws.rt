@@ -1,7 +1,7 @@
 //! The law of what the grammar of expressions says of the texts of formulas.
 ghost use Rattle.std.specs.Prelude.{◌≡◌, ◌↔◌, ℕ, List, Result};
 ghost use Rattle.body_lang.specs.Expr.{Expr};
-ghost use Rattle.algo_defs.specs.declared.fault.AlgoError.{AlgoError};
+ghost use Rattle.algo_text.specs.declared.fault.AlgoError.{AlgoError};
 ghost use Rattle.syn_base.specs.Bytes.{Bytes};
 ghost use Rattle.algo_text.specs.Formulas.{formula_of};
 ghost use Rattle.algo_text.specs.Grammatical.{IsFormula};

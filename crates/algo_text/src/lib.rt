@@ -1,13 +1,22 @@
-//! Defines what the bytes of an algorithm text say: its definitions, or its first refusal with its line and cause.
+//! The definitions of an algorithm as types, with the causes for which a text is refused, and what the bytes of
+//! an algorithm text say: its definitions, or its first refusal with its line and cause.
 //!
-//! The definition is `definitions_of` in `specs/`, with a definition for each form of line below it; texts worked by
-//! hand are computed in `proofs/`. `formulas_are_grammatical` ties the expressions in such a text to the grammar of
-//! expressions. The reader and the printer of algorithm texts and the top call stand on it; the checks of definitions
-//! stand on `algo_defs` alone and do not wait for it.
+//! The reader of texts makes the types, the printer writes them, and every check and the resolver read them.
+//! `specs/Returned` says how what a call returned stands to what is defined, in all crates above.
+//!
+//! What a text says is `definitions_of` in `specs/`, with a definition for each form of line below it; texts
+//! worked by hand are computed in `proofs/`. `formulas_are_grammatical` ties the expressions in such a text to
+//! the grammar of expressions.
 #![tactic(auto)]
 
+mod definition;
+mod fault;
+mod formula;
 mod laws;
 mod part;
 
+pub use definition::{Body, Case, Def, Defs, Edge, End, Frontier, FrontierLine, Output, Reference};
+pub use fault::{AlgoCause, AlgoError, AlgoFault};
+pub use formula::Formula;
 pub use laws::formulas_are_grammatical;
 pub use part::Part;

@@ -1,3 +1,9 @@
+pub mod Texts
+pub mod Named
+pub mod Bounded
+pub mod SameMeaning
+pub mod NoRepeat
+pub mod Relabelled
 pub mod Tree
 pub mod View
 pub mod Meaning

@@ -7,9 +7,8 @@ ghost use Rattle.algo_tree.specs.View.{kind_view, label_view, view, vertices_vie
 use crate::label_copies::copy_part;
 use crate::vertex::{Kind, Vertex};
 use level_meaning::{Guard, Part, Source};
-use shared_items::Shared;
 use std::alloc::Global;
-use syn_base::{Items, OutOfMemory};
+use syn_base::{Items, OutOfMemory, Shared};
 
 /// The same kind. It takes no memory.
 pub fn share_kind(kind: &Kind) -> Result<Kind, OutOfMemory>

@@ -1,8 +1,7 @@
 //! Vertices of the resolved algorithm, with what is inside them.
 use body_lang::Body;
 use level_meaning::{Feed, Give, Guard, Part, Source};
-use shared_items::Shared;
-use syn_base::Items;
+use syn_base::{Items, Shared};
 
 /// What a vertex is, which all uses of its definition share. Explode, implode and merge are made by
 /// flattening; all others stand in a resolved algorithm.

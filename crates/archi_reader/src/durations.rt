@@ -7,10 +7,10 @@ ghost use Rattle.archi_reader.specs.Given.{Adds, Has};
 ghost use Rattle.archi_reader.specs.Durations.{is_given, AreGiven};
 
 use archi_defs::{ArchiError, DurationLine};
-use name_table::{Names, TableKey};
 use std::alloc::Global;
 use std::marker::Model;
 use syn_base::{Items, Name};
+use text_lines::{Names, TableKey};
 
 /// The most operators.
 const MOST_OPERATORS: usize = 16;

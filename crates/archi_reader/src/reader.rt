@@ -13,10 +13,9 @@ use crate::stands::{has_stand, with_stand};
 use crate::word::{read_depth, read_up_to, read_version};
 use archi_defs::{ArchiError, ArchiText};
 use archi_graph::Medium;
-use name_table::TableKey;
 use std::alloc::Global;
 use syn_base::{Items, LimitKind, Name};
-use text_lines::{Words, check_limit, read_name};
+use text_lines::{TableKey, Words, check_limit, read_name};
 
 /// The most ticks of a transfer, fixed and for each element.
 const MOST_TRANSFER_TICKS: u32 = 1_000_000;

@@ -5,13 +5,14 @@
 ghost use Rattle.std.specs.Prelude.{◌≤◌, IfOk, length};
 ghost use Rattle.algo_rules.specs.WellRead.{AreWellRead};
 ghost use Rattle.durations.specs.Lines.{AreDurations};
-ghost use Rattle.operation_paths.specs.Bounded.{HasBounds};
-ghost use Rattle.operation_paths.specs.Named.{HasNames};
-ghost use Rattle.period_marks.specs.Stand.{HavePeriods};
+ghost use Rattle.algo_tree.specs.Bounded.{HasBounds};
+ghost use Rattle.algo_tree.specs.Named.{HasNames};
+ghost use Rattle.elaboration.specs.Stand.{HavePeriods};
 ghost use Rattle.syn_base.specs.Limits.{most_in_text};
 
-use algo_defs::{AlgoError, Defs};
+use algo_laws::{accepted_are_few, accepted_are_well_read, accepted_have_periods};
 use algo_reader::read_algo;
+use algo_text::{AlgoError, Defs};
 use algo_tree::Tree;
 use archi_defs::{ArchiError, ArchiText};
 use archi_reader::read_archi;
@@ -19,7 +20,6 @@ use durations::{accepted_are_durations, durations_fit, durations_of};
 use elaboration::elaborate;
 use hierarchy::flatten;
 use pressure_heuristic::adequation;
-use reading_laws::{accepted_are_few, accepted_are_well_read, accepted_have_periods};
 use std::alloc::Global;
 use std::io;
 

@@ -1,3 +1,4 @@
+pub mod Told
 pub mod Bare
 pub mod Counted
 pub mod Drawn

@@ -1,3 +1,5 @@
+pub mod DatesPicture
+pub mod Printed
 pub mod Arrows
 pub mod Bars
 pub mod Frame

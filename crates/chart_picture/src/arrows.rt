@@ -6,10 +6,9 @@ ghost use Rattle.chart_picture.specs.Arrows.{act_link, arrows_text, brings, edge
 
 use crate::sheet::{Sheet, operators_in};
 use flat_graph::{Flat, Guard, Source, Vertex};
-use grown_text::append;
 use schedule::{Decision, Transfer};
 use svg_text::{END_GROUP, Point, append_arrow, begin_group};
-use syn_base::OutOfMemory;
+use syn_base::{OutOfMemory, append};
 
 /// Appends all arrows of a schedule of these decisions.
 pub fn append_arrows(

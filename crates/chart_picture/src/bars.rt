@@ -8,10 +8,9 @@ ghost use Rattle.chart_picture.specs.Bars.{act_class, bar_line, bar_of, class_of
 use crate::sheet::{Sheet, medium_name, operation_name, operator_name};
 use archi_graph::Archi;
 use flat_graph::{Flat, Kind};
-use grown_text::{append, append_count};
 use schedule::{Decision, Transfer};
 use svg_text::{begin_bar, begin_text, end_bar, end_text, fits, middle};
-use syn_base::OutOfMemory;
+use syn_base::{OutOfMemory, append, append_count};
 
 /// Appends the bar of an operation.
 pub fn append_run(out: &mut Vec<u8>, sheet: &Sheet, decision: &Decision) -> Result<(), OutOfMemory>

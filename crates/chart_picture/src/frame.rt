@@ -5,9 +5,8 @@ ghost use Rattle.chart_picture.specs.Frame.{ground_text, height_of_lanes, lane_t
 
 use crate::sheet::{media_in, operators_in};
 use archi_graph::{Archi, Medium};
-use grown_text::{append, append_count};
 use svg_text::{Point, Scale, append_class, begin_aside, begin_group, end_text};
-use syn_base::{Name, OutOfMemory};
+use syn_base::{Name, OutOfMemory, append, append_count};
 
 /// The space for the names, left of the lanes.
 pub fn margin(archi: &Archi) -> u64

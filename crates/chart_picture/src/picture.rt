@@ -10,13 +10,12 @@ use crate::frame::{Lane, begin_lane, height_of_lanes, margin, size_of};
 use crate::sheet::{Sheet, operators_in};
 use archi_graph::{Archi, Medium};
 use flat_graph::Flat;
-use grown_text::append;
 use schedule::{Decision, Schedule, Transfer};
 use std::alloc::Global;
 use svg_text::{
     END, END_GROUP, LEGEND, Point, Scale, append_axis, append_head, begin_group, widened,
 };
-use syn_base::{Name, OutOfMemory};
+use syn_base::{Name, OutOfMemory, append};
 
 /// Appends the chart of a schedule as a picture in SVG: a lane for each operator, and then for each
 /// medium; in it a bar for each operation that runs on it or transfer over it, in order of the

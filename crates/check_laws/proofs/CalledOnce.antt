@@ -7,9 +7,9 @@ use Rattle.flat_graph.specs.declared.vertex.Vertex.{Vertex}
 use Rattle.executive_program.specs.declared.program.Program.{Program}
 use Rattle.executive_program.specs.Instructions.{turn}
 use Rattle.executive_program.specs.Places.{caller_of, ins_in, outs_in}
-use Rattle.value_check.specs.Calls.{called_at, is_before_twin}
+use Rattle.order_check.specs.Calls.{called_at, is_before_twin}
 use Rattle.program_walks.proofs.ListTests.{from_zero, to_zero}
-use Rattle.value_check.proofs.Called.{twins_of, of_twins, only_call, of_only_call, call_alone}
+use Rattle.order_check.proofs.Called.{twins_of, of_twins, only_call, of_only_call, call_alone}
 use Rattle.check_laws.specs.Items.{IsCalledOnce}
 use Rattle.check_laws.specs.Tests.{is_called, are_called}
 

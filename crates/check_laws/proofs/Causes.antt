@@ -8,9 +8,9 @@ use Rattle.archi_graph.specs.declared.medium.Seq.{Seq}
 use Rattle.executive_program.specs.declared.program.Program.{Program}
 use Rattle.executive_program.specs.WellFormed.{IsWellFormed}
 use Rattle.order_check.specs.Checked.{communicators, on_media, counts}
-use Rattle.buffer_check.specs.Opened.{are_opened}
+use Rattle.program_walks.specs.Opened.{are_opened}
 use Rattle.order_check.proofs.Exact.{communicators_of, of_communicators, on_media_of, of_on_media, counts_of, of_counts}
-use Rattle.buffer_check.proofs.Prologues.{opened_of, of_opened}
+use Rattle.program_walks.proofs.Prologues.{opened_of, of_opened}
 use Rattle.check_laws.specs.Items.{AreTransferred, AreGuarded, HasItems}
 use Rattle.check_laws.specs.Run.{Place, run, stuck}
 use Rattle.check_laws.specs.Tests.{Cause, sequences_differ, calls_wrong, transfers_wrong, buffers_wrong, pairs_wrong, prologue_wrong, stuck_at, stopped, are_named, are_called, are_moved, are_transferred, are_written, are_guarded, cause}

@@ -7,8 +7,8 @@ use Rattle.executive_program.specs.declared.program.Program.{Program}
 use Rattle.executive_program.specs.Instructions.{Reader, readers}
 use Rattle.executive_program.specs.Places.{reader, writer_of, written_at}
 use Rattle.executive_program.specs.WellFormed.{operator_of}
-use Rattle.buffer_check.specs.Pairs.{has_operator, is_read_between, is_written_between}
-use Rattle.buffer_check.proofs.Guarded.{written_of, of_written, read_of, of_read, all_numbered, pair_passes, all_of}
+use Rattle.program_walks.specs.Pairs.{has_operator, is_read_between, is_written_between}
+use Rattle.program_walks.proofs.Guarded.{written_of, of_written, read_of, of_read, all_numbered, pair_passes, all_of}
 use Rattle.check_laws.specs.Items.{IsGuarded}
 use Rattle.check_laws.specs.Tests.{guards, are_guarded}
 

@@ -13,7 +13,7 @@ use Rattle.executive_program.specs.declared.program.Program.{Program}
 use Rattle.executive_program.specs.Instructions.{turn, medium, operator, communications}
 use Rattle.executive_program.specs.Places.{writing, transfer, output_at}
 use Rattle.executive_program.specs.WellFormed.{Stands, WritesAt, IsOrder, place_in}
-use Rattle.value_check.specs.Carries.{origin, origin_of, received, sent_on}
+use Rattle.order_check.specs.Carries.{origin, origin_of, received, sent_on}
 use Rattle.sequence_build_laws.proofs.Lists.{tally, tally_yes, tally_not}
 use Rattle.sequence_build_laws.proofs.Sequences.{range_there}
 use Rattle.check_laws.specs.Items.{is_made, made_from}

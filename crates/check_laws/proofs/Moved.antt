@@ -5,9 +5,9 @@ use Rattle.std.proofs.lemmas.Bool.{and_parts}
 use Rattle.executive_program.specs.declared.program.Program.{Program}
 use Rattle.executive_program.specs.MicroSteps.{transfers}
 use Rattle.program_walks.specs.Walks.{all_at, all_below}
-use Rattle.value_check.specs.Transfers.{is_received, is_sent, receiver_of, sender_of}
+use Rattle.order_check.specs.Transfers.{is_received, is_sent, receiver_of, sender_of}
 use Rattle.program_walks.proofs.ListTests.{below_of, of_below}
-use Rattle.value_check.proofs.Transferred.{sends_of, of_sends, receives_of, of_receives, others_of, of_others}
+use Rattle.order_check.proofs.Transferred.{sends_of, of_sends, receives_of, of_receives, others_of, of_others}
 use Rattle.check_laws.specs.Items.{IsTransferred}
 use Rattle.check_laws.specs.Tests.{waits_between, is_moved, are_moved}
 

@@ -16,18 +16,18 @@ use Rattle.executive_program.specs.MicroSteps.{transfers}
 use Rattle.executive_program.specs.Places.{calls, caller_of, ins_in, outs_in}
 use Rattle.program_walks.specs.Walks.{all_at, all_below}
 use Rattle.order_check.specs.Checked.{are_below}
-use Rattle.buffer_check.specs.Buffers.{are_buffers}
-use Rattle.value_check.specs.Calls.{called_at, is_before_twin, takes, gives, are_called as all_called, is_called as all_called_at}
-use Rattle.value_check.specs.Carries.{are_kept}
+use Rattle.program_walks.specs.Buffers.{are_buffers}
+use Rattle.order_check.specs.Calls.{called_at, is_before_twin, takes, gives, are_called as all_called, is_called as all_called_at}
+use Rattle.order_check.specs.Carries.{are_kept}
 use Rattle.program_walks.specs.Acts.{is_only}
 use Rattle.order_check.specs.Sequenced.{are_sequences}
-use Rattle.value_check.specs.Transfers.{buffer_at, receiver_of, sender_of}
-use Rattle.value_check.proofs.Called.{calls_of, of_calls}
+use Rattle.order_check.specs.Transfers.{buffer_at, receiver_of, sender_of}
+use Rattle.order_check.proofs.Called.{calls_of, of_calls}
 use Rattle.order_check.proofs.Exact.{below_each, each_below}
-use Rattle.value_check.proofs.Kept.{kept_of, of_kept}
+use Rattle.order_check.proofs.Kept.{kept_of, of_kept}
 use Rattle.program_walks.proofs.ListTests.{all_here, all_there as each_there, stands_of, of_stands, from_zero, to_zero, below_of, of_below}
 use Rattle.order_check.proofs.Listed.{sequences_of_test, test_of_sequences}
-use Rattle.buffer_check.proofs.Written.{buffers_of, of_buffers}
+use Rattle.program_walks.proofs.Written.{buffers_of, of_buffers}
 use Rattle.std.specs.Prelude.{is_none}
 use Rattle.check_laws.specs.Items.{NamesThere, AreNamed, IsCalledOnce, AreWritten, is_made}
 use Rattle.check_laws.specs.Tests.{all_there, are_named, are_called, is_called, fits, has_same_len, are_written}

@@ -43,9 +43,9 @@ use Rattle.executive_program.specs.Instructions.{
 }
 use Rattle.executive_program.specs.MicroSteps.{transfers}
 use Rattle.executive_program.specs.Places.{writing, pair, transfer, calling, opening_of, carried, places}
-use Rattle.value_check.specs.declared.carrying.Origin.{Origin}
-use Rattle.value_check.specs.declared.carrying.Origin.TheVariants.{Made, Received, Nowhere}
-use Rattle.value_check.specs.Carries.{origin}
+use Rattle.order_check.specs.declared.carrying.Origin.{Origin}
+use Rattle.order_check.specs.declared.carrying.Origin.TheVariants.{Made, Received, Nowhere}
+use Rattle.order_check.specs.Carries.{origin}
 use Rattle.executive_program.specs.WellFormed.{
   Stands,
   IsOnly,

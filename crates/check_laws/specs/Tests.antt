@@ -30,14 +30,14 @@ use Rattle.executive_program.specs.Places.{calls, caller_of, ins_in, outs_in, co
 use Rattle.executive_program.specs.WellFormed.{operator_of}
 use Rattle.program_walks.specs.Walks.{all_at, all_below, implies}
 use Rattle.order_check.specs.Checked.{names_in, communicators, on_media, counts}
-use Rattle.buffer_check.specs.Buffers.{are_buffers}
-use Rattle.value_check.specs.Calls.{called_at, is_before_twin, takes, gives}
-use Rattle.value_check.specs.Carries.{are_kept}
-use Rattle.buffer_check.specs.Opened.{are_opened}
+use Rattle.program_walks.specs.Buffers.{are_buffers}
+use Rattle.order_check.specs.Calls.{called_at, is_before_twin, takes, gives}
+use Rattle.order_check.specs.Carries.{are_kept}
+use Rattle.program_walks.specs.Opened.{are_opened}
 use Rattle.program_walks.specs.Acts.{is_only}
-use Rattle.buffer_check.specs.Pairs.{has_operator, is_written_between, is_read_between}
+use Rattle.program_walks.specs.Pairs.{has_operator, is_written_between, is_read_between}
 use Rattle.order_check.specs.Sequenced.{are_sequences}
-use Rattle.value_check.specs.Transfers.{is_other, is_wait, is_sent, is_received, sender_of, receiver_of, buffer_at}
+use Rattle.order_check.specs.Transfers.{is_other, is_wait, is_sent, is_received, sender_of, receiver_of, buffer_at}
 use Rattle.check_laws.specs.Items.{is_made}
 use Rattle.check_laws.specs.Run.{Place, stuck}
 

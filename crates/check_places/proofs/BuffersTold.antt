@@ -20,8 +20,8 @@ use Rattle.program_tables.proofs.Buffered.{near_is, once_is, reads_in_is}
 use Rattle.program_tables.proofs.Found.{at_is, no_sequence, output_is, port_is, sequence_is}
 use Rattle.program_tables.proofs.Lone.{names_are}
 use Rattle.program_tables.proofs.Naming.{IsFirst, first_is, port_in}
-use Rattle.buffer_check.specs.Buffers.{has_places, is_buffer, is_near, is_written_first, is_written_once, writes_at}
-use Rattle.buffer_check.proofs.Written.{of_buffer}
+use Rattle.program_walks.specs.Buffers.{has_places, is_buffer, is_near, is_written_first, is_written_once, writes_at}
+use Rattle.program_walks.proofs.Written.{of_buffer}
 use Rattle.check_laws.specs.Items.{IsWrittenOnce}
 use Rattle.check_places.specs.declared.place.Rule.TheVariants.{ReadTooEarly, TouchedElsewhere}
 use Rattle.check_places.specs.declared.place.Subject.TheVariants.{Buffer}

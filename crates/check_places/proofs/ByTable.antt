@@ -6,8 +6,8 @@ use Rattle.executive_program.specs.Places.{carried, written_at, writer_of}
 use Rattle.executive_program.specs.MicroSteps.{first_of}
 use Rattle.program_tables.specs.declared.crossings.Crossing.{Crossing}
 use Rattle.program_tables.specs.Crossings.{crossing}
-use Rattle.value_check.specs.declared.carrying.Origin.{Origin}
-use Rattle.value_check.specs.Carries.{is_kept, same_source}
+use Rattle.order_check.specs.declared.carrying.Origin.{Origin}
+use Rattle.order_check.specs.Carries.{is_kept, same_source}
 use Rattle.check_laws.specs.Items.{is_made}
 use Rattle.check_laws.specs.Tests.{has_same_len}
 use Rattle.macro_check.specs.Carrying.{carries_alike, follow, follow_all, is_as_long, is_call, origin_or}

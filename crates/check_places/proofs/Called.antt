@@ -12,7 +12,7 @@ use Rattle.program_tables.specs.declared.roles.Role.TheVariants.{Called}
 use Rattle.program_tables.specs.Marks.{lone, marks_of}
 use Rattle.program_tables.proofs.Found.{at_is, sequence_is}
 use Rattle.program_tables.proofs.Lone.{lone_is}
-use Rattle.value_check.specs.Calls.{called_at, is_before_twin}
+use Rattle.order_check.specs.Calls.{called_at, is_before_twin}
 use Rattle.check_laws.specs.Tests.{is_called}
 use Rattle.check_places.specs.Calls.{call_place, call_place_by, is_same}
 use Rattle.check_places.proofs.Places.{all_pass, holds_of, no_mark, none_parts}

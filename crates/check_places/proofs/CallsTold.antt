@@ -15,7 +15,7 @@ use Rattle.program_tables.specs.declared.roles.Role.TheVariants.{Called}
 use Rattle.program_tables.specs.Marks.{lone, marks_of}
 use Rattle.program_tables.proofs.Found.{at_is, sequence_is}
 use Rattle.program_tables.proofs.Lone.{lone_is}
-use Rattle.value_check.specs.Calls.{called_at, is_before_twin}
+use Rattle.order_check.specs.Calls.{called_at, is_before_twin}
 use Rattle.check_laws.specs.Items.{IsCalledOnce}
 use Rattle.check_laws.specs.Tests.{calls_wrong, is_called}
 use Rattle.check_laws.proofs.CalledOnce.{called_of, of_once}

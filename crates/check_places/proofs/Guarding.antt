@@ -8,7 +8,7 @@ use Rattle.executive_program.specs.declared.program.Program.{Program}
 use Rattle.executive_program.specs.Instructions.{Reader}
 use Rattle.executive_program.specs.Places.{writer_of, written_at}
 use Rattle.executive_program.specs.WellFormed.{operator_of}
-use Rattle.buffer_check.specs.Pairs.{has_operator}
+use Rattle.program_walks.specs.Pairs.{has_operator}
 use Rattle.program_walks.specs.Walks.{implies}
 use Rattle.program_tables.specs.declared.mark_table.Mark.{Mark}
 use Rattle.program_tables.specs.declared.roles.Role.TheVariants.{Read, EmptyTaken, FullSignalled, FullTaken, EmptySignalled}

@@ -18,8 +18,8 @@ use Rattle.program_tables.specs.declared.mark_table.Mark.{Mark}
 use Rattle.program_tables.specs.declared.roles.Role.TheVariants.{Read, EmptyTaken, FullSignalled, FullTaken, EmptySignalled}
 use Rattle.program_tables.specs.Marks.{first_at, lone, marks_of}
 use Rattle.program_tables.proofs.Paired.{read_is, written_is}
-use Rattle.buffer_check.specs.Pairs.{has_operator, is_read_between, is_written_between}
-use Rattle.buffer_check.proofs.Guarded.{of_read, of_written}
+use Rattle.program_walks.specs.Pairs.{has_operator, is_read_between, is_written_between}
+use Rattle.program_walks.proofs.Guarded.{of_read, of_written}
 use Rattle.check_laws.specs.Items.{AreGuarded}
 use Rattle.check_laws.specs.Tests.{guards, pairs_wrong}
 use Rattle.check_laws.proofs.Causes.{guarded_of}

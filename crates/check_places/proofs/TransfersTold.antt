@@ -18,7 +18,7 @@ use Rattle.program_walks.proofs.ListTests.{all_there as each_there, from_zero, n
 use Rattle.program_tables.specs.declared.crossings.Crossing.{Crossing}
 use Rattle.program_tables.specs.Crossings.{crossing}
 use Rattle.order_check.specs.Checked.{is_at_medium, is_counted, is_medium}
-use Rattle.value_check.specs.Transfers.{is_received, is_receive_from, is_send_to, is_sent, receiver_of, sender_of}
+use Rattle.order_check.specs.Transfers.{is_received, is_receive_from, is_send_to, is_sent, receiver_of, sender_of}
 use Rattle.check_laws.specs.Items.{AreTransferred, IsTransferred}
 use Rattle.check_laws.specs.Tests.{are_transferred, is_moved, transfers_wrong, waits_between}
 use Rattle.check_laws.proofs.Causes.{moved_of as transferred_of}

@@ -18,11 +18,11 @@ use Rattle.program_tables.specs.declared.mark_table.Mark.{Mark}
 use Rattle.program_tables.specs.declared.roles.Role.TheVariants.{Read, Written}
 use Rattle.program_tables.specs.Crossings.{crossing}
 use Rattle.program_tables.specs.Marks.{marks_of}
-use Rattle.buffer_check.specs.Buffers.{is_buffer}
-use Rattle.value_check.specs.Calls.{called_at, carries, carry_guards, carry_inputs, gives, gives_at, takes}
-use Rattle.value_check.specs.Carries.{is_kept}
-use Rattle.value_check.proofs.Called.{of_gives, of_takes}
-use Rattle.value_check.proofs.Kept.{is_same_source}
+use Rattle.program_walks.specs.Buffers.{is_buffer}
+use Rattle.order_check.specs.Calls.{called_at, carries, carry_guards, carry_inputs, gives, gives_at, takes}
+use Rattle.order_check.specs.Carries.{is_kept}
+use Rattle.order_check.proofs.Called.{of_gives, of_takes}
+use Rattle.order_check.proofs.Kept.{is_same_source}
 use Rattle.check_laws.specs.Items.{AreWritten, IsCalledOnce, is_made}
 use Rattle.check_laws.specs.Tests.{buffers_wrong, fits, has_same_len}
 use Rattle.check_laws.proofs.CalledOnce.{of_called}

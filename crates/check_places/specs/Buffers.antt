@@ -27,9 +27,9 @@ use Rattle.program_tables.specs.declared.roles.Role.TheVariants.{Read, Written}
 use Rattle.program_tables.specs.Crossings.{crossing}
 use Rattle.program_tables.specs.Marks.{marks_of}
 use Rattle.program_walks.specs.Walks.{implies}
-use Rattle.buffer_check.specs.Buffers.{has_places, is_operator}
-use Rattle.value_check.specs.Calls.{called_at, carries, gives_at}
-use Rattle.value_check.specs.Carries.{is_kept}
+use Rattle.program_walks.specs.Buffers.{has_places, is_operator}
+use Rattle.order_check.specs.Calls.{called_at, carries, gives_at}
+use Rattle.order_check.specs.Carries.{is_kept}
 use Rattle.check_laws.specs.Items.{is_made}
 use Rattle.check_laws.specs.Tests.{has_same_len}
 use Rattle.check_places.specs.declared.place.Place.{Place}

@@ -7,7 +7,7 @@ use Rattle.executive_program.specs.MicroSteps.{first_of}
 use Rattle.program_tables.specs.declared.mark_table.Mark.{Mark}
 use Rattle.program_tables.specs.declared.roles.Role.TheVariants.{Called}
 use Rattle.program_tables.specs.Marks.{marks_of}
-use Rattle.value_check.specs.Calls.{is_before_twin}
+use Rattle.order_check.specs.Calls.{is_before_twin}
 use Rattle.check_places.specs.declared.place.Place.{Place}
 use Rattle.check_places.specs.declared.place.Rule.TheVariants.{NotCalled, CalledAgain, CalledInThread, GetNotBeforeSet}
 use Rattle.check_places.specs.declared.place.Subject.TheVariants.{Operation}

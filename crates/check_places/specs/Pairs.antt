@@ -36,7 +36,7 @@ use Rattle.program_tables.specs.declared.roles.Role.TheVariants.{
 }
 use Rattle.program_tables.specs.Marks.{first_at, lone, marks_of}
 use Rattle.program_walks.specs.Walks.{implies}
-use Rattle.buffer_check.specs.Pairs.{has_operator}
+use Rattle.program_walks.specs.Pairs.{has_operator}
 use Rattle.check_places.specs.declared.place.Part.TheVariants.{Prologue}
 use Rattle.check_places.specs.declared.place.Place.{Place}
 use Rattle.check_places.specs.declared.place.Spot.{Spot}

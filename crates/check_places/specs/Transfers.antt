@@ -8,7 +8,7 @@ use Rattle.executive_program.specs.Places.{communication_at}
 use Rattle.program_tables.specs.declared.crossings.Crossing.{Crossing}
 use Rattle.program_tables.specs.Crossings.{crossing}
 use Rattle.order_check.specs.Checked.{is_at_medium, is_counted, is_medium}
-use Rattle.value_check.specs.Transfers.{is_receive_from, is_send_to}
+use Rattle.order_check.specs.Transfers.{is_receive_from, is_send_to}
 use Rattle.check_laws.specs.Tests.{waits_between}
 use Rattle.check_places.specs.declared.place.Place.{Place}
 use Rattle.check_places.specs.declared.place.Rule.TheVariants.{

@@ -1,7 +1,7 @@
 //! Where single buffers are wrong: their writes, reads and places.
 ghost use Rattle.std.specs.Prelude.{◌≡◌, ℕ, ◌<◌, [], ◌∷◌, length, nat_eq, slice_get};
 ghost use Rattle.std.specs.List.{list_all, list_any};
-ghost use Rattle.buffer_check.specs.Buffers.{has_places, is_operator};
+ghost use Rattle.program_walks.specs.Buffers.{has_places, is_operator};
 ghost use Rattle.executive_program.specs.Instructions.{is_guarded};
 ghost use Rattle.program_tables.specs.MarkRows.{row};
 ghost use Rattle.program_tables.specs.declared.roles.Role.TheVariants.{Read, Written};

@@ -4,7 +4,7 @@ ghost use Rattle.executive_program.specs.Places.{caller_of};
 ghost use Rattle.program_tables.specs.MarkRows.{row};
 ghost use Rattle.program_tables.specs.declared.roles.Role.TheVariants.{Called};
 ghost use Rattle.program_tables.specs.Marks.{marks_of};
-ghost use Rattle.value_check.specs.Calls.{called_at, is_before_twin};
+ghost use Rattle.order_check.specs.Calls.{called_at, is_before_twin};
 ghost use Rattle.executive_program.specs.Instructions.{medium};
 ghost use Rattle.check_places.specs.declared.place.Rule.TheVariants.{CalledAgain, CalledInThread, GetNotBeforeSet};
 ghost use Rattle.check_places.specs.declared.place.Subject.TheVariants.{Operation};

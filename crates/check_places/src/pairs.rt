@@ -1,7 +1,7 @@
 //! Where pairs of semaphores are wrong.
 ghost use Rattle.std.specs.Prelude.{◌≡◌, ◌<◌, ◌&&◌, nat_eq, nat_lt, not, length, slice_get, None};
 ghost use Rattle.std.specs.List.{list_all};
-ghost use Rattle.buffer_check.specs.Pairs.{has_operator};
+ghost use Rattle.program_walks.specs.Pairs.{has_operator};
 ghost use Rattle.executive_program.specs.WellFormed.{operator_of};
 ghost use Rattle.executive_program.specs.Places.{written_at, writer_of};
 ghost use Rattle.program_tables.specs.declared.roles.Role.TheVariants.{Read};

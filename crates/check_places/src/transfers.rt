@@ -4,19 +4,19 @@ ghost use Rattle.executive_program.specs.Instructions.{operator, turn};
 ghost use Rattle.order_check.specs.Checked.{is_at_medium, is_counted, is_medium};
 ghost use Rattle.program_tables.specs.Crossings.{crossing, crossings, crossings_on};
 ghost use Rattle.check_laws.specs.Tests.{waits_between};
-ghost use Rattle.value_check.specs.Transfers.{is_other, is_receive_from, is_send_to};
+ghost use Rattle.order_check.specs.Transfers.{is_other, is_receive_from, is_send_to};
 ghost use Rattle.check_places.specs.First.{first_from};
 ghost use Rattle.check_places.specs.Transfers.{awaited_place, count_place, first_on, first_over, medium_place, moved_place, moved_place_by, outside_place, transfers_place};
 
 use crate::first::{broken, first_of, in_loop, unless};
 use crate::place::{Place, Rule, Subject};
 use executive_program::{Instr, Program, SeqCode};
+use order_check::{is_receive_from, is_send_to, is_wait};
 use program_tables::Crossing;
 use program_walks::{
     communication_at, count_communications, is_on, operator_of, transfers, turn_of,
 };
 use syn_base::Items;
-use value_check::{is_receive_from, is_send_to, is_wait};
 
 /// Whether a sequence with these instructions is a communicator, or has no communication.
 fn is_at_medium(medium: Option<u32>, list: &[Instr]) -> bool

@@ -6,7 +6,7 @@ ghost use Rattle.program_tables.specs.MarkRows.{row};
 ghost use Rattle.program_tables.specs.declared.roles.Role.TheVariants.{Called, Written};
 ghost use Rattle.program_tables.specs.Crossings.{crossing, crossings, crossings_on};
 ghost use Rattle.program_tables.specs.Marks.{marks_of};
-ghost use Rattle.value_check.specs.Calls.{called_at};
+ghost use Rattle.order_check.specs.Calls.{called_at};
 ghost use Rattle.macro_check.specs.Carrying.{AreLow, follow_all};
 ghost use Rattle.macro_check.specs.Tabled.{AreTables};
 ghost use Rattle.check_places.specs.First.{first_below, first_from, in_loop};
@@ -18,10 +18,10 @@ use crate::place::{Place, Rule, Spot, Subject};
 use executive_program::Program;
 use flat_graph::{Guard, Source, Vertex};
 use macro_check::{Tables, carries, carries_alike, gives_at, is_as_long, is_call, origin_in};
+use order_check::{Origin, ins_of, outs_of};
 use program_tables::{Crossing, Mark, call_of, write_of};
 use program_walks::{Stand, turn_of};
 use syn_base::Items;
-use value_check::{Origin, ins_of, outs_of};
 
 /// A program with the sources that its buffers carry and the operations that it calls.
 #[derive(Clone, Copy)]

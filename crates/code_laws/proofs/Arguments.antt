@@ -11,7 +11,7 @@ use Rattle.syn_base.specs.Integer.{number_after}
 use Rattle.syn_base.proofs.Decimal as integers
 use Rattle.flat_graph.specs.Valid.{is_path, is_path_byte}
 use Rattle.syn_base.specs.Bytes.{Bytes}
-use Rattle.code_text.specs.Forms.{has_bytes, natural, number_in, buffer_in, each_in, with_first}
+use Rattle.macro_code.specs.Forms.{has_bytes, natural, number_in, buffer_in, each_in, with_first}
 use Rattle.macro_code.specs.Text.{buffer_name}
 use Rattle.code_laws.proofs.Forms.{is_word_byte, is_argument, all_of}
 

@@ -12,14 +12,14 @@ use Rattle.archi_graph.specs.Archi.{Architecture, ascends_from}
 use Rattle.executive_program.specs.declared.program.Buffer.{Buffer}
 use Rattle.macro_code.specs.declared.macros.Macro.TheVariants as macros
 use Rattle.macro_code.specs.Text.{line, pairs_on, buffer_name, places_of, alloc_line, alloc_lines, operator_name}
-use Rattle.code_text.specs.declared.fault.CodeError.{CodeError}
-use Rattle.code_text.specs.declared.fault.CodeCause.TheVariants.{BadArgument}
-use Rattle.code_text.specs.declared.numbered.Numbered.{Numbered}
-use Rattle.code_text.specs.declared.numbered.Size.{Size}
-use Rattle.code_text.specs.declared.stage.Stage.TheVariants.{Outside, Named, Declared}
+use Rattle.macro_code.specs.declared.fault.CodeError.{CodeError}
+use Rattle.macro_code.specs.declared.fault.CodeCause.TheVariants.{BadArgument}
+use Rattle.macro_code.specs.declared.numbered.Numbered.{Numbered}
+use Rattle.macro_code.specs.declared.numbered.Size.{Size}
+use Rattle.macro_code.specs.declared.stage.Stage.TheVariants.{Outside, Named, Declared}
 use Rattle.syn_base.specs.Bytes.{Bytes}
-use Rattle.code_text.specs.Forms.{Declaration, declaration_in, declared_by, buffer_in, number_in, at_least, from_to}
-use Rattle.code_text.specs.Text.{Reading, and_then, argument, known, refused, name_of, place_in, follows, last_of, numbered, with_pairs, with_buffer, at_processor, ascending, operation_names}
+use Rattle.macro_code.specs.Forms.{Declaration, declaration_in, declared_by, buffer_in, number_in, at_least, from_to}
+use Rattle.macro_code.specs.ReadText.{Reading, and_then, argument, known, refused, name_of, place_in, follows, last_of, numbered, with_pairs, with_buffer, at_processor, ascending, operation_names}
 use Rattle.code_laws.proofs.Arguments.{is_small, number_back, number_argument, buffer_back, buffer_argument, each_back, each_argument, name_argument}
 use Rattle.code_laws.proofs.Forms.{is_argument}
 use Rattle.code_laws.proofs.Named.{names, AreNamed}

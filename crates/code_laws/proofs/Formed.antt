@@ -24,7 +24,7 @@ use Rattle.executive_program.proofs.Reading.{any_of, reads_of, from_readers, fro
 use Rattle.macro_code.specs.Text.{pairs_on}
 use Rattle.code_laws.proofs.Arguments.{is_small}
 use Rattle.code_laws.proofs.ListPlaces.{got_some, got_map, map_got, all_here, all_there}
-use Rattle.code_text.specs.Text.{is_among}
+use Rattle.macro_code.specs.ReadText.{is_among}
 use Rattle.code_laws.proofs.Numbering.{on_has}
 use Rattle.code_laws.proofs.Instructions.{is_there, is_readable}
 use Rattle.code_laws.proofs.Groups.{below_bound}

@@ -13,12 +13,12 @@ use Rattle.executive_program.specs.declared.program.Instr.TheVariants.{Suc0, Suc
 use Rattle.macro_code.specs.declared.macros.Macro.{Macro}
 use Rattle.macro_code.specs.declared.macros.Macro.TheVariants as macros
 use Rattle.macro_code.specs.Text.{buffer_name, operator_name, operation_name, instr_line, body_text}
-use Rattle.code_text.specs.declared.fault.CodeError.{CodeError}
-use Rattle.code_text.specs.declared.fault.CodeCause.TheVariants.{UnknownName, BadLine}
-use Rattle.code_text.specs.declared.stage.Stage.TheVariants.{Prologue, Turn}
+use Rattle.macro_code.specs.declared.fault.CodeError.{CodeError}
+use Rattle.macro_code.specs.declared.fault.CodeCause.TheVariants.{UnknownName, BadLine}
+use Rattle.macro_code.specs.declared.stage.Stage.TheVariants.{Prologue, Turn}
 use Rattle.syn_base.specs.Bytes.{Bytes}
-use Rattle.code_text.specs.Forms.{buffer_in, number_in, each_in}
-use Rattle.code_text.specs.Text.{Reading, Arguments, Moved, Ends, and_then, argument, known, refused, named, place_in, operation_names, is_among, is_known, first_unknown, unless_unknown, takes_instr, starts_more, may_stand, with_instr, declared_buffer, macro_line, placed_line, pair_line, transfer_line, sync_line, call_line, call_of}
+use Rattle.macro_code.specs.Forms.{buffer_in, number_in, each_in}
+use Rattle.macro_code.specs.ReadText.{Reading, Arguments, Moved, Ends, and_then, argument, known, refused, named, place_in, operation_names, is_among, is_known, first_unknown, unless_unknown, takes_instr, starts_more, may_stand, with_instr, declared_buffer, macro_line, placed_line, pair_line, transfer_line, sync_line, call_line, call_of}
 use Rattle.code_laws.proofs.Arguments.{is_small, number_back, number_argument, buffer_back, buffer_argument, each_back, each_argument, name_argument, path_argument}
 use Rattle.code_laws.proofs.Forms.{is_argument}
 use Rattle.code_laws.proofs.Named.{names, AreNamed}

@@ -20,8 +20,8 @@ use Rattle.executive_program.specs.Steps.{all_turns}
 use Rattle.interleavings.proofs.Sums.{same_below}
 use Rattle.executive_program.proofs.MicroCounts.{by_place}
 use Rattle.sequence_build.specs.Limit.{above, program_limit}
-use Rattle.code_text.specs.Text as text
-use Rattle.code_text.specs.Text.{limited, within_steps}
+use Rattle.macro_code.specs.ReadText as text
+use Rattle.macro_code.specs.ReadText.{limited, within_steps}
 use Rattle.code_laws.proofs.ListPlaces.{all_there}
 use Rattle.code_laws.proofs.Arguments.{is_small}
 use Rattle.code_laws.proofs.Declared.{is_declarable}

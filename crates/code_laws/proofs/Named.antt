@@ -17,7 +17,7 @@ use Rattle.archi_graph.specs.Archi.{Architecture, is_archi, are_distinct, occurs
 use Rattle.executive_program.proofs.Reading.{any_at}
 use Rattle.macro_code.specs.Text.{Names, operation_name, operator_name, medium_name, medium_in}
 use Rattle.syn_base.specs.Bytes.{Bytes}
-use Rattle.code_text.specs.Text.{place_in, medium_names, operation_names}
+use Rattle.macro_code.specs.ReadText.{place_in, medium_names, operation_names}
 use Rattle.code_laws.proofs.ListPlaces.{got_some, got_front, got_back, got_map, map_got, all_here, once, found}
 
 pub bytes_same : (v w : Bytes) → bytes_eq v w ≡ true → v ≡ w

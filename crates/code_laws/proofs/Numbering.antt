@@ -13,8 +13,8 @@ use Rattle.executive_program.specs.Blocks.{blocks}
 use Rattle.interleavings.proofs.Sums.{same_below, none_below}
 use Rattle.executive_program.proofs.Sums.{picked, summed}
 use Rattle.macro_code.specs.Text.{pairs_on}
-use Rattle.code_text.specs.declared.numbered.Numbered.{Numbered}
-use Rattle.code_text.specs.Text.{is_among, place_from, place_of, first_wrong, misnumbered, at_place}
+use Rattle.macro_code.specs.declared.numbered.Numbered.{Numbered}
+use Rattle.macro_code.specs.ReadText.{is_among, place_from, place_of, first_wrong, misnumbered, at_place}
 use Rattle.code_laws.proofs.Arguments.{is_small}
 
 -- the numbers of an operator

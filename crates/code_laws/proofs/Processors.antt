@@ -17,12 +17,12 @@ use Rattle.executive_program.specs.declared.program.Program.{Program}
 use Rattle.macro_code.specs.declared.macros.Macro.{Macro}
 use Rattle.macro_code.specs.declared.macros.Macro.TheVariants as macros
 use Rattle.macro_code.specs.Text.{line, word_line, pairs_on, alloc_lines, operator_name, declarations, code_text, thread_by, thread_text, medium_by, medium_line, medium_lines, main_by, main_text, sequences_text, processor_text, processors_from}
-use Rattle.code_text.specs.declared.numbered.Numbered.{Numbered}
-use Rattle.code_text.specs.declared.numbered.Size.{Size}
-use Rattle.code_text.specs.declared.stage.Stage.{Stage}
-use Rattle.code_text.specs.declared.stage.Stage.TheVariants.{Outside, Declared}
+use Rattle.macro_code.specs.declared.numbered.Numbered.{Numbered}
+use Rattle.macro_code.specs.declared.numbered.Size.{Size}
+use Rattle.macro_code.specs.declared.stage.Stage.{Stage}
+use Rattle.macro_code.specs.declared.stage.Stage.TheVariants.{Outside, Declared}
 use Rattle.syn_base.specs.Bytes.{Bytes}
-use Rattle.code_text.specs.Text.{Reading, operation_names, follows, at_processor, with_pairs, numbered}
+use Rattle.macro_code.specs.ReadText.{Reading, operation_names, follows, at_processor, with_pairs, numbered}
 use Rattle.code_laws.proofs.Named.{names, AreNamed}
 use Rattle.code_laws.proofs.Numbering.{numbers, all_on, on_small, on_ascends, on_owned}
 use Rattle.code_laws.proofs.Declared.{is_declarable, size_of, above_none, declaring, processor_reads, semaphores_read, allocs_read}

@@ -8,10 +8,10 @@ use Rattle.macro_code.specs.declared.macros.Macro.{Macro}
 use Rattle.macro_code.specs.declared.macros.Macro.TheVariants.{Processor, Semaphores, Alloc, Thread, EndThread, Main, EndMain, SpawnThread, WaitEndThread, Loop, EndLoop, Suc0, Suc1, Pre0, Pre1, Send, Recv, Sync}
 use Rattle.macro_code.specs.Macros.{word_of}
 use Rattle.macro_code.specs.Text.{joined, line, word_line}
-use Rattle.code_text.specs.declared.fault.CodeError.{CodeError}
+use Rattle.macro_code.specs.declared.fault.CodeError.{CodeError}
 use Rattle.syn_base.specs.Bytes.{Bytes}
-use Rattle.code_text.specs.Forms.{Form, form_of, macro_of, arguments_of, has_bytes, may_name}
-use Rattle.code_text.specs.Text.{Reading, and_then, formed, known_macro, placed_line, call_line, line_of, words_line, line_by, next_line, rest_of}
+use Rattle.macro_code.specs.Forms.{Form, form_of, macro_of, arguments_of, has_bytes, may_name}
+use Rattle.macro_code.specs.ReadText.{Reading, and_then, formed, known_macro, placed_line, call_line, line_of, words_line, line_by, next_line, rest_of}
 use Rattle.code_laws.proofs.Bytes as bytes
 use Rattle.code_laws.proofs.Bytes.{IsLine, are_plain, last_back, word_back, plain_line}
 use Rattle.code_laws.proofs.Forms as forms
@@ -23,7 +23,7 @@ record MacroWord (x : Macro) : Type 0 where
   pub may : may_name (word_of x) ≡ true
   pub listed : list_all is_list_byte (word_of x) ≡ true
   pub some : has_bytes (word_of x) ≡ true
-  pub bare : form_of (word_of x ∷ []) ≡ Some (Rattle.code_text.specs.Forms.bare (word_of x))
+  pub bare : form_of (word_of x ∷ []) ≡ Some (Rattle.macro_code.specs.Forms.bare (word_of x))
 
 macro_word : (x : Macro) → MacroWord x
 unfolding macro_of

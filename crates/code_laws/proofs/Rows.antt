@@ -8,11 +8,11 @@ use Rattle.executive_program.specs.declared.program.Instr.TheVariants.{Suc0, Suc
 use Rattle.executive_program.specs.declared.program.Program.{Program}
 use Rattle.macro_code.specs.Text.{macro_code}
 use Rattle.macro_code.proofs.Rows.{graph, archi, code, buffer, bus_program}
-use Rattle.code_text.specs.declared.fault.CodeError.{CodeError}
-use Rattle.code_text.specs.declared.fault.CodeCause.TheVariants.{BadLine, BadArgument, UnknownName}
+use Rattle.macro_code.specs.declared.fault.CodeError.{CodeError}
+use Rattle.macro_code.specs.declared.fault.CodeCause.TheVariants.{BadLine, BadArgument, UnknownName}
 use Rattle.syn_base.specs.Bytes.{Bytes}
-use Rattle.code_text.specs.Forms.{macro_of}
-use Rattle.code_text.specs.Text.{program_in, refused}
+use Rattle.macro_code.specs.Forms.{macro_of}
+use Rattle.macro_code.specs.ReadText.{program_in, refused}
 
 -- two operators on a bus; their buffers and pairs stand in the text operator by operator
 abbrev two : Architecture

@@ -12,12 +12,12 @@ use Rattle.executive_program.specs.declared.program.SeqCode.{SeqCode}
 use Rattle.macro_code.specs.declared.macros.Macro.{Macro}
 use Rattle.macro_code.specs.declared.macros.Macro.TheVariants as macros
 use Rattle.macro_code.specs.Text.{line, word_line, medium_name, body_text, code_text, thread_by, thread_text, medium_by, medium_line, medium_lines}
-use Rattle.code_text.specs.declared.fault.CodeError.{CodeError}
-use Rattle.code_text.specs.declared.fault.CodeCause.TheVariants.{BadArgument, UnknownName}
-use Rattle.code_text.specs.declared.stage.Stage.{Stage}
-use Rattle.code_text.specs.declared.stage.Stage.TheVariants.{Threaded, Prologue, Ended}
+use Rattle.macro_code.specs.declared.fault.CodeError.{CodeError}
+use Rattle.macro_code.specs.declared.fault.CodeCause.TheVariants.{BadArgument, UnknownName}
+use Rattle.macro_code.specs.declared.stage.Stage.{Stage}
+use Rattle.macro_code.specs.declared.stage.Stage.TheVariants.{Threaded, Prologue, Ended}
 use Rattle.syn_base.specs.Bytes.{Bytes}
-use Rattle.code_text.specs.Text.{Reading, Joined, and_then, known, refused, place_in, medium_names, operation_names, is_among, follows, last_of, is_declared, is_threaded, starts_more, awaits_more, medium_of, thread_of, at_thread}
+use Rattle.macro_code.specs.ReadText.{Reading, Joined, and_then, known, refused, place_in, medium_names, operation_names, is_among, follows, last_of, is_declared, is_threaded, starts_more, awaits_more, medium_of, thread_of, at_thread}
 use Rattle.code_laws.proofs.Arguments.{name_argument}
 use Rattle.code_laws.proofs.Named.{names, AreNamed}
 use Rattle.code_laws.proofs.Declared.{name_back, Above, above_last}

@@ -16,10 +16,10 @@ use Rattle.executive_program.specs.declared.program.SeqCode.{SeqCode}
 use Rattle.executive_program.specs.declared.program.Program.{Program}
 use Rattle.syn_base.specs.Bytes.{Bytes}
 use Rattle.macro_code.specs.Text.{macro_code}
-use Rattle.code_text.specs.declared.numbered.Numbered.{Numbered}
-use Rattle.code_text.specs.declared.numbered.Size.{Size}
-use Rattle.code_text.specs.declared.fault.CodeCause.TheVariants.{BadLine}
-use Rattle.code_text.specs.Text.{Reading, start, operation_names, rest_of, whole, program_in, counted, first_misnumbered, misnumbered, earlier, refused, is_outside, program_of, buffer_of, owner_of, limited, sized, no_size, at_place, place_of, is_among}
+use Rattle.macro_code.specs.declared.numbered.Numbered.{Numbered}
+use Rattle.macro_code.specs.declared.numbered.Size.{Size}
+use Rattle.macro_code.specs.declared.fault.CodeCause.TheVariants.{BadLine}
+use Rattle.macro_code.specs.ReadText.{Reading, start, operation_names, rest_of, whole, program_in, counted, first_misnumbered, misnumbered, earlier, refused, is_outside, program_of, buffer_of, owner_of, limited, sized, no_size, at_place, place_of, is_among}
 use Rattle.code_laws.proofs.ListPlaces.{got_some, all_there, counted as is_counted}
 use Rattle.code_laws.proofs.Named.{AreNamed}
 use Rattle.code_laws.proofs.Numbering.{numbers, all_on, all_once, all_none, all_length, found_at, numbered_right}

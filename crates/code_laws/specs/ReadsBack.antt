@@ -15,7 +15,7 @@ use Rattle.sequence_build.specs.Limit.{program_limit}
 use Rattle.syn_base.specs.Bytes.{Bytes}
 use Rattle.archi_defs.specs.Text.{Described, description_of}
 use Rattle.macro_code.specs.Text.{macro_code}
-use Rattle.code_text.specs.Text.{program_in}
+use Rattle.macro_code.specs.ReadText.{program_in}
 
 -- the text of the program says this program
 abbrev pub ReadsBack : Program → Graph → Architecture → Type 0

@@ -1,6 +1,6 @@
 //! The laws of reading back: what `macro_code` prints is read as the same program.
 //!
-//! They speak of what `code_text` says that a text gives, so that they hold of `code_reader`, which returns just that.
+//! They speak of what `macro_code` says that a text gives, so that they hold of `code_reader`, which returns just that.
 //! Each is the contract of a function that does nothing.
 #![tactic(auto)]
 

@@ -1,7 +1,7 @@
 -- Words that are read one after the other.
 use Rattle.std.proofs.Common.{◌≡◌, ℕ, suc, ◌+◌, ◌<◌, List, [], ◌∷◌, ◌++◌, length, map, drop, get_or, Option, None, Some, Bor, refl, sym, ap, ◌∙◌, arith, append_assoc, drop-cons}
 use Rattle.syn_base.specs.Bytes.{Bytes}
-use Rattle.code_text.specs.Forms.{each_in, with_first}
+use Rattle.macro_code.specs.Forms.{each_in, with_first}
 
 abbrev pub behind : List ℕ → Option (List ℕ) → Option (List ℕ)
 behind ns None = None

@@ -6,8 +6,8 @@ use Rattle.std.proofs.lemmas.Bool.Decides.{nat_tests}
 use Rattle.std.proofs.lemmas.List.{drop-drop, take_all}
 use Rattle.std.proofs.lemmas.List.Splits.{slice_split_first}
 use Rattle.syn_base.specs.Bytes.{Bytes}
-use Rattle.code_text.specs.Forms.{after, arguments_of, at_least, before, buffer_in, declaration_in, declared_by, each_in, from_to, is_comma, number_in, with_first}
-use Rattle.code_text.specs.Text.{first_unknown, is_among, is_known, one_of, two_of}
+use Rattle.macro_code.specs.Forms.{after, arguments_of, at_least, before, buffer_in, declaration_in, declared_by, each_in, from_to, is_comma, number_in, with_first}
+use Rattle.macro_code.specs.ReadText.{first_unknown, is_among, is_known, one_of, two_of}
 use Rattle.code_lines.specs.declared.arguments.Declaration as declared_declaration
 use Rattle.code_lines.specs.Views.{IsCut, IsDeclaration}
 use Rattle.code_lines.proofs.Cuts.{stands}

@@ -24,8 +24,8 @@ use Rattle.std.specs.Global.{Vec}
 use Rattle.std.specs.Borrow.{Bor}
 use Rattle.code_lines.specs.declared.form.Form as declared_form
 use Rattle.code_lines.specs.declared.form.Form.TheVariants as read
-use Rattle.code_text.specs.declared.fault.CodeError.{CodeError}
-use Rattle.code_text.specs.declared.fault.CodeError.TheVariants.{Refused, Limit, OutOfMemory}
+use Rattle.macro_code.specs.declared.fault.CodeError.{CodeError}
+use Rattle.macro_code.specs.declared.fault.CodeError.TheVariants.{Refused, Limit, OutOfMemory}
 use Rattle.code_lines.specs.declared.arguments.Declaration as declared_declaration
 use Rattle.code_lines.specs.declared.known.Joined as declared_joined
 use Rattle.code_lines.specs.declared.instruction.Moved as declared_moved
@@ -40,9 +40,20 @@ use Rattle.text_lines.specs.Text.{is_foreign, is_hash, words_of}
 use Rattle.code_lines.specs.declared.word.LineWords.{LineWords}
 use Rattle.code_lines.specs.declared.word.LineWords.TheVariants as told
 use Rattle.syn_base.specs.Bytes.{Bytes}
-use Rattle.code_text.specs.Forms.{Form, arguments_of, bare, listed, call, before, after, inside, is_closed, Declaration}
-use Rattle.code_text.specs.Given.{Fails}
-use Rattle.code_text.specs.Text.{Two, Joined, Moved, Ends, call_of}
+use Rattle.macro_code.specs.Forms.{
+  Form,
+  arguments_of,
+  bare,
+  listed,
+  call,
+  before,
+  after,
+  inside,
+  is_closed,
+  Declaration,
+}
+use Rattle.macro_code.specs.Given.{Fails}
+use Rattle.macro_code.specs.ReadText.{Two, Joined, Moved, Ends, call_of}
 
 -- a text is cut at the first byte that passes
 pub record IsCut (test : ℕ → Bool) (text first rest : Bytes) : Type 0 where

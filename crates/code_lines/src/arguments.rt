@@ -2,13 +2,13 @@
 ghost use Rattle.std.specs.Prelude.{◌≡◌, ◌+◌, ◌≤◌, None, Some, IfOk, MatchOption, drop, is_none, length, map, position};
 ghost use Rattle.std.specs.List.{position_or_len, slice_split};
 ghost use Rattle.archi_graph.specs.Archi.{ascends_from};
-ghost use Rattle.code_text.specs.Forms.{arguments_of, buffer_in, declared_by, declaration_in, each_in, is_comma, number_in};
-ghost use Rattle.code_text.specs.Text.{one_of, two_of};
+ghost use Rattle.macro_code.specs.Forms.{arguments_of, buffer_in, declared_by, declaration_in, each_in, is_comma, number_in};
+ghost use Rattle.macro_code.specs.ReadText.{one_of, two_of};
 ghost use Rattle.code_lines.specs.Views.{AreTwo, HasNumbers, HasWords, IsDeclaration, IsWord, texts_of};
 
 use crate::form::cut_at;
 use crate::word::{read_buffer, read_length, read_number, read_places};
-use code_text::CodeError;
+use macro_code::CodeError;
 use std::alloc::{AllocError, Global};
 use std::marker::Model;
 
@@ -20,7 +20,7 @@ pub struct Arguments<'a> {
 
 impl<'a> Model for Arguments<'a> {
     ghost use Rattle.std.specs.Prelude.{List, ℕ, Option, option_map};
-    ghost use Rattle.code_text.specs.Forms.{arguments_of};
+    ghost use Rattle.macro_code.specs.Forms.{arguments_of};
 
     ghost Value = { Option (List (List ℕ)) };
 

@@ -1,13 +1,13 @@
 //! The pairs and the buffer that a line declares.
 ghost use Rattle.std.specs.Prelude.{◌≡◌, IfOk, true};
-ghost use Rattle.code_text.specs.Text.{declaration_of, follows, last_of, pairs_of};
-ghost use Rattle.code_text.specs.Given.{Gives};
+ghost use Rattle.macro_code.specs.ReadText.{declaration_of, follows, last_of, pairs_of};
+ghost use Rattle.macro_code.specs.Given.{Gives};
 ghost use Rattle.code_lines.specs.Views.{GivesDeclaration};
 
 use crate::arguments::{Arguments, Declaration, ascends, cut_list, numbers, read_declaration};
 use crate::fault::bad_argument;
 use crate::numbers::Numbers;
-use code_text::CodeError;
+use macro_code::CodeError;
 use std::alloc::Global;
 
 /// The pairs of a processor.

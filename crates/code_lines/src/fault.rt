@@ -1,9 +1,9 @@
 //! The refusals of a line, for all who read one.
 ghost use Rattle.std.specs.Prelude.{◌≡◌};
-ghost use Rattle.code_text.specs.Given.{IsStop, stop};
-ghost use Rattle.code_text.specs.declared.fault.CodeCause.TheVariants.{BadLine, UnknownMacro, BadArgument, UnknownName};
+ghost use Rattle.macro_code.specs.Given.{IsStop, stop};
+ghost use Rattle.macro_code.specs.declared.fault.CodeCause.TheVariants.{BadLine, UnknownMacro, BadArgument, UnknownName};
 
-use code_text::{CodeCause, CodeError, CodeFault};
+use macro_code::{CodeCause, CodeError, CodeFault};
 use std::alloc::Global;
 use syn_base::Items;
 

@@ -1,7 +1,7 @@
 //! The form of a line of one or two words.
 ghost use Rattle.std.specs.Prelude.{◌≡◌, ◌==◌, ◌<◌, length, position, IfSome};
 ghost use Rattle.std.specs.List.{list_any};
-ghost use Rattle.code_text.specs.Forms.{call_form, is_mark, is_unmarked, list_form, lists_form, may_name, name_form, op_form, operation_form, word_form};
+ghost use Rattle.macro_code.specs.Forms.{call_form, is_mark, is_unmarked, list_form, lists_form, may_name, name_form, op_form, operation_form, word_form};
 ghost use Rattle.code_lines.specs.Views.{IsCutAt, IsForm, IsInside};
 
 use crate::word::is_name;

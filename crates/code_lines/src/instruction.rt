@@ -1,9 +1,9 @@
 //! The operands of an instruction's line: a pair, a transfer, two operators or a call.
 ghost use Rattle.std.specs.Prelude.{◌≡◌, Some};
 ghost use Rattle.std.specs.List.{list_all};
-ghost use Rattle.code_text.specs.Forms.{arguments_of, buffer_in, each_in};
-ghost use Rattle.code_text.specs.Text.{declared_buffer, ends_of, first_unknown, is_among, is_known, moved_of, pair_of};
-ghost use Rattle.code_text.specs.Given.{Gives};
+ghost use Rattle.macro_code.specs.Forms.{arguments_of, buffer_in, each_in};
+ghost use Rattle.macro_code.specs.ReadText.{declared_buffer, ends_of, first_unknown, is_among, is_known, moved_of, pair_of};
+ghost use Rattle.macro_code.specs.Given.{Gives};
 ghost use Rattle.code_lines.specs.Views.{GivesEnds, GivesInstr, GivesMoved, HasWord, IsWord, call_in, texts_of};
 
 use crate::arguments::{Arguments, buffers, cut_list};
@@ -12,7 +12,7 @@ use crate::known::Known;
 use crate::numbers::Numbers;
 use crate::word::{is_name, read_buffer, read_number};
 use crate::written::Written;
-use code_text::CodeError;
+use macro_code::CodeError;
 use std::alloc::Global;
 use syn_base::Items;
 

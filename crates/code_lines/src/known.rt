@@ -2,8 +2,8 @@
 ghost use Rattle.std.specs.Prelude.{◌≡◌, IfOk, IfSome, ◌<◌, length, map, position, true};
 ghost use Rattle.std.specs.Str.{bytes_eq};
 ghost use Rattle.flat_graph.specs.Valid.{are_named_apart};
-ghost use Rattle.code_text.specs.Text.{follows, is_among, last_of, medium_names, medium_of, name_of, operation_names, known, operator_of, place_in, processor_of, thread_of};
-ghost use Rattle.code_text.specs.Given.{Gives};
+ghost use Rattle.macro_code.specs.ReadText.{follows, is_among, last_of, medium_names, medium_of, name_of, operation_names, known, operator_of, place_in, processor_of, thread_of};
+ghost use Rattle.macro_code.specs.Given.{Gives};
 ghost use Rattle.code_lines.specs.Views.{GivesJoined, GivesWord};
 ghost use Rattle.code_lines.specs.Setting.{Setting};
 
@@ -11,12 +11,12 @@ use crate::arguments::Arguments;
 use crate::fault::{bad_argument, unknown_name};
 use crate::word::is_name;
 use archi_graph::{Archi, Medium};
-use code_text::CodeError;
 use flat_graph::{Flat, Vertex};
-use name_table::{Names, TableKey};
+use macro_code::CodeError;
 use std::alloc::Global;
 use std::marker::Model;
 use syn_base::{Name, OutOfMemory};
+use text_lines::{Names, TableKey};
 
 /// The names of the operations of a flat graph, by hash, and an architecture. Contracts see both.
 #[derive(Drop)]

@@ -1,6 +1,6 @@
 //! Reads one line of macro-code: its words and its form, its arguments, and the names in it.
 //!
-//! Each function returns what `code_text` says that the line gives, or its refusal. `code_reader` reads a whole text
+//! Each function returns what `macro_code` says that the line gives, or its refusal. `code_reader` reads a whole text
 //! with them.
 #![tactic(auto)]
 

@@ -3,7 +3,7 @@ ghost use Rattle.std.specs.Prelude.{◌≡◌, ◌+◌, ◌<◌, ◌≤◌, IfSo
 ghost use Rattle.std.specs.List.{list_all, position_or_len};
 ghost use Rattle.syn_base.specs.Name.{begins_name, is_digit, is_name, is_name_byte};
 ghost use Rattle.text_lines.specs.Text.{is_blank, is_foreign, words_of};
-ghost use Rattle.code_text.specs.Forms.{at_least, buffer_in, from_to, number_in};
+ghost use Rattle.macro_code.specs.Forms.{at_least, buffer_in, from_to, number_in};
 ghost use Rattle.code_lines.specs.Views.{AreWords, IsClean, IsFirstWord, is_stop};
 
 use syn_base::read_int;

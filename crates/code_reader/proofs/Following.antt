@@ -2,11 +2,11 @@
 use Rattle.std.proofs.Common.{◌≡◌, ℕ, ◌+◌, List, ◌∷◌, Result, Ok, sym, ap, subst, ◌∙◌}
 use Rattle.archi_graph.specs.Archi.{Architecture}
 use Rattle.executive_program.specs.declared.program.Program.{Program}
-use Rattle.code_text.specs.declared.fault.CodeError.{CodeError}
-use Rattle.code_text.specs.declared.fault.CodeError.TheVariants.{Refused, Limit, OutOfMemory}
+use Rattle.macro_code.specs.declared.fault.CodeError.{CodeError}
+use Rattle.macro_code.specs.declared.fault.CodeError.TheVariants.{Refused, Limit, OutOfMemory}
 use Rattle.syn_base.specs.Bytes.{Bytes}
-use Rattle.code_text.specs.Text.{Reading, and_then, next_line, rest_of}
-use Rattle.code_text.specs.Given.{Fails}
+use Rattle.macro_code.specs.ReadText.{Reading, and_then, next_line, rest_of}
+use Rattle.macro_code.specs.Given.{Fails}
 
 module _ (operations : List Bytes) (a : Architecture) where
   abbrev behind : ℕ → List Bytes → Result Reading CodeError → Result Program CodeError

@@ -8,7 +8,7 @@ use Rattle.macro_code.specs.declared.macros.Macro.{Macro}
 use Rattle.macro_code.specs.Macros.{word_of}
 use Rattle.macro_code.specs.declared.macros.Macro.TheVariants.{Processor, Semaphores, Alloc, Thread, EndThread, Main, EndMain, SpawnThread, WaitEndThread, Loop, EndLoop, Suc0, Suc1, Pre0, Pre1, Send, Recv, Sync}
 use Rattle.syn_base.specs.Bytes.{Bytes}
-use Rattle.code_text.specs.Forms.{found_in, macro_of, macros}
+use Rattle.macro_code.specs.Forms.{found_in, macro_of, macros}
 
 -- each macro is the first that has its name
 named : (m : Macro) → found_in macros (word_of m) ≡ Some m

@@ -4,9 +4,9 @@ use Rattle.std.specs.List.{list_any, position_or_len}
 use Rattle.archi_graph.specs.Archi.{Architecture}
 use Rattle.syn_base.specs.Bytes.{Bytes}
 use Rattle.text_lines.specs.Text.{code_of, is_foreign, words_of}
-use Rattle.code_text.specs.declared.fault.CodeError.{CodeError}
-use Rattle.code_text.specs.declared.fault.CodeCause.TheVariants.{BadLine}
-use Rattle.code_text.specs.Text.{Reading, line_by, next_line, refused, words_line}
+use Rattle.macro_code.specs.declared.fault.CodeError.{CodeError}
+use Rattle.macro_code.specs.declared.fault.CodeCause.TheVariants.{BadLine}
+use Rattle.macro_code.specs.ReadText.{Reading, line_by, next_line, refused, words_line}
 use Rattle.code_lines.proofs.Cuts.{stands}
 
 place_by : (xs : List ℕ) (any : Bool) → list_any is_foreign xs ≡ any → position is_foreign xs ≡ cond any (Some (position_or_len is_foreign xs)) None

@@ -5,8 +5,8 @@ use Rattle.std.specs.List.{range_with_len}
 use Rattle.std.proofs.lemmas.Bool.{cases_eq, eq-eqb, ne_eqb, leb-true, leb-false}
 use Rattle.std.proofs.lemmas.List.{length-set, length-take, get_or-set_same, get_or-set_other, take_more}
 use Rattle.executive_program.specs.MicroSteps.{first_of}
-use Rattle.code_text.specs.declared.numbered.Numbered.{Numbered}
-use Rattle.code_text.specs.Text.{first_wrong, place_from, place_of}
+use Rattle.macro_code.specs.declared.numbered.Numbered.{Numbered}
+use Rattle.macro_code.specs.ReadText.{first_wrong, place_from, place_of}
 use Rattle.code_reader.specs.Placed.{ArePlaced, TakesPlace}
 
 one_first : (b : Bool) (k : ℕ) (x y z : Option ℕ) → x ≡ first_of y z → cond b (Some k) x ≡ first_of (cond b (Some k) y) z

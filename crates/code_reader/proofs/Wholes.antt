@@ -4,11 +4,11 @@ use Rattle.std.specs.List.{range_with_len}
 use Rattle.executive_program.specs.declared.program.Buffer.{Buffer}
 use Rattle.executive_program.specs.declared.program.SeqCode.{SeqCode}
 use Rattle.executive_program.specs.declared.program.Program.{Program}
-use Rattle.code_text.specs.declared.numbered.Numbered.{Numbered}
-use Rattle.code_text.specs.declared.numbered.Size.{Size}
-use Rattle.code_text.specs.declared.fault.CodeError.{CodeError}
-use Rattle.code_text.specs.Text.{at_place, limited, no_size, place_of, sized}
-use Rattle.code_text.specs.Given.{Gives}
+use Rattle.macro_code.specs.declared.numbered.Numbered.{Numbered}
+use Rattle.macro_code.specs.declared.numbered.Size.{Size}
+use Rattle.macro_code.specs.declared.fault.CodeError.{CodeError}
+use Rattle.macro_code.specs.ReadText.{at_place, limited, no_size, place_of, sized}
+use Rattle.macro_code.specs.Given.{Gives}
 use Rattle.code_reader.specs.Placed.{ArePlaced}
 use Rattle.code_reader.proofs.Placing.{all_placed}
 

@@ -2,4 +2,4 @@ pub mod Placed
 pub mod Read
 pub mod Views
 pub mod Wide
-pub use Rattle.code_text.specs.Given
+pub use Rattle.macro_code.specs.Given

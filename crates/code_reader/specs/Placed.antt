@@ -17,8 +17,8 @@ use Rattle.std.specs.Prelude.{
   slice_index_or,
   slice_set,
 }
-use Rattle.code_text.specs.declared.numbered.Numbered.{Numbered}
-use Rattle.code_text.specs.Text.{misnumbered, place_of}
+use Rattle.macro_code.specs.declared.numbered.Numbered.{Numbered}
+use Rattle.macro_code.specs.ReadText.{misnumbered, place_of}
 use Rattle.code_reader.specs.declared.places.Places.{Places}
 use Rattle.code_reader.specs.declared.places.Places.TheVariants.{Each, Wrong}
 

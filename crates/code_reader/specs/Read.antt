@@ -1,6 +1,6 @@
 -- What contracts see of what was read.
 use Rattle.std.specs.Prelude.{map}
-use Rattle.code_text.specs.Text.{Reading}
+use Rattle.macro_code.specs.ReadText.{Reading}
 use Rattle.code_reader.specs.declared.reader.Reader.{Reader}
 use Rattle.code_reader.specs.Views.{code_of}
 use Rattle.code_lines.specs.Views.{instr_of}

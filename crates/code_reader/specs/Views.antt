@@ -2,9 +2,9 @@
 use Rattle.std.specs.Prelude.{ℕ, List, map, Result}
 use Rattle.executive_program.specs.declared.program.SeqCode.{SeqCode}
 use Rattle.syn_base.specs.Bytes.{Bytes}
-use Rattle.code_text.specs.declared.fault.CodeError.{CodeError}
-use Rattle.code_text.specs.Forms.{arguments_of}
-use Rattle.code_text.specs.Text.{Reading, call_line}
+use Rattle.macro_code.specs.declared.fault.CodeError.{CodeError}
+use Rattle.macro_code.specs.Forms.{arguments_of}
+use Rattle.macro_code.specs.ReadText.{Reading, call_line}
 use Rattle.code_lines.specs.declared.instruction.Operation.{Operation}
 use Rattle.code_lines.specs.Views.{instr_of}
 use Rattle.code_reader.specs.declared.written.WrittenCode.{WrittenCode}

@@ -3,9 +3,9 @@ use Rattle.std.specs.Prelude.{◌≡◌, ℕ, true, false, map, nat_lt, Result, 
 use Rattle.syn_base.specs.declared.limits.LimitKind.{LimitKind}
 use Rattle.syn_base.specs.Limits.{bound_of}
 use Rattle.executive_program.specs.declared.program.Program.{Program}
-use Rattle.code_text.specs.declared.fault.CodeError.{CodeError}
-use Rattle.code_text.specs.declared.fault.CodeError.TheVariants.{Refused, Limit, OutOfMemory}
-use Rattle.code_text.specs.Text.{sized}
+use Rattle.macro_code.specs.declared.fault.CodeError.{CodeError}
+use Rattle.macro_code.specs.declared.fault.CodeError.TheVariants.{Refused, Limit, OutOfMemory}
+use Rattle.macro_code.specs.ReadText.{sized}
 use Rattle.code_reader.specs.declared.counts.WideProgram.{WideProgram}
 use Rattle.code_reader.specs.Views.{code_of}
 

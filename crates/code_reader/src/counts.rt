@@ -4,14 +4,14 @@ ghost use Rattle.std.specs.List.{sum_by};
 ghost use Rattle.interleavings.specs.Owners.{sum_below};
 ghost use Rattle.executive_program.specs.Instructions.{len_of};
 ghost use Rattle.executive_program.specs.MicroSteps.{longest_sent, sent_len};
-ghost use Rattle.code_text.specs.Text.{longest_in, wire_len, words};
+ghost use Rattle.macro_code.specs.ReadText.{longest_in, wire_len, words};
 ghost use Rattle.code_reader.specs.Views.{code_of};
 ghost use Rattle.code_lines.specs.Views.{instr_of};
 ghost use Rattle.code_reader.specs.Wide.{program_of};
 
 use crate::written::WrittenCode;
 use code_lines::Written;
-use code_text::Size;
+use macro_code::Size;
 
 /// A program in wide numbers: its buffers and the operators of its pairs by number, and its sequences.
 #[derive(Drop)]

@@ -1,6 +1,6 @@
 //! Reads macro-code in time proportional to its size: `read_code` returns the program of a text, or its first refusal.
 //!
-//! The commands that take code from outside use it. What a text says is defined in `code_text`, whose types can be
+//! The commands that take code from outside use it. What a text says is defined in `macro_code`, whose types can be
 //! named from here too; `code_lines` reads one line.
 #![tactic(auto)]
 
@@ -13,5 +13,5 @@ mod stage;
 mod whole;
 mod written;
 
-pub use code_text::{CodeCause, CodeError, CodeFault};
 pub use lines::read_code;
+pub use macro_code::{CodeCause, CodeError, CodeFault};

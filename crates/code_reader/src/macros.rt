@@ -1,7 +1,7 @@
 //! The macro of a name, with which a line begins.
 ghost use Rattle.std.specs.Prelude.{◌≡◌, IfSome, Some, bytes_eq, map, slice_get};
 ghost use Rattle.macro_code.specs.Macros.{word_of};
-ghost use Rattle.code_text.specs.Forms.{macro_of, macros};
+ghost use Rattle.macro_code.specs.Forms.{macro_of, macros};
 
 use case_table::{CaseTable, case_arms};
 use macro_code::Macro;

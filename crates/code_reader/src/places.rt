@@ -2,7 +2,7 @@
 ghost use Rattle.std.specs.Prelude.{◌≡◌, ℕ, None, IfOk, length, slice_index_or};
 ghost use Rattle.code_reader.specs.Placed.{IsPlaced, TakesPlace};
 
-use code_text::Numbered;
+use macro_code::Numbered;
 use std::alloc::Global;
 use syn_base::OutOfMemory;
 

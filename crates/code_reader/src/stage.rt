@@ -1,8 +1,8 @@
 //! The tests of the stage of a processor's text, for the macros that may stand there.
 ghost use Rattle.std.specs.Prelude.{◌≡◌};
-ghost use Rattle.code_text.specs.Text.{is_declared, is_ended, is_named, is_outside, is_prologue, is_threaded, is_turn};
+ghost use Rattle.macro_code.specs.ReadText.{is_declared, is_ended, is_named, is_outside, is_prologue, is_threaded, is_turn};
 
-use code_text::Stage;
+use macro_code::Stage;
 
 /// No processor was begun, or the last one has ended.
 pub fn is_outside(stage: Stage) -> bool

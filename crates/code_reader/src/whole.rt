@@ -1,10 +1,10 @@
 //! The program of a text whose lines were all read, and its limits.
 ghost use Rattle.std.specs.Prelude.{◌≡◌, ℕ, ◌-◌, ◌^◌, IfOk, length, map, min};
-ghost use Rattle.code_text.specs.Text.{at_place, counted, first_misnumbered, limited, no_size, sized, whole, within_steps};
-ghost use Rattle.code_text.specs.Text as text;
+ghost use Rattle.macro_code.specs.ReadText.{at_place, counted, first_misnumbered, limited, no_size, sized, whole, within_steps};
+ghost use Rattle.macro_code.specs.ReadText as text;
 ghost use Rattle.syn_base.specs.declared.limits.LimitKind.TheVariants.{MicroSteps};
 ghost use Rattle.executive_program.specs.Steps.{all_turns};
-ghost use Rattle.code_text.specs.Given.{Gives, Has};
+ghost use Rattle.macro_code.specs.Given.{Gives, Has};
 ghost use Rattle.code_reader.specs.Placed.{ArePlaced, IsPlaced};
 ghost use Rattle.code_reader.specs.Read.{reading};
 ghost use Rattle.code_reader.specs.Wide.{IsBounded, program_of};
@@ -15,8 +15,8 @@ use crate::reader::Reader;
 use crate::stage::is_outside;
 use crate::written::{narrow, narrow_codes};
 use code_lines::{Known, bad_argument, bad_line};
-use code_text::{CodeError, Size};
 use executive_program::{Buffer, Program, pair_depths, turn_micros};
+use macro_code::{CodeError, Size};
 use std::alloc::Global;
 use syn_base::{Items, LimitKind, OutOfMemory};
 use text_lines::check_limit;

@@ -9,18 +9,18 @@ use Rattle.outside.specs.declared.file.File.{File}
 use Rattle.outside.specs.declared.file.File.TheVariants as file
 use Rattle.syn_base.specs.declared.limits.LimitFault.{LimitFault}
 use Rattle.syn_base.specs.Limits.{word_of}
-use Rattle.algo_defs.specs.declared.fault.AlgoCause.{AlgoCause}
-use Rattle.algo_defs.specs.declared.fault.AlgoCause.TheVariants as a
-use Rattle.algo_defs.specs.declared.fault.AlgoFault.{AlgoFault}
+use Rattle.algo_text.specs.declared.fault.AlgoCause.{AlgoCause}
+use Rattle.algo_text.specs.declared.fault.AlgoCause.TheVariants as a
+use Rattle.algo_text.specs.declared.fault.AlgoFault.{AlgoFault}
 use Rattle.archi_defs.specs.declared.fault.ArchiCause.{ArchiCause}
 use Rattle.archi_defs.specs.declared.fault.ArchiCause.TheVariants as h
 use Rattle.archi_defs.specs.declared.fault.ArchiFault.{ArchiFault}
 use Rattle.sensor_table.specs.declared.fault.SensorCause.{SensorCause}
 use Rattle.sensor_table.specs.declared.fault.SensorCause.TheVariants as s
 use Rattle.sensor_table.specs.declared.fault.SensorFault.{SensorFault}
-use Rattle.code_text.specs.declared.fault.CodeCause.{CodeCause}
-use Rattle.code_text.specs.declared.fault.CodeCause.TheVariants as c
-use Rattle.code_text.specs.declared.fault.CodeFault.{CodeFault}
+use Rattle.macro_code.specs.declared.fault.CodeCause.{CodeCause}
+use Rattle.macro_code.specs.declared.fault.CodeCause.TheVariants as c
+use Rattle.macro_code.specs.declared.fault.CodeFault.{CodeFault}
 use Rattle.check_cause.specs.declared.cause.CheckCause.{CheckCause}
 use Rattle.check_cause.specs.declared.cause.CheckCause.TheVariants as k
 use Rattle.check_cause.specs.declared.cause.Stop.{Stop}

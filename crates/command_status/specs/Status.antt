@@ -1,18 +1,18 @@
 -- How a command ends.
 use Rattle.std.specs.Prelude.{ℕ}
 use Rattle.command_plan.specs.Ending.{Ending, done, refused, unread, unwritten, no_memory}
-use Rattle.algo_defs.specs.declared.fault.AlgoError.{AlgoError}
-use Rattle.algo_defs.specs.declared.fault.AlgoError.TheVariants as algorithm
-use Rattle.algo_defs.specs.declared.fault.AlgoFault.{AlgoFault}
+use Rattle.algo_text.specs.declared.fault.AlgoError.{AlgoError}
+use Rattle.algo_text.specs.declared.fault.AlgoError.TheVariants as algorithm
+use Rattle.algo_text.specs.declared.fault.AlgoFault.{AlgoFault}
 use Rattle.archi_defs.specs.declared.fault.ArchiError.{ArchiError}
 use Rattle.archi_defs.specs.declared.fault.ArchiError.TheVariants as architecture
 use Rattle.archi_defs.specs.declared.fault.ArchiFault.{ArchiFault}
 use Rattle.sensor_table.specs.declared.fault.SensorError.{SensorError}
 use Rattle.sensor_table.specs.declared.fault.SensorError.TheVariants as sensors
 use Rattle.sensor_table.specs.declared.fault.SensorFault.{SensorFault}
-use Rattle.code_text.specs.declared.fault.CodeError.{CodeError}
-use Rattle.code_text.specs.declared.fault.CodeError.TheVariants as code
-use Rattle.code_text.specs.declared.fault.CodeFault.{CodeFault}
+use Rattle.macro_code.specs.declared.fault.CodeError.{CodeError}
+use Rattle.macro_code.specs.declared.fault.CodeError.TheVariants as code
+use Rattle.macro_code.specs.declared.fault.CodeFault.{CodeFault}
 use Rattle.check_cause.specs.declared.cause.CheckCause.{CheckCause}
 use Rattle.actual_defs.specs.declared.fault.ActualError.{ActualError}
 use Rattle.actual_defs.specs.declared.fault.ActualError.TheVariants as durations

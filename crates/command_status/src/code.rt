@@ -15,8 +15,8 @@ ghost use Rattle.command_status.specs.Lines.{
 
 use crate::line::{write_head, write_word};
 use check_cause::{CheckCause, Stop};
-use code_text::{CodeCause, CodeFault};
 use itoa::Buffer;
+use macro_code::{CodeCause, CodeFault};
 use outside::{Failed, Sink, write_pieces, write_whole};
 
 /// Writes where a text of macro-code is refused, for which cause, and what stands after it.

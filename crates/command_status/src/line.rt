@@ -23,7 +23,7 @@ use crate::architecture::write_described;
 use crate::code::{write_check, write_code};
 use crate::durations::write_durations;
 use crate::status::Status;
-use algo_defs::{AlgoCause, AlgoFault};
+use algo_text::{AlgoCause, AlgoFault};
 use itoa::Buffer;
 use outside::{Failed, File, Sink, write_pieces, write_whole};
 use sensor_table::{SensorCause, SensorFault};

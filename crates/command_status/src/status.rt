@@ -11,10 +11,10 @@ ghost use Rattle.command_status.specs.Status.{
 ghost use Rattle.command_status.specs.declared.status.Status.TheVariants.{OutOfMemory as Wants};
 
 use actual_defs::{ActualError, ActualFault};
-use algo_defs::{AlgoError, AlgoFault};
+use algo_text::{AlgoError, AlgoFault};
 use archi_defs::{ArchiError, ArchiFault};
 use check_cause::CheckCause;
-use code_text::{CodeError, CodeFault};
+use macro_code::{CodeError, CodeFault};
 use outside::File;
 use sensor_table::{SensorError, SensorFault};
 use syn_base::{LimitFault, OutOfMemory};

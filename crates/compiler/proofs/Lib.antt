@@ -1,3 +1,4 @@
+pub mod Lacking
 pub mod Sizes
 pub mod Steps
 pub mod Architectures

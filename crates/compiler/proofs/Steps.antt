@@ -2,11 +2,11 @@
 use Rattle.std.proofs.Common.{◌≡◌, Option, Some, None, Result, Ok, Err, refl, sym, subst, inl, inr}
 use Rattle.syn_base.specs.Bytes.{Bytes}
 use Rattle.outside.specs.Shelf.{Held}
-use Rattle.algo_defs.specs.declared.definition.Defs.{Defs}
-use Rattle.algo_defs.specs.declared.fault.AlgoError.{AlgoError}
-use Rattle.algo_defs.specs.declared.fault.AlgoError.TheVariants as error
+use Rattle.algo_text.specs.declared.definition.Defs.{Defs}
+use Rattle.algo_text.specs.declared.fault.AlgoError.{AlgoError}
+use Rattle.algo_text.specs.declared.fault.AlgoError.TheVariants as error
 use Rattle.algo_text.specs.Text.{definitions_of}
-use Rattle.algo_defs.specs.Returned.{Gives}
+use Rattle.algo_text.specs.Returned.{Gives}
 use Rattle.elaboration.specs.Elaborated.{bounded_elaboration, elaboration_of}
 use Rattle.elaboration.proofs.Bounded.{limit_stays, refusal_stays}
 use Rattle.algo_tree.specs.Tree.{Vertex}

@@ -1,9 +1,9 @@
 -- What the stages of the compiler answer.
 use Rattle.std.specs.Prelude.{◌≡◌, Result, Ok, Err}
 use Rattle.syn_base.specs.Bytes.{Bytes}
-use Rattle.algo_defs.specs.declared.definition.Defs.{Defs}
-use Rattle.algo_defs.specs.declared.fault.AlgoError.{AlgoError}
-use Rattle.algo_defs.specs.declared.fault.AlgoError.TheVariants as error
+use Rattle.algo_text.specs.declared.definition.Defs.{Defs}
+use Rattle.algo_text.specs.declared.fault.AlgoError.{AlgoError}
+use Rattle.algo_text.specs.declared.fault.AlgoError.TheVariants as error
 use Rattle.algo_text.specs.Text.{definitions_of}
 use Rattle.elaboration.specs.Elaborated.{bounded_elaboration, elaboration_of}
 use Rattle.algo_tree.specs.Tree.{Vertex}
@@ -15,8 +15,8 @@ use Rattle.durations.specs.Given.{Gives}
 use Rattle.durations.specs.Table.{durations_of}
 use Rattle.flat_graph.specs.Graph.{Graph}
 use Rattle.flat_laws.specs.FlatOf.{flat_of}
-use Rattle.operation_paths.specs.Named.{HasNames}
-use Rattle.operation_paths.specs.Bounded.{HasBounds}
+use Rattle.algo_tree.specs.Named.{HasNames}
+use Rattle.algo_tree.specs.Bounded.{HasBounds}
 use Rattle.compiler.specs.declared.stages.Algorithm.{Algorithm}
 use Rattle.compiler.specs.declared.stages.Compilation.{Compilation}
 

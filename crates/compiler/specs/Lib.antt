@@ -1,3 +1,4 @@
+pub mod Checked
 pub mod Compiles
 pub mod Reads
 pub mod Builds

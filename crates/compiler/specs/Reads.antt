@@ -5,7 +5,7 @@ use Rattle.syn_base.specs.Bytes.{Bytes}
 use Rattle.outside.specs.Shelf.{Held}
 use Rattle.outside.specs.declared.file.File.TheVariants as file
 use Rattle.syn_base.specs.Rows.{Reactions}
-use Rattle.algo_defs.specs.declared.definition.Defs.{Defs}
+use Rattle.algo_text.specs.declared.definition.Defs.{Defs}
 use Rattle.algo_tree.specs.Tree.{Vertex}
 use Rattle.archi_defs.specs.Text.{Described, description_of}
 use Rattle.archi_defs.specs.declared.text.ArchiText.{ArchiText}

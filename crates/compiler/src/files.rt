@@ -4,8 +4,8 @@ ghost use Rattle.std.specs.Prelude.{IfOk, IfErr};
 ghost use Rattle.command_plan.specs.Run.{FailsToRead, WasRead};
 ghost use Rattle.command_status.specs.Status.{above, ending_of};
 ghost use Rattle.outside.specs.Shelf.{Stays, file_limit};
-ghost use Rattle.operation_paths.specs.Bounded.{HasBounds};
-ghost use Rattle.operation_paths.specs.Named.{HasNames};
+ghost use Rattle.algo_tree.specs.Bounded.{HasBounds};
+ghost use Rattle.algo_tree.specs.Named.{HasNames};
 ghost use Rattle.compiler.specs.Reads.{
   MakesTable,
   ReadsAlgorithm,

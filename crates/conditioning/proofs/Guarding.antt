@@ -14,7 +14,7 @@ use Rattle.algo_tree.specs.declared.vertex.Vertex.{Vertex as Declared, out-Verte
 use Rattle.algo_tree.specs.declared.vertex.Kind as declared
 use Rattle.algo_tree.specs.declared.vertex.Kind.TheVariants.{Graph, Switch}
 use Rattle.algo_tree.proofs.Views.{view_out}
-use Rattle.conditioning_laws.specs.Guarded.{shift, own_guards, guard_for, merge_of, merges, merge_sources, switch_inside, operation_under, graph_under, guarded_by, guarded, guarded_all, guarded_cases}
+use Rattle.flat_laws.specs.Guarded.{shift, own_guards, guard_for, merge_of, merges, merge_sources, switch_inside, operation_under, graph_under, guarded_by, guarded, guarded_all, guarded_cases}
 use Rattle.conditioning.specs.Listed.{cases_listed, merges_listed}
 
 abbrev pub inner_of : Declared → List Declared

@@ -3,7 +3,7 @@ use Rattle.std.proofs.Common.{◌≡◌, ℕ, zero, suc, ◌+◌, ◌<◌, List,
 use Rattle.level_meaning.specs.declared.source.Source.{Source}
 use Rattle.level_meaning.specs.declared.source.Source.TheVariants.{Own, Of}
 use Rattle.level_meaning.specs.declared.source.Guard.{Guard}
-use Rattle.conditioning_laws.specs.Guarded.{shift, own_guards}
+use Rattle.flat_laws.specs.Guarded.{shift, own_guards}
 
 zero_shifted : (ss : List Source) → map (shift 0) ss ≡ ss
 zero_shifted [] = refl

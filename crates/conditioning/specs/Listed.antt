@@ -2,7 +2,7 @@
 use Rattle.std.specs.Prelude.{ℕ, suc, ℤ, List, [], ◌∷◌, ◌++◌, slice_index_or}
 use Rattle.level_meaning.specs.declared.source.Guard.{Guard}
 use Rattle.algo_tree.specs.Tree.{Vertex}
-use Rattle.conditioning_laws.specs.Guarded.{guard_for, merge_of, guarded}
+use Rattle.flat_laws.specs.Guarded.{guard_for, merge_of, guarded}
 
 -- The cases from this case on.
 abbrev pub cases_listed : List Guard → ℕ → List ℤ → ℕ → List Vertex → List Vertex

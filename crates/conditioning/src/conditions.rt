@@ -1,13 +1,12 @@
 //! The conditions of a level under guards: its sources shifted, and the guards of its vertices. `pass` and `vertices`
 //! call it.
 ghost use Rattle.std.specs.Prelude.{◌≡◌, ◌++◌, [], ◌∷◌, IfOk, map, true};
-ghost use Rattle.conditioning_laws.specs.Guarded.{shift, shift_guard, guard_sources, guard_for, own_guards as guards_owned};
+ghost use Rattle.flat_laws.specs.Guarded.{shift, shift_guard, guard_sources, guard_for, own_guards as guards_owned};
 
 use algo_tree::{copy_guards, copy_numbers};
 use level_meaning::{Guard, Source};
-use shared_items::Shared;
 use std::alloc::Global;
-use syn_base::{OutOfMemory, to_u32};
+use syn_base::{OutOfMemory, Shared, to_u32};
 
 /// A source of a level, where `before` further inputs stand before the level's own.
 fn shift_source(before: u32, source: Source) -> Result<Source, OutOfMemory>

@@ -2,14 +2,13 @@
 ghost use Rattle.std.specs.Prelude.{◌≡◌, ◌++◌, ◌∷◌, ◌+◌, IfOk, OnOk, map, slice_index_or};
 ghost use Rattle.level_meaning.specs.Level.{numbers_below};
 ghost use Rattle.algo_tree.specs.View.{view};
-ghost use Rattle.conditioning_laws.specs.Guarded.{merge_of, merge_sources};
+ghost use Rattle.flat_laws.specs.Guarded.{merge_of, merge_sources};
 ghost use Rattle.conditioning.specs.Listed.{merges_listed};
 
 use algo_tree::{Kind, Vertex, copy_bytes};
 use level_meaning::{Guard, Part, Source};
-use shared_items::Shared;
 use std::alloc::Global;
-use syn_base::{Items, OutOfMemory, len_at, to_u32};
+use syn_base::{Items, OutOfMemory, Shared, len_at, to_u32};
 
 /// What the merges of a switch have in common: its definition, the guards around it as its inside sees
 /// them, the number of its conditioning input, the values of its cases, and the number of these.

@@ -3,11 +3,11 @@ ghost use Rattle.std.specs.Prelude.{◌≡◌, [], IfOk, map};
 ghost use Rattle.algo_tree.specs.declared.vertex.Vertex.{out-Vertex};
 ghost use Rattle.algo_tree.specs.Counted.{operations};
 ghost use Rattle.algo_tree.specs.View.{view};
-ghost use Rattle.operation_paths.specs.Named.{HasNames};
-ghost use Rattle.pass_laws.specs.SameMeaning.{KeepsMeaning};
-ghost use Rattle.pass_laws.specs.NoRepeat.{HasNoRepeat};
-ghost use Rattle.conditioning_laws.specs.Guarded.{guard as guarded_tree, guarded};
-ghost use Rattle.conditioning_laws.specs.NoCase.{HasNoCase};
+ghost use Rattle.algo_tree.specs.Named.{HasNames};
+ghost use Rattle.algo_tree.specs.SameMeaning.{KeepsMeaning};
+ghost use Rattle.algo_tree.specs.NoRepeat.{HasNoRepeat};
+ghost use Rattle.flat_laws.specs.Guarded.{guard as guarded_tree, guarded};
+ghost use Rattle.flat_laws.specs.NoCase.{HasNoCase};
 ghost use Rattle.conditioning.specs.Listed.{cases_listed};
 
 use crate::conditions::{guards_of_case, own_guards, shift_sources};
@@ -15,9 +15,8 @@ use crate::merges::{Switched, add_merges, merge_outputs};
 use crate::vertices::{as_graph, as_operation};
 use algo_tree::{Kind, Tree, Vertex};
 use level_meaning::{Guard, Source};
-use shared_items::Shared;
 use std::alloc::Global;
-use syn_base::{Items, OutOfMemory, to_u32};
+use syn_base::{Items, OutOfMemory, Shared, to_u32};
 
 /// The tree without cases, of the same meaning: each switch is replaced by a graph of its cases and a
 /// merge for each output after them. Every operation and merge carries the guards of the cases

@@ -2,14 +2,13 @@
 ghost use Rattle.std.specs.Prelude.{◌≡◌, IfOk};
 ghost use Rattle.algo_tree.specs.declared.vertex.Vertex.{out-Vertex};
 ghost use Rattle.algo_tree.specs.View.{kind_view, label_view, view, vertices_view};
-ghost use Rattle.conditioning_laws.specs.Guarded.{graph_under, operation_under};
+ghost use Rattle.flat_laws.specs.Guarded.{graph_under, operation_under};
 
 use crate::conditions::{graph_inputs, guards_under, shift_sources};
 use algo_tree::{Kind, Vertex, copy_part, share_kind};
 use level_meaning::{Guard, Part, Source};
-use shared_items::Shared;
 use std::alloc::Global;
-use syn_base::{Items, OutOfMemory};
+use syn_base::{Items, OutOfMemory, Shared};
 
 /// What a vertex keeps under guards.
 #[derive(Drop)]

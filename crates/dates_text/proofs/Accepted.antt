@@ -25,8 +25,8 @@ use Rattle.schedule.specs.Acts.{Act, carry, run, acts, acts_of, runs, is_on, is_
 use Rattle.schedule.specs.Valid.{is_valid, lasts, is_carried, have_ended}
 use Rattle.sequence_build_laws.proofs.Works.{right_at, of_run, one_run}
 use Rattle.executive_program.specs.Instructions.{number_or}
-use Rattle.self_timed_laws.specs.Dates.{with_act}
-use Rattle.self_timed_laws.specs.Entries.{entry_at, entry_of, is_transfer, stated, AreWithin}
+use Rattle.self_timed.specs.Dates.{with_act}
+use Rattle.self_timed.specs.Entries.{entry_at, entry_of, is_transfer, stated, AreWithin}
 use Rattle.self_timed.specs.Told.{HaveEntries, entries_of}
 use Rattle.actual_defs.specs.declared.fault.ActualFault.{ActualFault}
 use Rattle.actual_defs.specs.declared.fault.ActualFault.TheVariants.{Differs, Longer}

@@ -5,7 +5,7 @@ use Rattle.std.proofs.lemmas.List.Sums.{sum_by-cons, sum_by-append}
 use Rattle.schedule.specs.declared.decision.Transfer.{Transfer}
 use Rattle.schedule.specs.declared.decision.Decision.{Decision}
 use Rattle.schedule.specs.Acts.{Act, carry, run}
-use Rattle.self_timed_laws.specs.Entries.{is_transfer}
+use Rattle.self_timed.specs.Entries.{is_transfer}
 
 pub count_carry : (t : Transfer) (xs : List Act) → count_by is_transfer (carry t ∷ xs) ≡ suc (count_by is_transfer xs)
 count_carry t xs = let z = sum_by-cons (λ (x : Act). cond (is_transfer x) 1 0) (carry t) xs in omega arith

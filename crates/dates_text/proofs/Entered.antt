@@ -5,8 +5,8 @@ use Rattle.std.specs.List.{count_by}
 use Rattle.flat_graph.specs.Graph.{Graph}
 use Rattle.schedule.specs.declared.decision.Schedule.{Schedule}
 use Rattle.schedule.specs.Acts.{Act, carry, run, acts}
-use Rattle.self_timed_laws.specs.Dates.{with_act}
-use Rattle.self_timed_laws.specs.Entries.{entry_at, entry_of, is_transfer}
+use Rattle.self_timed.specs.Dates.{with_act}
+use Rattle.self_timed.specs.Entries.{entry_at, entry_of, is_transfer}
 use Rattle.self_timed.specs.declared.dates.Span.{Span}
 use Rattle.self_timed.specs.Laid.{entry_after, next_after}
 use Rattle.self_timed.specs.Told.{reaction_at, span_at}

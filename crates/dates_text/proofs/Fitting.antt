@@ -7,7 +7,7 @@ use Rattle.durations.specs.Table.{entry_in}
 use Rattle.schedule.specs.declared.decision.Decision.{Decision}
 use Rattle.schedule.specs.declared.decision.Schedule.{Schedule}
 use Rattle.schedule.specs.Acts.{run, acts_of}
-use Rattle.self_timed_laws.specs.Entries.{is_transfer}
+use Rattle.self_timed.specs.Entries.{is_transfer}
 use Rattle.self_timed.specs.declared.dates.Span.{Span}
 use Rattle.self_timed.specs.Told.{IsValidForSome, entries_of, reaction_at}
 use Rattle.actual_durations.proofs.Placed.{ops_there}

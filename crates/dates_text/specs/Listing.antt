@@ -24,7 +24,7 @@ use Rattle.schedule.specs.declared.decision.Schedule.{Schedule}
 use Rattle.schedule.specs.Acts.{Act, carry, run, acts}
 use Rattle.syn_base.specs.Bytes.{Bytes}
 use Rattle.timing_chart.specs.Chart.{Line, text_of, operation_name, operator_name}
-use Rattle.self_timed_laws.specs.Dates.{greatest}
+use Rattle.self_timed.specs.Dates.{greatest}
 use Rattle.self_timed.specs.declared.dates.Span.{Span}
 use Rattle.self_timed.specs.Running.{span}
 use Rattle.self_timed.specs.Told.{start_at, end_at}

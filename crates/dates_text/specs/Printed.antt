@@ -7,7 +7,7 @@ use Rattle.schedule.specs.declared.decision.Schedule.{Schedule}
 use Rattle.schedule.specs.Acts.{Act, acts}
 use Rattle.syn_base.specs.Bytes.{Bytes}
 use Rattle.timing_chart.specs.Chart.{text_of}
-use Rattle.self_timed_laws.specs.Entries.{entry_of}
+use Rattle.self_timed.specs.Entries.{entry_of}
 use Rattle.self_timed.specs.declared.dates.Span.{Span}
 use Rattle.self_timed.specs.Running.{span_in}
 use Rattle.self_timed.specs.Laid.{entry_after, next_after}

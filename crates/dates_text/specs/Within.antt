@@ -7,7 +7,7 @@ use Rattle.durations.specs.Table.{Table, entry_in}
 use Rattle.schedule.specs.declared.decision.Schedule.{Schedule}
 use Rattle.schedule.specs.Acts.{acts}
 use Rattle.schedule.specs.Valid.{is_valid}
-use Rattle.self_timed_laws.specs.Entries.{AreWithin}
+use Rattle.self_timed.specs.Entries.{AreWithin}
 use Rattle.self_timed.specs.Told.{HaveEntries, entries_of}
 use Rattle.actual_durations.specs.Actual.{actual_of}
 

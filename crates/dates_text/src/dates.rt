@@ -2,7 +2,7 @@
 ghost use Rattle.std.specs.Prelude.{◌≡◌, ◌≤◌, IfOk, length, replicate};
 ghost use Rattle.schedule.specs.Acts.{acts};
 ghost use Rattle.sequence_build_laws.specs.Built.{program_of};
-ghost use Rattle.self_timed_laws.specs.Entries.{AreWithin};
+ghost use Rattle.self_timed.specs.Entries.{AreWithin};
 ghost use Rattle.self_timed.specs.Told.{HaveEntries, IsValidForSome, entries_of};
 ghost use Rattle.dates_text.specs.Listing.{all_dates, dated_text};
 

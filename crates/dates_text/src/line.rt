@@ -7,10 +7,9 @@ ghost use Rattle.dates_text.specs.Listing.{act_line, medium_name};
 
 use archi_graph::Archi;
 use flat_graph::Flat;
-use grown_text::{append, append_count};
 use schedule::{Decision, Transfer};
 use self_timed::{Dates, Span};
-use syn_base::OutOfMemory;
+use syn_base::{OutOfMemory, append, append_count};
 
 /// A reaction whose dates are told, by its number, of a flat graph on an architecture.
 #[derive(Clone, Copy)]

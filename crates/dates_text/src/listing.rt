@@ -9,11 +9,10 @@ use crate::line::Reaction;
 use crate::reaction::append_reaction;
 use archi_graph::Archi;
 use flat_graph::Flat;
-use grown_text::{append, append_count};
 use schedule::{Decision, Schedule};
 use self_timed::Dates;
 use std::alloc::Global;
-use syn_base::OutOfMemory;
+use syn_base::{OutOfMemory, append, append_count};
 
 /// The text of the dates of a schedule: reaction by reaction and decision by decision, for each
 /// transfer the line `K on MEDIUM START END OPERATION PORT FROM TO`, and then for the operation

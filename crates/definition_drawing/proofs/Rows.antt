@@ -2,8 +2,8 @@
 use Rattle.std.proofs.Common.{◌≡◌, [], ◌∷◌, ◌++◌, Some, None, refl}
 use Rattle.std.specs.Prelude.{codes}
 use Rattle.std.specs.Fmt.{decimal}
-use Rattle.algo_defs.specs.declared.definition.Body.TheVariants.{Sensor, Delay}
-use Rattle.algo_defs.specs.declared.definition.Frontier.TheVariants.{Iterate}
+use Rattle.algo_text.specs.declared.definition.Body.TheVariants.{Sensor, Delay}
+use Rattle.algo_text.specs.declared.definition.Frontier.TheVariants.{Iterate}
 use Rattle.definition_drawing.specs.Words.{word_text}
 use Rattle.definition_drawing.specs.Drawing.{in_id, out_id, ref_id, rest_id, single_head, body_text, reference_text, link_text, frontier_text}
 

@@ -20,10 +20,10 @@ use Rattle.std.specs.List.{flat_map, list_any}
 use Rattle.std.specs.Str.{bytes_eq}
 use Rattle.syn_base.specs.Bytes.{Bytes}
 use Rattle.body_lang.specs.declared.expression.Port.{Port}
-use Rattle.algo_defs.specs.declared.definition.Def.{Def}
-use Rattle.algo_defs.specs.declared.definition.Defs.{Defs}
-use Rattle.algo_defs.specs.declared.definition.Body.{Body}
-use Rattle.algo_defs.specs.declared.definition.Body.TheVariants.{
+use Rattle.algo_text.specs.declared.definition.Def.{Def}
+use Rattle.algo_text.specs.declared.definition.Defs.{Defs}
+use Rattle.algo_text.specs.declared.definition.Body.{Body}
+use Rattle.algo_text.specs.declared.definition.Body.TheVariants.{
   Sensor,
   Actuator,
   Constant,
@@ -33,14 +33,14 @@ use Rattle.algo_defs.specs.declared.definition.Body.TheVariants.{
   Switch,
   Repeat,
 }
-use Rattle.algo_defs.specs.declared.definition.Output.{Output}
-use Rattle.algo_defs.specs.declared.definition.Reference.{Reference}
-use Rattle.algo_defs.specs.declared.definition.End.{End}
-use Rattle.algo_defs.specs.declared.definition.Edge.{Edge}
-use Rattle.algo_defs.specs.declared.definition.Case.{Case}
-use Rattle.algo_defs.specs.declared.definition.Frontier.{Frontier}
-use Rattle.algo_defs.specs.declared.definition.Frontier.TheVariants.{Fork, Diffuse, Iterate, Join}
-use Rattle.algo_defs.specs.declared.definition.FrontierLine.{FrontierLine}
+use Rattle.algo_text.specs.declared.definition.Output.{Output}
+use Rattle.algo_text.specs.declared.definition.Reference.{Reference}
+use Rattle.algo_text.specs.declared.definition.End.{End}
+use Rattle.algo_text.specs.declared.definition.Edge.{Edge}
+use Rattle.algo_text.specs.declared.definition.Case.{Case}
+use Rattle.algo_text.specs.declared.definition.Frontier.{Frontier}
+use Rattle.algo_text.specs.declared.definition.Frontier.TheVariants.{Fork, Diffuse, Iterate, Join}
+use Rattle.algo_text.specs.declared.definition.FrontierLine.{FrontierLine}
 use Rattle.definition_drawing.specs.declared.word.Word.TheVariants as word
 use Rattle.definition_drawing.specs.Words.{word_text}
 

@@ -7,10 +7,9 @@ use crate::frontier::{append_frontier, append_rest_id};
 use crate::line::{append_case, append_in, append_link, append_on, append_out, append_reference};
 use crate::piece::{append_in_id, begin, begin_label, begin_target, finish, finish_dotted};
 use crate::word::{Word, append_word};
-use algo_defs::{Case, Def, Edge, FrontierLine, Reference};
+use algo_text::{Case, Def, Edge, FrontierLine, Reference};
 use body_lang::Port;
-use grown_text::append;
-use syn_base::OutOfMemory;
+use syn_base::{OutOfMemory, append};
 
 /// Appends the inputs of a definition.
 pub fn append_ins(out: &mut Vec<u8>, def: &[u8], ports: &[Port]) -> Result<(), OutOfMemory>

@@ -12,11 +12,10 @@ use crate::frontier::append_copies;
 use crate::line::{append_on, append_port};
 use crate::piece::{begin, begin_label, finish};
 use crate::word::{Word, append_word, bytes_of};
-use algo_defs::{Body, Case, Def, Defs, Edge, FrontierLine, Output, Reference};
+use algo_text::{Body, Case, Def, Defs, Edge, FrontierLine, Output, Reference};
 use body_lang::Port;
-use grown_text::{append, append_count};
 use std::alloc::Global;
-use syn_base::OutOfMemory;
+use syn_base::{OutOfMemory, append, append_count};
 
 /// Appends the drawing of the definitions of an algorithm, in their order: a sensor, an actuator, a
 /// constant, a delay and a function as a node that tells its ports, delays dashed; a graph as a

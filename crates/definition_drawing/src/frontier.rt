@@ -7,9 +7,8 @@ ghost use Rattle.definition_drawing.specs.Drawing.{copies_text, edge_text, feed_
 
 use crate::piece::{append_in_id, append_out_id, begin, begin_label, begin_target, finish};
 use crate::word::{Word, append_word, bytes_of};
-use algo_defs::Frontier;
-use grown_text::{append, append_count};
-use syn_base::OutOfMemory;
+use algo_text::Frontier;
+use syn_base::{OutOfMemory, append, append_count};
 
 /// Appends the copies of a definition.
 pub fn append_copies(

@@ -9,10 +9,9 @@ use crate::piece::{
     finish_dotted,
 };
 use crate::word::{Word, append_word};
-use algo_defs::{Body, Case, Def, Edge, End, Reference};
+use algo_text::{Body, Case, Def, Edge, End, Reference};
 use body_lang::Port;
-use grown_text::{append, append_count};
-use syn_base::{OutOfMemory, print_int};
+use syn_base::{OutOfMemory, append, append_count, print_int};
 
 /// Appends the name and the length of a port.
 #[tactic(auto, unfolding(crate::specs::Drawing::port_label))]

@@ -4,8 +4,7 @@ ghost use Rattle.definition_drawing.specs.Drawing.{in_id, out_id, ref_id};
 ghost use Rattle.std.specs.Prelude.{◌≡◌, ◌++◌, OnOk};
 
 use crate::word::{Word, append_word};
-use grown_text::append;
-use syn_base::OutOfMemory;
+use syn_base::{OutOfMemory, append};
 
 /// Appends the identifier of an input.
 #[tactic(auto, unfolding(crate::specs::Drawing::in_id))]

@@ -2,8 +2,7 @@
 ghost use Rattle.std.specs.Prelude.{◌≡◌, ◌++◌, OnOk};
 ghost use Rattle.definition_drawing.specs.Words.{word_text};
 
-use grown_text::append;
-use syn_base::OutOfMemory;
+use syn_base::{OutOfMemory, append};
 
 /// A word between what a drawing tells.
 #[derive(Clone, Copy)]

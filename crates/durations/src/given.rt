@@ -8,10 +8,10 @@ ghost use Rattle.durations.specs.Given.{first_of, ticks_at, AreFound};
 
 use archi_defs::DurationLine;
 use indexmap::IndexMap;
-use name_table::TableKey;
 use std::alloc::Global;
 use std::marker::Model;
 use syn_base::OutOfMemory;
+use text_lines::TableKey;
 
 /// The definitions that have a duration on one operator, with their ticks.
 #[derive(Drop)]

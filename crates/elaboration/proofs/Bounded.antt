@@ -2,13 +2,13 @@
 use Rattle.std.proofs.Common.{◌≡◌, ◌==◌, Bool, true, false, List, length, Result, Ok, Err, ◌⊎◌, inl, inr, sym, ap, ◌∙◌, if◌then◌else◌}
 use Rattle.algo_tree.specs.Size.{is_large}
 use Rattle.algo_tree.specs.Tree.{Vertex}
-use Rattle.algo_defs.specs.Returned.{Gives, GivesList}
-use Rattle.algo_defs.specs.declared.definition.Def.{Def}
-use Rattle.algo_defs.specs.declared.definition.Defs.{Defs}
+use Rattle.algo_text.specs.Returned.{Gives, GivesList}
+use Rattle.algo_text.specs.declared.definition.Def.{Def}
+use Rattle.algo_text.specs.declared.definition.Defs.{Defs}
 use Rattle.syn_base.specs.declared.limits.LimitFault.{LimitFault}
-use Rattle.algo_defs.specs.declared.fault.AlgoFault.{AlgoFault}
-use Rattle.algo_defs.specs.declared.fault.AlgoError.{AlgoError}
-use Rattle.algo_defs.specs.declared.fault.AlgoError.TheVariants.{Refused, Limit, TooLarge, OutOfMemory}
+use Rattle.algo_text.specs.declared.fault.AlgoFault.{AlgoFault}
+use Rattle.algo_text.specs.declared.fault.AlgoError.{AlgoError}
+use Rattle.algo_text.specs.declared.fault.AlgoError.TheVariants.{Refused, Limit, TooLarge, OutOfMemory}
 use Rattle.algo_rules.specs.Resolved.{resolution_of}
 use Rattle.algo_rules.specs.WellRead.{AreWellRead}
 use Rattle.algo_resolve.specs.Within.{within_bound}
@@ -17,7 +17,7 @@ use Rattle.multi_period.specs.declared.fault.PeriodError.{PeriodError}
 use Rattle.multi_period.specs.declared.fault.PeriodError.TheVariants as period
 use Rattle.multi_period.specs.declared.mark.Mark.{Mark}
 use Rattle.multi_period.specs.Within as made
-use Rattle.period_marks.specs.Marking.{marking_of}
+use Rattle.elaboration.specs.Marking.{marking_of}
 use Rattle.elaboration.specs.Elaborated.{bounded_by, bounded_elaboration, elaboration_of, made_by, marked_by, of_periods, resolved_by}
 use Rattle.elaboration.proofs.Resolved.{not_given, unmarked_is}
 

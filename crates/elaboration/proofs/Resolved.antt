@@ -4,20 +4,20 @@ use Rattle.std.proofs.lemmas.Bool.{eqb-true}
 use Rattle.algo_tree.specs.Tree.{Vertex}
 use Rattle.algo_tree.specs.Counted.{operations}
 use Rattle.algo_tree.specs.Valid.{IsTree}
-use Rattle.algo_defs.specs.declared.definition.Def.{Def}
-use Rattle.algo_defs.specs.declared.fault.AlgoError.{AlgoError}
+use Rattle.algo_text.specs.declared.definition.Def.{Def}
+use Rattle.algo_text.specs.declared.fault.AlgoError.{AlgoError}
 use Rattle.algo_rules.specs.Resolved.{tree_of, refusal, resolution_of, resolved_by as told_by}
 use Rattle.algo_rules.specs.WellRead.{AreWellRead}
-use Rattle.operation_paths.specs.Bounded.{HasBounds}
-use Rattle.operation_paths.specs.Named.{HasNames}
-use Rattle.tree_laws.proofs.Bounds.{have_bounds}
-use Rattle.tree_laws.proofs.Names.{have_names}
-use Rattle.tree_laws.proofs.Trees.{make_a_tree}
+use Rattle.algo_tree.specs.Bounded.{HasBounds}
+use Rattle.algo_tree.specs.Named.{HasNames}
+use Rattle.algo_laws.proofs.Bounds.{have_bounds}
+use Rattle.algo_laws.proofs.Names.{have_names}
+use Rattle.algo_laws.proofs.Trees.{make_a_tree}
 use Rattle.multi_period.specs.declared.mark.Mark.{Mark}
 use Rattle.multi_period.specs.Within.{made_within}
 use Rattle.multi_period.proofs.Main.{unmarked-stays}
 use Rattle.multi_period.proofs.Passed.{gives_made}
-use Rattle.period_marks.specs.Marking.{marking_of}
+use Rattle.elaboration.specs.Marking.{marking_of}
 use Rattle.elaboration.specs.Elaborated.{made_by, marked_by, resolved_by}
 
 abbrev pub gives : Vertex → Result Vertex AlgoError

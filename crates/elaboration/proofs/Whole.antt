@@ -6,24 +6,24 @@ use Rattle.syn_base.specs.declared.limits.LimitKind.TheVariants.{Operations}
 use Rattle.syn_base.specs.Limits.{bound_of}
 use Rattle.algo_tree.specs.Tree.{Vertex}
 use Rattle.algo_tree.specs.Counted.{operations}
-use Rattle.algo_defs.specs.declared.definition.Def.{Def}
-use Rattle.algo_defs.specs.declared.definition.Reference.{Reference}
-use Rattle.algo_defs.specs.declared.fault.AlgoError.{AlgoError}
-use Rattle.algo_defs.specs.declared.fault.AlgoError.TheVariants as error
+use Rattle.algo_text.specs.declared.definition.Def.{Def}
+use Rattle.algo_text.specs.declared.definition.Reference.{Reference}
+use Rattle.algo_text.specs.declared.fault.AlgoError.{AlgoError}
+use Rattle.algo_text.specs.declared.fault.AlgoError.TheVariants as error
 use Rattle.algo_rules.specs.Resolved.{resolution_of}
 use Rattle.algo_rules.specs.WellRead.{AreWellRead}
-use Rattle.reading_laws.specs.Periods as text
-use Rattle.reading_laws.proofs.Lines.{accepted_well}
-use Rattle.reading_laws.proofs.Marks.{accepted_marked}
+use Rattle.algo_laws.specs.Periods as text
+use Rattle.algo_laws.proofs.Lines.{accepted_well}
+use Rattle.algo_laws.proofs.Marks.{accepted_marked}
 use Rattle.multi_period.specs.declared.fault.PeriodError.TheVariants.{Limit}
 use Rattle.multi_period.specs.declared.mark.Mark.{Mark}
 use Rattle.multi_period.specs.Periods.{periods}
 use Rattle.multi_period.proofs.Main.{periods-keep}
 use Rattle.multi_period.proofs.Names.{names-keep, bounds-keep}
 use Rattle.multi_period.proofs.Trees.{tree-made}
-use Rattle.period_marks.specs.Marking.{marking_of, references_of}
-use Rattle.period_marks.specs.Stand.{IsPeriod, HavePeriods}
-use Rattle.period_marks.proofs.Trees.{marks_stand}
+use Rattle.elaboration.specs.Marking.{marking_of, references_of}
+use Rattle.elaboration.specs.Stand.{IsPeriod, HavePeriods}
+use Rattle.elaboration.proofs.Trees.{marks_stand}
 use Rattle.elaboration.specs.Elaborated.{made_by, marked_by, resolved_by}
 use Rattle.elaboration.specs.Laws.{AcceptedAreElaborated, IsElaborated}
 use Rattle.elaboration.proofs.Resolved.{not_given, same_tree, sound}

@@ -1,17 +1,17 @@
 -- The tree that the definitions of a text mean, or their first refusal.
 use Rattle.std.specs.Prelude.{List, Result, Ok, Err}
 use Rattle.algo_tree.specs.Tree.{Vertex}
-use Rattle.algo_defs.specs.declared.definition.Def.{Def}
-use Rattle.algo_defs.specs.declared.definition.Defs.{Defs}
-use Rattle.algo_defs.specs.declared.fault.AlgoError.{AlgoError}
-use Rattle.algo_defs.specs.declared.fault.AlgoError.TheVariants.{Limit, OutOfMemory}
+use Rattle.algo_text.specs.declared.definition.Def.{Def}
+use Rattle.algo_text.specs.declared.definition.Defs.{Defs}
+use Rattle.algo_text.specs.declared.fault.AlgoError.{AlgoError}
+use Rattle.algo_text.specs.declared.fault.AlgoError.TheVariants.{Limit, OutOfMemory}
 use Rattle.algo_resolve.specs.Within.{within_bound}
 use Rattle.algo_rules.specs.Resolved.{resolution_of}
 use Rattle.multi_period.specs.declared.fault.PeriodError.{PeriodError}
 use Rattle.multi_period.specs.declared.fault.PeriodError.TheVariants as period
 use Rattle.multi_period.specs.declared.mark.Mark.{Mark}
 use Rattle.multi_period.specs.Within.{made_within}
-use Rattle.period_marks.specs.Marking.{marking_of}
+use Rattle.elaboration.specs.Marking.{marking_of}
 
 -- A refusal of the made tree, as one of the text.
 abbrev pub of_periods : PeriodError → AlgoError

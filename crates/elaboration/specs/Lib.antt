@@ -1,2 +1,5 @@
+pub mod Marking
+pub mod Walked
+pub mod Stand
 pub mod Elaborated
 pub mod Laws

@@ -1,26 +1,35 @@
-//! Makes the tree that an algorithm text means: the one to which its definitions resolve, with a
-//! graph in the place of each reference that runs in every nth reaction.
+//! Makes the tree that an algorithm text means: the one to which its definitions resolve, with a graph in the
+//! place of each reference that runs in every nth reaction.
 //!
-//! `elaborate` makes it of the definitions that were read, and the law says what the tree of an accepted text is.
-//! `syndex_program` calls it, and `accepted_laws` stands on the law.
+//! `elaborate` makes it of the definitions that were read, and the law says what the tree of an accepted text
+//! is. `syndex_program` calls it, and `accepted_laws` stands on the law.
+//!
+//! `marks` reads which references of `main` run in every nth reaction alone, or finds the first mark on a
+//! reference that may have none. The law `accepted_marks_stand` says that accepted marks may stand in the tree
+//! that the definitions resolve to, so that `multi_period` makes its tree from both.
 #![tactic(auto)]
+
+mod mark_laws;
+mod marking;
+mod standing;
 
 ghost use Rattle.std.specs.Prelude.{◌≡◌, ◌≤◌, IfOk, length};
 ghost use Rattle.syn_base.specs.Limits.{most_in_text};
-ghost use Rattle.algo_defs.specs.Returned.{Gives};
+ghost use Rattle.algo_text.specs.Returned.{Gives};
 ghost use Rattle.algo_rules.specs.WellRead.{AreWellRead};
 ghost use Rattle.algo_tree.specs.Size.{vertices_made};
-ghost use Rattle.operation_paths.specs.Bounded.{HasBounds};
-ghost use Rattle.operation_paths.specs.Named.{HasNames};
-ghost use Rattle.period_marks.specs.Stand.{HavePeriods};
+ghost use Rattle.algo_tree.specs.Bounded.{HasBounds};
+ghost use Rattle.algo_tree.specs.Named.{HasNames};
+ghost use Rattle.elaboration.specs.Stand.{HavePeriods};
 ghost use Rattle.elaboration.specs.Elaborated.{bounded_elaboration, of_periods};
 ghost use Rattle.elaboration.specs.Laws.{AcceptedAreElaborated};
 
-use algo_defs::{AlgoError, Defs};
 use algo_resolve::resolve;
+use algo_text::{AlgoError, Defs};
 use algo_tree::{Tree, is_large};
+pub use mark_laws::accepted_marks_stand;
+pub use marking::marks;
 use multi_period::{PeriodError, periods};
-use period_marks::{accepted_marks_stand, marks};
 use std::alloc::Global;
 
 /// The tree of the definitions of a text, or their first refusal: those of resolving, the bound on vertices

@@ -1,6 +1,6 @@
 -- The micro-steps of a program's sequences as the code keeps them.
 use Rattle.std.specs.Prelude.{◌≡◌, ℕ, ◌+◌, ◌*◌, cond, nat_lt, length, List, map, Option, None}
-use Rattle.consistent_cuts.specs.Sites.{Code, step_at}
+use Rattle.interleavings.specs.Sites.{Code, step_at}
 use Rattle.executive_program.specs.declared.steps.MicroStep.{MicroStep}
 use Rattle.executive_program.specs.declared.program.SeqCode.{SeqCode}
 use Rattle.executive_program.specs.declared.program.Program.{Program}

@@ -27,7 +27,7 @@ use Rattle.std.specs.Prelude.{
 }
 use Rattle.std.specs.List.{count_by}
 use Rattle.interleavings.specs.Owners.{sum_below}
-use Rattle.consistent_cuts.specs.Sites.{Code}
+use Rattle.interleavings.specs.Sites.{Code}
 use Rattle.executive_program.specs.declared.program.Instr.{Instr}
 use Rattle.executive_program.specs.declared.program.Instr.TheVariants.{Suc0, Suc1, Pre0, Pre1, Call, Send, Recv, Sync}
 use Rattle.executive_program.specs.declared.program.SeqCode.{SeqCode}

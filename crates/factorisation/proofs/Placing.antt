@@ -3,7 +3,7 @@ use Rattle.std.proofs.Common.{◌≡◌, ℕ, zero, suc, ◌+◌, ◌-◌, ◌<�
 use Rattle.std.proofs.lemmas.Bool.{lt-leb}
 use Rattle.std.specs.List.{insert}
 use Rattle.level_meaning.specs.declared.frontier.Feed.{Feed}
-use Rattle.factorisation_laws.specs.Lines.{outer_of, put_line, in_line_order}
+use Rattle.flat_laws.specs.Lines.{outer_of, put_line, in_line_order}
 
 -- after a line that stands before it
 put-later : (f g : Feed) (gs : List Feed) → outer_of g < outer_of f → put_line f (g ∷ gs) ≡ g ∷ put_line f gs

@@ -2,10 +2,10 @@
 use Rattle.std.proofs.Common.{◌≡◌, suc, ◌+◌, refl, ap, ap₂, ◌∙◌}
 use Rattle.algo_tree.specs.Tree.{Label, Kind, sensor, actuator, constant, delay, function, explode, implode, merge, graph, switch, repeat, Vertex, vertex, Vertices, no_vertices, and_vertex}
 use Rattle.algo_tree.specs.Well.{IsWell, AllWell}
-use Rattle.factorisation_laws.specs.Unrolled.{unrolled_at, unroll, unroll_all}
-use Rattle.factorisation_laws.proofs.Unroll.{IsRepeatable, can_unroll, repeatable-unrolled}
+use Rattle.flat_laws.specs.Unrolled.{unrolled_at, unroll, unroll_all}
+use Rattle.flat_laws.proofs.Unroll.{IsRepeatable, can_unroll, repeatable-unrolled}
 use Rattle.algo_tree.specs.Size.{size, size_all, made_by, vertices_made, vertices_made_in}
-use Rattle.factorisation_laws.proofs.Summed.{summed-repeat}
+use Rattle.flat_laws.proofs.Summed.{summed-repeat}
 
 sized-at : (l : Label) (k : Kind) (us : Vertices) → IsRepeatable k us → size (unrolled_at l k us) ≡ made_by k (size_all us)
 sized-at l (repeat n feeds gives) us h = ap suc (summed-repeat size size_all refl (λ u us. refl) (λ d name ins outs. refl) (λ d name ins outs. refl) (λ c feeds lb vs i. refl) l n feeds gives us h.0.1)

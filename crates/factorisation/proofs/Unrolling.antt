@@ -18,9 +18,9 @@ use Rattle.algo_tree.specs.declared.vertex.Vertex.{Vertex as Declared, out-Verte
 use Rattle.algo_tree.specs.declared.vertex.Kind as declared
 use Rattle.algo_tree.specs.declared.vertex.Kind.TheVariants.{Repeat}
 use Rattle.algo_tree.proofs.Views.{view_out}
-use Rattle.factorisation_laws.specs.Lines.{in_line_order}
-use Rattle.pass_laws.specs.Relabelled.{with_kind}
-use Rattle.factorisation_laws.specs.Unrolled.{explodes, copy, copies, implodes, give_sources, unrolled_inside, unrolled_at, unroll, unroll_all}
+use Rattle.flat_laws.specs.Lines.{in_line_order}
+use Rattle.algo_tree.specs.Relabelled.{with_kind}
+use Rattle.flat_laws.specs.Unrolled.{explodes, copy, copies, implodes, give_sources, unrolled_inside, unrolled_at, unroll, unroll_all}
 use Rattle.algo_tree.specs.Size.{made_by, vertices_made, vertices_made_in}
 
 abbrev pub inner_of : Declared → List Declared

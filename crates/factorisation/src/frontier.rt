@@ -4,14 +4,13 @@ ghost use Rattle.std.specs.Prelude.{◌≡◌, ◌<◌, ◌≤◌, ◌+◌, ◌+
 ghost use Rattle.level_meaning.specs.Level.{numbers_below};
 ghost use Rattle.algo_tree.specs.View.{kind_view, view};
 ghost use Rattle.algo_tree.specs.Well.{fork_names, join_names};
-ghost use Rattle.factorisation_laws.specs.Unrolled.{made as vertex_made, explode_of, implode_of, explodes as exploded, implodes as imploded, copy_sources, give_sources as sources_given};
+ghost use Rattle.flat_laws.specs.Unrolled.{made as vertex_made, explode_of, implode_of, explodes as exploded, implodes as imploded, copy_sources, give_sources as sources_given};
 
 use crate::lines::place_of;
 use algo_tree::{Kind, MOST_VERTICES, Vertex, copy_bytes};
 use level_meaning::{Feed, Give, Part, Source};
-use shared_items::Shared;
 use std::alloc::Global;
-use syn_base::{OutOfMemory, len_at};
+use syn_base::{OutOfMemory, Shared, len_at};
 
 /// The copies of a repetition: the number of the first, and how many there are.
 #[derive(Clone, Copy)]

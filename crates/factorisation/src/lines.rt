@@ -3,7 +3,7 @@
 ghost use Rattle.std.specs.Prelude.{◌≡◌, ◌≤◌, ◌<◌, IfOk, length, map};
 ghost use Rattle.std.specs.List.{insert};
 ghost use Rattle.algo_tree.specs.Well.{fork_names};
-ghost use Rattle.factorisation_laws.specs.Lines.{fork_place, in_line_order as ordered, outer_of as outer_input, put_line};
+ghost use Rattle.flat_laws.specs.Lines.{fork_place, in_line_order as ordered, outer_of as outer_input, put_line};
 
 use algo_tree::MOST_VERTICES;
 use level_meaning::Feed;

@@ -7,11 +7,11 @@ ghost use Rattle.algo_tree.specs.Meaning.{vertices_in};
 ghost use Rattle.algo_tree.specs.Typed.{label_of};
 ghost use Rattle.algo_tree.specs.View.{view, vertices_view};
 ghost use Rattle.algo_tree.specs.Well.{fork_names, IsOne, IsWell, AllWell};
-ghost use Rattle.operation_paths.specs.Named.{HasNames};
-ghost use Rattle.pass_laws.specs.SameMeaning.{KeepsMeaning};
-ghost use Rattle.pass_laws.specs.NoRepeat.{HasNoRepeat};
-ghost use Rattle.factorisation_laws.specs.Lines.{in_line_order as ordered};
-ghost use Rattle.factorisation_laws.specs.Unrolled.{copies as copied, unroll as unrolled, unroll_all, unrolled_inside};
+ghost use Rattle.algo_tree.specs.Named.{HasNames};
+ghost use Rattle.algo_tree.specs.SameMeaning.{KeepsMeaning};
+ghost use Rattle.algo_tree.specs.NoRepeat.{HasNoRepeat};
+ghost use Rattle.flat_laws.specs.Lines.{in_line_order as ordered};
+ghost use Rattle.flat_laws.specs.Unrolled.{copies as copied, unroll as unrolled, unroll_all, unrolled_inside};
 ghost use Rattle.algo_tree.specs.Size.{is_large as large, size, vertices_made, vertices_made_in};
 
 use crate::frontier::{Copies, add_implodes, begin_of, explodes};

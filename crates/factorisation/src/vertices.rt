@@ -6,16 +6,15 @@ ghost use Rattle.algo_tree.specs.Meaning.{vertices_in};
 ghost use Rattle.algo_tree.specs.Typed.{label_of};
 ghost use Rattle.algo_tree.specs.View.{kind_view, label_view, view, vertices_view};
 ghost use Rattle.algo_tree.specs.Well.{fork_names, join_names};
-ghost use Rattle.factorisation_laws.specs.Lines.{in_line_order};
-ghost use Rattle.pass_laws.specs.Relabelled.{with_kind};
-ghost use Rattle.factorisation_laws.specs.Unrolled.{copy, give_sources as sources_given};
+ghost use Rattle.flat_laws.specs.Lines.{in_line_order};
+ghost use Rattle.algo_tree.specs.Relabelled.{with_kind};
+ghost use Rattle.flat_laws.specs.Unrolled.{copy, give_sources as sources_given};
 
 use crate::frontier::{Copies, copy_ins, give_sources};
 use algo_tree::{Kind, MOST_VERTICES, Vertex, rebuild};
 use level_meaning::{Feed, Give, Part};
-use shared_items::Shared;
 use std::alloc::Global;
-use syn_base::OutOfMemory;
+use syn_base::{OutOfMemory, Shared};
 
 /// The graph that a repetition with these copies and outputs becomes, with what stands inside it.
 pub fn as_graph(

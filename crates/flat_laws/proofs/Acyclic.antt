@@ -21,11 +21,11 @@ use Rattle.flat_graph.specs.Order.{depends_on, get_half, is_acyclic}
 use Rattle.flat_graph.specs.Cycles.{DependsOn, LeadsTo, at_once, through, AllAreThere}
 use Rattle.flat_graph.specs.Meaning.{level_source, level_guard, is_get}
 use Rattle.flat_graph.proofs.Loops.{rounds_find_cycles}
-use Rattle.inlining_laws.specs.Flat as list
-use Rattle.inlining_laws.specs.Flat.{Operation, sets, flat_level, no_state}
-use Rattle.inlining_laws.specs.Inlined.{operations}
-use Rattle.inlining_laws.specs.Plain.{IsPlain}
-use Rattle.inlining_laws.proofs.Flatten.{flatten-keeps}
+use Rattle.flat_laws.specs.Flat as list
+use Rattle.flat_laws.specs.Flat.{Operation, sets, flat_level, no_state}
+use Rattle.flat_laws.specs.Inlined.{operations}
+use Rattle.flat_laws.specs.Plain.{IsPlain}
+use Rattle.flat_laws.proofs.Flatten.{flatten-keeps}
 use Rattle.flat_laws.specs.Stands.{task_of, operation_at, IsTwin, AllStand, Stands}
 use Rattle.flat_laws.proofs.Stands.{get_task, vertex_of}
 use Rattle.flat_laws.proofs.Halves.{Follow, follow-main, follow-at}

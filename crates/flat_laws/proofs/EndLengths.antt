@@ -14,11 +14,11 @@ use Rattle.flat_graph.specs.declared.vertex.Kind.TheVariants.{Sensor, Actuator, 
 use Rattle.flat_graph.specs.declared.vertex.Vertex.{Vertex}
 use Rattle.flat_graph.specs.Graph.{Graph, lens_of}
 use Rattle.flat_graph.specs.Laws.{sensor_len, sensor_lens}
-use Rattle.inlining_laws.specs.Flat.{Operation, Task, runs, gets, sets}
-use Rattle.inlining_laws.specs.Inlined.{wire, wirings, operations}
-use Rattle.inlining_laws.specs.Plain.{IsPlain}
-use Rattle.inlining_laws.proofs.Inlinable.{IsKindInlinable, CanInline, can_inline}
-use Rattle.pass_laws.proofs.Lists.{map_map}
+use Rattle.flat_laws.specs.Flat.{Operation, Task, runs, gets, sets}
+use Rattle.flat_laws.specs.Inlined.{wire, wirings, operations}
+use Rattle.flat_laws.specs.Plain.{IsPlain}
+use Rattle.flat_laws.proofs.Inlinable.{IsKindInlinable, CanInline, can_inline}
+use Rattle.algo_tree.proofs.Lists.{map_map}
 use Rattle.flat_laws.specs.EndLengths.{actuator_len, actuator_lens, HasEndLengths}
 use Rattle.flat_laws.specs.Stands.{task_of, AllStand, Stands}
 use Rattle.flat_laws.proofs.Ends.{IsNoEndTask, told_in, told_of, main_wire, told-main}

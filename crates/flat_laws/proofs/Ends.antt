@@ -7,8 +7,8 @@ use Rattle.algo_tree.specs.Tree.{Label, Kind, sensor, actuator, constant, delay,
 use Rattle.algo_tree.specs.Counted.{operations as count}
 use Rattle.algo_tree.specs.Ends.{IsNoEnd, HasNoEnds, AllNoEnds, NoneInside}
 use Rattle.algo_tree.specs.Meaning.{vertices_in}
-use Rattle.inlining_laws.specs.Flat.{Operation, Task, runs, gets, sets}
-use Rattle.inlining_laws.specs.Inlined.{wire, wirings, operation_of, stage_input, stages, inlined_by, inlined, inlined_all, operations}
+use Rattle.flat_laws.specs.Flat.{Operation, Task, runs, gets, sets}
+use Rattle.flat_laws.specs.Inlined.{wire, wirings, operation_of, stage_input, stages, inlined_by, inlined, inlined_all, operations}
 
 abbrev pub IsNoEndTask : Task → Type 0
 IsNoEndTask (runs k) = IsNoEnd k

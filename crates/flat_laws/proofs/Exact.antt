@@ -11,7 +11,7 @@ use Rattle.flat_graph.specs.declared.vertex.Kind.TheVariants.{Sensor, Actuator, 
 use Rattle.flat_graph.specs.declared.vertex.Vertex.{Vertex}
 use Rattle.flat_graph.specs.Graph.{Graph}
 use Rattle.flat_graph.specs.Meaning.{level_source, level_guard}
-use Rattle.inlining_laws.specs.Flat.{Operation, Task, runs, gets, sets}
+use Rattle.flat_laws.specs.Flat.{Operation, Task, runs, gets, sets}
 use Rattle.flat_laws.specs.Stands.{task_of, operation_at, IsTwin, StandsFor, AllStand, Stands}
 use Rattle.flat_laws.specs.FlatOf.{flat_source, flat_guard, flat_kind, twin_of, body_of, vertex_of, vertices_from, bodies_of, graph_of}
 use Rattle.flat_laws.specs.Names.{name_of}

@@ -9,12 +9,12 @@ use Rattle.algo_tree.specs.Meaning.{nodes}
 use Rattle.algo_tree.specs.Typed.{AreGroups, AreLengths, AreGuardsTyped, label_of, outs_of, source_length, IsKindTyped, IsTyped, AllTyped, IsBodyTyped}
 use Rattle.algo_tree.specs.Valid.{IsTree}
 use Rattle.algo_tree.specs.Counted.{operations as count}
-use Rattle.inlining_laws.specs.Flat.{Operation, Task, runs, gets, sets, is_get}
-use Rattle.inlining_laws.specs.Inlined.{wire, wirings, wire_guard, operation_of, stage_input, stages, inlined_by, inlined, inlined_all, operations}
-use Rattle.inlining_laws.specs.Plain.{IsPlain}
-use Rattle.inlining_laws.proofs.Inlinable.{IsKindInlinable, CanInline, AllCanInline, can_inline}
-use Rattle.pass_laws.proofs.Lists.{map_map}
-use Rattle.inlining_laws.proofs.Wires.{long-inlined}
+use Rattle.flat_laws.specs.Flat.{Operation, Task, runs, gets, sets, is_get}
+use Rattle.flat_laws.specs.Inlined.{wire, wirings, wire_guard, operation_of, stage_input, stages, inlined_by, inlined, inlined_all, operations}
+use Rattle.flat_laws.specs.Plain.{IsPlain}
+use Rattle.flat_laws.proofs.Inlinable.{IsKindInlinable, CanInline, AllCanInline, can_inline}
+use Rattle.algo_tree.proofs.Lists.{map_map}
+use Rattle.flat_laws.proofs.Wires.{long-inlined}
 use Rattle.flat_laws.proofs.Lengths.{same_map, Outs, outs-left, outs-right, at_same, Measures, measures-all}
 
 -- the inputs and outputs of an operation that does what a vertex of this kind does

@@ -6,23 +6,23 @@ use Rattle.algo_tree.specs.Valid.{IsTree}
 use Rattle.algo_tree.specs.Counted.{operations as count}
 use Rattle.flat_graph.specs.Graph.{Graph}
 use Rattle.flat_graph.specs.Valid.{is_flat}
-use Rattle.pass_laws.specs.SameMeaning.{KeepsMeaning}
-use Rattle.pass_laws.proofs.Passes.{keeps_by_steps}
-use Rattle.factorisation_laws.specs.Unrolled.{unroll}
-use Rattle.factorisation_laws.proofs.Unroll.{unroll_main-keeps}
-use Rattle.factorisation_laws.proofs.Unrepeated.{no-unroll}
-use Rattle.factorisation_laws.proofs.Counting.{counted-unroll}
-use Rattle.factorisation_laws.proofs.Trees.{tree-unroll}
-use Rattle.conditioning_laws.specs.Guarded.{guard}
-use Rattle.conditioning_laws.proofs.Guard.{guard_main-keeps}
-use Rattle.conditioning_laws.proofs.Uncased.{no_case, no_repeat}
-use Rattle.conditioning_laws.proofs.Counting.{counted-guarded}
-use Rattle.conditioning_laws.proofs.Trees.{tree-guard}
-use Rattle.inlining_laws.specs.Inlined.{operations}
-use Rattle.inlining_laws.specs.Plain.{IsPlain}
-use Rattle.inlining_laws.proofs.Flatten.{flatten-count}
-use Rattle.operation_paths.specs.Named.{HasNames}
-use Rattle.operation_paths.specs.Bounded.{HasBounds}
+use Rattle.algo_tree.specs.SameMeaning.{KeepsMeaning}
+use Rattle.algo_tree.proofs.Passes.{keeps_by_steps}
+use Rattle.flat_laws.specs.Unrolled.{unroll}
+use Rattle.flat_laws.proofs.Unroll.{unroll_main-keeps}
+use Rattle.flat_laws.proofs.Unrepeated.{no-unroll}
+use Rattle.flat_laws.proofs.UnrolledCounting.{counted-unroll}
+use Rattle.flat_laws.proofs.UnrolledTrees.{tree-unroll}
+use Rattle.flat_laws.specs.Guarded.{guard}
+use Rattle.flat_laws.proofs.Guard.{guard_main-keeps}
+use Rattle.flat_laws.proofs.Uncased.{no_case, no_repeat}
+use Rattle.flat_laws.proofs.GuardedCounting.{counted-guarded}
+use Rattle.flat_laws.proofs.GuardedTrees.{tree-guard}
+use Rattle.flat_laws.specs.Inlined.{operations}
+use Rattle.flat_laws.specs.Plain.{IsPlain}
+use Rattle.flat_laws.proofs.Flatten.{flatten-count}
+use Rattle.algo_tree.specs.Named.{HasNames}
+use Rattle.algo_tree.specs.Bounded.{HasBounds}
 use Rattle.flat_laws.specs.Stands.{Stands, KeepsGraph}
 use Rattle.flat_laws.specs.EndLengths.{HasEndLengths}
 use Rattle.flat_laws.proofs.Stands.{stands-keeps}

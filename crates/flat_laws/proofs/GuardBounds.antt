@@ -4,8 +4,8 @@ use Rattle.level_meaning.specs.declared.source.Guard.{Guard}
 use Rattle.algo_tree.specs.Code.{count_of, join}
 use Rattle.algo_tree.specs.Tree.{Label, Kind, sensor, actuator, constant, delay, function, explode, implode, merge, graph, switch, repeat, Vertex, vertex, Vertices, no_vertices, and_vertex}
 use Rattle.algo_tree.specs.Valid.{IsTree}
-use Rattle.conditioning_laws.specs.Guarded.{own_guards, guard_for, merges, guarded_by, guarded, guarded_all, guarded_cases, guard}
-use Rattle.operation_paths.specs.Bounded.{IsKindBounded, IsLabelBounded, IsBounded, AllBounded, HasBounds}
+use Rattle.flat_laws.specs.Guarded.{own_guards, guard_for, merges, guarded_by, guarded, guarded_all, guarded_cases, guard}
+use Rattle.algo_tree.specs.Bounded.{IsKindBounded, IsLabelBounded, IsBounded, AllBounded, HasBounds}
 
 join-bounded : (us vs : Vertices) → AllBounded us → AllBounded vs → AllBounded (join us vs)
 join-bounded no_vertices vs h k = k

@@ -8,9 +8,9 @@ use Rattle.algo_tree.specs.Ends.{sensor_length, actuator_length, sensor_lengths_
 use Rattle.algo_tree.specs.Meaning.{vertices_in}
 use Rattle.algo_tree.specs.Typed.{label_of, outs_of, source_length}
 use Rattle.algo_tree.specs.Valid.{IsTree}
-use Rattle.factorisation_laws.specs.Unrolled.{unrolled_at, unroll, unroll_all}
-use Rattle.factorisation_laws.proofs.Labels.{unrolled_kind, label-unroll, outs-unroll}
-use Rattle.conditioning_laws.specs.Guarded.{shift, guarded_by, guarded, guarded_all, guarded_cases, guard}
+use Rattle.flat_laws.specs.Unrolled.{unrolled_at, unroll, unroll_all}
+use Rattle.flat_laws.proofs.Labels.{unrolled_kind, label-unroll, outs-unroll}
+use Rattle.flat_laws.specs.Guarded.{shift, guarded_by, guarded, guarded_all, guarded_cases, guard}
 
 -- two levels of the same sensors and actuators
 pub record SameEnds (us vs : Vertices) : Type 0 where

@@ -16,8 +16,8 @@ use Rattle.flat_graph.specs.declared.vertex.Vertex.{Vertex}
 use Rattle.flat_graph.specs.Graph.{len_of, lens_of}
 use Rattle.flat_graph.specs.Meaning.{level_source, level_guard}
 use Rattle.flat_graph.specs.Valid.{is_len, is_guard, ports_below, is_body, is_only, is_merge, fits}
-use Rattle.inlining_laws.specs.Flat.{Operation}
-use Rattle.pass_laws.proofs.Lists.{map_map}
+use Rattle.flat_laws.specs.Flat.{Operation}
+use Rattle.algo_tree.proofs.Lists.{map_map}
 use Rattle.flat_laws.specs.Stands.{task_of}
 use Rattle.flat_laws.proofs.Fits.{IsTaskFit}
 use Rattle.flat_laws.proofs.Bounds.{IsTaskBounded}

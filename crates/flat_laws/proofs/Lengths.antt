@@ -11,10 +11,10 @@ use Rattle.algo_tree.specs.Tree.{Label, Kind, sensor, actuator, constant, delay,
 use Rattle.algo_tree.specs.Meaning.{asked_by, node, nodes}
 use Rattle.algo_tree.specs.Typed.{label_of, outs_of, source_length, IsKindTyped, IsTyped, AllTyped, IsBodyTyped}
 use Rattle.algo_tree.specs.Counted.{operations as count}
-use Rattle.inlining_laws.specs.Flat.{Operation}
-use Rattle.inlining_laws.specs.Inlined.{nowhere, with_wiring, wire, gives_by, wiring, wirings, inlined_by, inlined, inlined_all, inlined_level}
-use Rattle.inlining_laws.proofs.Inlinable.{IsKindInlinable, CanInline, AllCanInline}
-use Rattle.inlining_laws.proofs.Wires.{matched, wire_fix, long-inlined}
+use Rattle.flat_laws.specs.Flat.{Operation}
+use Rattle.flat_laws.specs.Inlined.{nowhere, with_wiring, wire, gives_by, wiring, wirings, inlined_by, inlined, inlined_all, inlined_level}
+use Rattle.flat_laws.proofs.Inlinable.{IsKindInlinable, CanInline, AllCanInline}
+use Rattle.flat_laws.proofs.Wires.{matched, wire_fix, long-inlined}
 
 pub same_map : {A B : Type 0} (f g : A → B) → ((x : A) → f x ≡ g x) → (xs : List A) → map f xs ≡ map g xs
 same_map f g h [] = refl

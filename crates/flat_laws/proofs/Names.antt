@@ -13,13 +13,13 @@ use Rattle.algo_tree.specs.Tree.{Label, Kind, sensor, actuator, constant, delay,
 use Rattle.algo_tree.specs.Counted.{operations as count, operations_by, operations_in}
 use Rattle.algo_tree.specs.Valid.{IsTree}
 use Rattle.flat_graph.specs.Valid.{is_path_byte, is_path}
-use Rattle.inlining_laws.specs.Flat.{Operation, Task, runs, gets, sets}
-use Rattle.inlining_laws.specs.Inlined.{wire, wirings, stages, inlined_by, inlined, inlined_all, operations}
-use Rattle.inlining_laws.proofs.Pairs.{AtAll, all-append, paths-by}
-use Rattle.operation_paths.specs.Texts.{part_text, parts_text, path_text}
-use Rattle.operation_paths.specs.Named.{is_word, IsPathNamed, IsNamed, AllNamed, HasNames}
-use Rattle.operation_paths.specs.Bounded.{IsPathBounded, IsBounded, AllBounded, HasBounds}
-use Rattle.operation_paths.proofs.Texts.{AreNameBytes, word_bytes, number_bytes}
+use Rattle.flat_laws.specs.Flat.{Operation, Task, runs, gets, sets}
+use Rattle.flat_laws.specs.Inlined.{wire, wirings, stages, inlined_by, inlined, inlined_all, operations}
+use Rattle.flat_laws.proofs.Pairs.{AtAll, all-append, paths-by}
+use Rattle.algo_tree.specs.Texts.{part_text, parts_text, path_text}
+use Rattle.algo_tree.specs.Named.{is_word, IsPathNamed, IsNamed, AllNamed, HasNames}
+use Rattle.algo_tree.specs.Bounded.{IsPathBounded, IsBounded, AllBounded, HasBounds}
+use Rattle.algo_tree.proofs.Texts.{AreNameBytes, word_bytes, number_bytes}
 use Rattle.flat_laws.specs.Names.{stage_text, half_text, name_of}
 
 abbrev pub stage_part : ℕ → Path

@@ -14,20 +14,20 @@ use Rattle.algo_tree.specs.Tree.{Label, Kind, sensor, actuator, constant, delay,
 use Rattle.algo_tree.specs.Counted.{operations as count}
 use Rattle.algo_tree.specs.Meaning.{node, nodes}
 use Rattle.algo_tree.specs.Valid.{IsTree}
-use Rattle.pass_laws.proofs.SameParts.{same_itself}
+use Rattle.algo_tree.proofs.SameParts.{same_itself}
 use Rattle.flat_graph.specs.declared.vertex.Vertex.{Vertex}
 use Rattle.flat_graph.specs.Valid.{are_named_apart}
-use Rattle.inlining_laws.specs.Flat.{Operation, Task, runs, gets, sets, same_path}
-use Rattle.inlining_laws.specs.Inlined.{wire, wirings, stages, inlined_by, inlined, inlined_all, operations}
-use Rattle.inlining_laws.specs.Plain.{IsPlain}
-use Rattle.inlining_laws.proofs.Inlinable.{IsKindInlinable, CanInline, AllCanInline, can_inline}
-use Rattle.inlining_laws.proofs.Cells.{Keeps, keeps-below}
-use Rattle.inlining_laws.proofs.Numbered.{path_itself}
-use Rattle.inlining_laws.proofs.Pairs.{AtAll, all-append, paths-vertex}
-use Rattle.operation_paths.specs.Texts.{path_text}
-use Rattle.operation_paths.specs.Named.{IsPathNamed}
-use Rattle.operation_paths.specs.Bounded.{IsPathBounded}
-use Rattle.operation_paths.proofs.Texts.{path_told}
+use Rattle.flat_laws.specs.Flat.{Operation, Task, runs, gets, sets, same_path}
+use Rattle.flat_laws.specs.Inlined.{wire, wirings, stages, inlined_by, inlined, inlined_all, operations}
+use Rattle.flat_laws.specs.Plain.{IsPlain}
+use Rattle.flat_laws.proofs.Inlinable.{IsKindInlinable, CanInline, AllCanInline, can_inline}
+use Rattle.flat_laws.proofs.Cells.{Keeps, keeps-below}
+use Rattle.flat_laws.proofs.Numbered.{path_itself}
+use Rattle.flat_laws.proofs.Pairs.{AtAll, all-append, paths-vertex}
+use Rattle.algo_tree.specs.Texts.{path_text}
+use Rattle.algo_tree.specs.Named.{IsPathNamed}
+use Rattle.algo_tree.specs.Bounded.{IsPathBounded}
+use Rattle.algo_tree.proofs.Texts.{path_told}
 use Rattle.flat_laws.specs.Names.{name_of}
 use Rattle.flat_laws.specs.Stands.{AllStand}
 use Rattle.flat_laws.proofs.Names.{stage_part, half, full, full-text, IsNamedOperation, AreNamed, full-named, full-bounded}

@@ -1,8 +1,8 @@
 -- A tree without repetitions and without cases has graphs and operations alone.
 use Rattle.algo_tree.specs.Tree.{Kind, sensor, actuator, constant, delay, function, explode, implode, merge, graph, switch, repeat, Vertex, vertex, Vertices, no_vertices, and_vertex}
-use Rattle.pass_laws.specs.NoRepeat.{IsNoRepeat, HasNoRepeat, AllNoRepeat}
-use Rattle.conditioning_laws.specs.NoCase.{IsNoCase, HasNoCase, AllNoCase}
-use Rattle.inlining_laws.specs.Plain.{IsKindPlain, IsPlain, AllPlain}
+use Rattle.algo_tree.specs.NoRepeat.{IsNoRepeat, HasNoRepeat, AllNoRepeat}
+use Rattle.flat_laws.specs.NoCase.{IsNoCase, HasNoCase, AllNoCase}
+use Rattle.flat_laws.specs.Plain.{IsKindPlain, IsPlain, AllPlain}
 
 kind-plain : (k : Kind) → IsNoRepeat k → IsNoCase k → IsKindPlain k
 kind-plain (switch values names) r c = c

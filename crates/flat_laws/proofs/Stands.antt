@@ -19,14 +19,14 @@ use Rattle.flat_graph.specs.Fire.{guards_hold, kind_outputs, kept as kept_by, st
 use Rattle.flat_graph.specs.Meaning.{level_source, level_guard, sensed, is_get, delay_number, no_state, node_of, cell_of, nodes_from, level, value_in, conditions, inputs, reads, initial_cell, initial_cells, taken_by, taken, cells_after, flat_act_row}
 use Rattle.flat_graph.proofs.Settled.{same_guards, same_inputs}
 use Rattle.flat_graph.proofs.Fired.{is_kept, first_reads, last_reads}
-use Rattle.inlining_laws.specs.Flat as list
-use Rattle.inlining_laws.specs.Flat.{Operation, gets, is_set, task_outputs, initial_value, flat_past, flat_taken}
-use Rattle.inlining_laws.specs.Inlined.{operations}
-use Rattle.inlining_laws.specs.Plain.{IsPlain}
-use Rattle.inlining_laws.specs.Numbered.{Cells, SameCells, numbered_node, numbered_level, numbered_value, numbered_set, numbered_past, with_operation}
-use Rattle.inlining_laws.proofs.Flatten.{flatten-keeps}
-use Rattle.inlining_laws.proofs.Numbered.{Paired, pair-at}
-use Rattle.inlining_laws.proofs.Pairs.{paired-main, same_cells-main}
+use Rattle.flat_laws.specs.Flat as list
+use Rattle.flat_laws.specs.Flat.{Operation, gets, is_set, task_outputs, initial_value, flat_past, flat_taken}
+use Rattle.flat_laws.specs.Inlined.{operations}
+use Rattle.flat_laws.specs.Plain.{IsPlain}
+use Rattle.flat_laws.specs.Numbered.{Cells, SameCells, numbered_node, numbered_level, numbered_value, numbered_set, numbered_past, with_operation}
+use Rattle.flat_laws.proofs.Flatten.{flatten-keeps}
+use Rattle.flat_laws.proofs.Numbered.{Paired, pair-at}
+use Rattle.flat_laws.proofs.Pairs.{paired-main, same_cells-main}
 use Rattle.flat_laws.specs.Stands.{task_of, operation_at, IsTwin, StandsFor, AllStand, Stands, KeepsGraph}
 
 pub kind_get : (k : Kind) → is_get k ≡ true → (z : List ℤ) × (k ≡ Get z)

@@ -7,9 +7,9 @@ use Rattle.flat_graph.specs.declared.vertex.Kind.TheVariants.{Sensor, Actuator, 
 use Rattle.flat_graph.specs.declared.vertex.Vertex.{Vertex}
 use Rattle.flat_graph.specs.Graph.{Graph, with_vertex, lens_of}
 use Rattle.flat_graph.specs.Valid.{is_only, names, is_set_half_by, is_set_half_of, is_get_half_by, is_get_half_of, has_set_half, has_get_half, has_twin}
-use Rattle.inlining_laws.specs.Flat as list
-use Rattle.inlining_laws.specs.Flat.{Operation, gets, sets, is_set}
-use Rattle.inlining_laws.proofs.Numbered.{Paired, pair-at}
+use Rattle.flat_laws.specs.Flat as list
+use Rattle.flat_laws.specs.Flat.{Operation, gets, sets, is_set}
+use Rattle.flat_laws.proofs.Numbered.{Paired, pair-at}
 use Rattle.flat_laws.specs.Stands.{task_of, IsTwin, StandsFor, Stands}
 use Rattle.flat_laws.proofs.Stands.{get_task, kind_get, kind_set, vertex_of}
 use Rattle.flat_laws.proofs.Halves.{Follow, follow-at}

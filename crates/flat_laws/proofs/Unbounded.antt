@@ -12,10 +12,10 @@ use Rattle.algo_tree.specs.Valid.{IsTree}
 use Rattle.flat_graph.specs.declared.vertex.Kind.TheVariants.{Function}
 use Rattle.flat_graph.specs.Graph.{Graph}
 use Rattle.flat_graph.specs.Valid.{is_flat}
-use Rattle.inlining_laws.specs.Inlined.{operations}
-use Rattle.inlining_laws.specs.Plain.{IsPlain}
-use Rattle.operation_paths.specs.Named.{HasNames}
-use Rattle.operation_paths.specs.Bounded.{HasBounds}
+use Rattle.flat_laws.specs.Inlined.{operations}
+use Rattle.flat_laws.specs.Plain.{IsPlain}
+use Rattle.algo_tree.specs.Named.{HasNames}
+use Rattle.algo_tree.specs.Bounded.{HasBounds}
 use Rattle.flat_laws.specs.Stands.{Stands}
 use Rattle.flat_laws.proofs.Valid.{stands-flat}
 

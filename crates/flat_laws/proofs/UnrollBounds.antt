@@ -9,9 +9,9 @@ use Rattle.level_meaning.specs.Level.{numbers_below}
 use Rattle.algo_tree.specs.Tree.{Label, Kind, sensor, actuator, constant, delay, function, explode, implode, merge, graph, switch, repeat, Vertex, vertex, Vertices, no_vertices, and_vertex}
 use Rattle.algo_tree.specs.Valid.{IsTree}
 use Rattle.algo_tree.specs.View.{vertices_of}
-use Rattle.factorisation_laws.specs.Lines.{in_line_order}
-use Rattle.factorisation_laws.specs.Unrolled.{explodes, copy, copies, implodes, begin, unrolled_inside, unrolled_at, unroll, unroll_all}
-use Rattle.operation_paths.specs.Bounded.{IsKindBounded, IsLabelBounded, IsBounded, AllBounded, HasBounds}
+use Rattle.flat_laws.specs.Lines.{in_line_order}
+use Rattle.flat_laws.specs.Unrolled.{explodes, copy, copies, implodes, begin, unrolled_inside, unrolled_at, unroll, unroll_all}
+use Rattle.algo_tree.specs.Bounded.{IsKindBounded, IsLabelBounded, IsBounded, AllBounded, HasBounds}
 
 abbrev EachBounded : List Vertex → Type 0
 EachBounded [] = Unit {0}

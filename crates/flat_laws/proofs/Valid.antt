@@ -11,12 +11,12 @@ use Rattle.flat_graph.specs.Graph.{Graph, with_vertex, lens_of}
 use Rattle.flat_graph.specs.Meaning.{level_guard}
 use Rattle.flat_graph.specs.Order.{is_acyclic}
 use Rattle.flat_graph.specs.Valid.{is_path, is_len, is_guard, fits, has_twin, are_named_apart, is_vertex, all_from, kinds_of, sensors_from, actuators_from, is_flat}
-use Rattle.inlining_laws.specs.Flat.{Operation}
-use Rattle.inlining_laws.specs.Inlined.{operations}
-use Rattle.inlining_laws.specs.Plain.{IsPlain}
-use Rattle.inlining_laws.proofs.Pairs.{paired-main}
-use Rattle.operation_paths.specs.Named.{HasNames}
-use Rattle.operation_paths.specs.Bounded.{HasBounds}
+use Rattle.flat_laws.specs.Flat.{Operation}
+use Rattle.flat_laws.specs.Inlined.{operations}
+use Rattle.flat_laws.specs.Plain.{IsPlain}
+use Rattle.flat_laws.proofs.Pairs.{paired-main}
+use Rattle.algo_tree.specs.Named.{HasNames}
+use Rattle.algo_tree.specs.Bounded.{HasBounds}
 use Rattle.flat_laws.specs.Stands.{task_of, Stands}
 use Rattle.flat_laws.proofs.Stands.{vertex_of, operation_of}
 use Rattle.flat_laws.proofs.Halves.{follow-main}

@@ -12,9 +12,9 @@ use Rattle.flat_graph.specs.declared.vertex.Vertex.{Vertex}
 use Rattle.flat_graph.specs.Graph.{Graph}
 use Rattle.flat_graph.specs.Valid.{is_flat}
 use Rattle.flat_graph.specs.Meaning.{initial_cells, cells_after, flat_act_row}
-use Rattle.inlining_laws.specs.Inlined.{operations}
-use Rattle.inlining_laws.proofs.Worked.{main, rows}
-use Rattle.operation_paths.specs.Texts.{path_text}
+use Rattle.flat_laws.specs.Inlined.{operations}
+use Rattle.flat_laws.proofs.WorkedInlining.{main, rows}
+use Rattle.algo_tree.specs.Texts.{path_text}
 use Rattle.flat_laws.specs.Stands.{Stands}
 
 abbrev at : ℕ → ℕ → Source

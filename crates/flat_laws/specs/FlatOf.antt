@@ -21,10 +21,10 @@ use Rattle.flat_graph.specs.declared.vertex.Kind.TheVariants.{
 }
 use Rattle.flat_graph.specs.declared.vertex.Vertex.{Vertex}
 use Rattle.flat_graph.specs.Graph.{Graph}
-use Rattle.conditioning_laws.specs.Guarded.{guard}
-use Rattle.factorisation_laws.specs.Unrolled.{unroll}
-use Rattle.inlining_laws.specs.Flat.{Operation, Task, runs, gets, sets}
-use Rattle.inlining_laws.specs.Inlined.{operations}
+use Rattle.flat_laws.specs.Guarded.{guard}
+use Rattle.flat_laws.specs.Unrolled.{unroll}
+use Rattle.flat_laws.specs.Flat.{Operation, Task, runs, gets, sets}
+use Rattle.flat_laws.specs.Inlined.{operations}
 use Rattle.flat_laws.specs.Names.{name_of}
 
 -- A source is an output of an operation: none leads nowhere.

@@ -1,3 +1,17 @@
+pub mod Lines
+pub mod Unrolled
+pub mod Guarded
+pub mod Carries
+pub mod NoCase
+pub mod Flat
+pub mod Inlined
+pub mod Plain
+pub mod SameMeaning
+pub mod Numbered
+pub mod Origins
+pub mod Table
+pub mod Listed
+pub mod Linked
 pub mod Names
 pub mod Stands
 pub mod FlatOf

@@ -1,8 +1,8 @@
 -- The names of operations.
 use Rattle.std.specs.Prelude.{ℕ, zero, suc, List, [], ◌++◌, codes}
 use Rattle.std.specs.Fmt.{decimal}
-use Rattle.inlining_laws.specs.Flat.{Operation, Task, runs, gets, sets}
-use Rattle.operation_paths.specs.Texts.{path_text}
+use Rattle.flat_laws.specs.Flat.{Operation, Task, runs, gets, sets}
+use Rattle.algo_tree.specs.Texts.{path_text}
 
 -- The text of the number of a stage, which is empty for the first.
 abbrev pub stage_text : ℕ → List ℕ

@@ -20,7 +20,7 @@ use Rattle.flat_graph.specs.declared.vertex.Kind.TheVariants.{
 use Rattle.flat_graph.specs.declared.vertex.Vertex.{Vertex}
 use Rattle.flat_graph.specs.Graph.{Graph}
 use Rattle.flat_graph.specs.Meaning.{level_source, level_guard, cell_of, initial_cells, cells_after, flat_act_row}
-use Rattle.inlining_laws.specs.Flat.{Operation, Task, runs, gets, sets, is_get}
+use Rattle.flat_laws.specs.Flat.{Operation, Task, runs, gets, sets, is_get}
 use Rattle.flat_laws.specs.Names.{name_of}
 
 -- What an operation of this kind does, by the bodies of functions.

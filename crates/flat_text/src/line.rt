@@ -4,8 +4,7 @@ ghost use Rattle.flat_text.specs.Listing.{kind_word, vertex_head, vertex_line, v
 
 use crate::list::append_list;
 use flat_graph::{Kind, Vertex};
-use grown_text::{append, append_count};
-use syn_base::OutOfMemory;
+use syn_base::{OutOfMemory, append, append_count};
 
 /// The word that stands for this kind in a listing.
 fn word_of(kind: &Kind) -> &'static [u8]

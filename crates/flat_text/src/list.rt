@@ -4,8 +4,7 @@ ghost use Rattle.std.specs.Fmt.{decimal};
 ghost use Rattle.flat_text.specs.Listing.{comma_list, each_after_comma, guard_text, source_text};
 
 use flat_graph::{Guard, Source};
-use grown_text::{append, append_count};
-use syn_base::OutOfMemory;
+use syn_base::{OutOfMemory, append, append_count};
 
 /// What stands in a list of a line.
 pub trait Entry {

@@ -7,10 +7,9 @@ use crate::legend::append_legend;
 use crate::statement::append_statements;
 use archi_graph::Archi;
 use flat_graph::{Flat, Vertex};
-use grown_text::append;
 use schedule::{Decision, Schedule};
 use std::alloc::Global;
-use syn_base::OutOfMemory;
+use syn_base::{OutOfMemory, append};
 
 /// Appends the drawing of a flat graph: for each operation a node with its name and its definition;
 /// for each input an edge from its source, with the numbers of the output and of the input; for

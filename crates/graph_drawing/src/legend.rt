@@ -6,8 +6,7 @@ ghost use Rattle.graph_drawing.specs.FlatDrawing.{legend, medium_key, medium_key
 use crate::colour::{fill_of, stroke_of};
 use crate::word::{Word, append_word};
 use archi_graph::{Archi, Medium};
-use grown_text::{append, append_count};
-use syn_base::{Name, OutOfMemory};
+use syn_base::{Name, OutOfMemory, append, append_count};
 
 /// Appends the legend of an architecture.
 #[tactic(auto, unfolding(crate::specs::FlatDrawing::legend))]

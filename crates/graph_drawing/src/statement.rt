@@ -7,9 +7,8 @@ use crate::colour::{fill_of, stroke_of};
 use crate::placing::{medium_for, operator_of};
 use crate::word::{Word, append_word};
 use flat_graph::{Guard, Kind, Source, Vertex};
-use grown_text::{append, append_count};
 use schedule::Decision;
-use syn_base::OutOfMemory;
+use syn_base::{OutOfMemory, append, append_count};
 
 /// Appends operation `number` and its edges.
 pub fn append_statements(

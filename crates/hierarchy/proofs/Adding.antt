@@ -16,16 +16,16 @@ use Rattle.algo_tree.specs.declared.vertex.Kind.{Kind}
 use Rattle.algo_tree.specs.declared.vertex.Kind.TheVariants.{Delay, Graph, Switch, Repeat}
 use Rattle.algo_tree.proofs.Views.{view_out}
 use Rattle.flat_graph.specs.Graph.{Graph as Flat}
-use Rattle.inlining_laws.specs.Flat.{Operation, runs}
-use Rattle.inlining_laws.specs.Inlined.{wire, wirings, wire_guard, operation_of, stages, inlined_by, inlined, inlined_all, inlined_level, operations}
-use Rattle.inlining_laws.specs.Plain.{IsKindPlain, IsPlain, AllPlain}
-use Rattle.inlining_laws.proofs.Wires.{long-plain}
-use Rattle.operation_paths.specs.Named.{IsLabelNamed, IsNamed, AllNamed}
-use Rattle.level_order.specs.Order.{nodes_of}
-use Rattle.level_order.proofs.Nodes.{nodes_view}
-use Rattle.operation_table.specs.Linked.{AreFound, GuardsFound, AllLinked}
+use Rattle.flat_laws.specs.Flat.{Operation, runs}
+use Rattle.flat_laws.specs.Inlined.{wire, wirings, wire_guard, operation_of, stages, inlined_by, inlined, inlined_all, inlined_level, operations}
+use Rattle.flat_laws.specs.Plain.{IsKindPlain, IsPlain, AllPlain}
+use Rattle.flat_laws.proofs.Wires.{long-plain}
+use Rattle.algo_tree.specs.Named.{IsLabelNamed, IsNamed, AllNamed}
+use Rattle.hierarchy.specs.Order.{nodes_of}
+use Rattle.hierarchy.proofs.Nodes.{nodes_view}
+use Rattle.flat_laws.specs.Linked.{AreFound, GuardsFound, AllLinked}
 use Rattle.hierarchy.proofs.Linking.{linked_anywhere}
-use Rattle.operation_table.proofs.Linking.{linked_main}
+use Rattle.flat_laws.proofs.Linking.{linked_main}
 use Rattle.hierarchy.specs.Built.{IsRun, Built, Adds}
 
 abbrev pub inner_of : Declared → List Declared

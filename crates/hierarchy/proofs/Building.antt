@@ -14,11 +14,11 @@ use Rattle.flat_graph.specs.declared.vertex.Kind.TheVariants.{Sensor, Actuator, 
 use Rattle.flat_graph.specs.declared.vertex.Vertex.{Vertex}
 use Rattle.flat_graph.specs.Graph.{Graph}
 use Rattle.flat_graph.specs.Meaning.{level_source, level_guard}
-use Rattle.inlining_laws.specs.Flat.{Operation, Task, runs, gets, sets}
-use Rattle.inlining_laws.specs.Inlined.{wire, wirings, operation_of, stage_input, stages, inlined, inlined_all, inlined_level}
-use Rattle.inlining_laws.specs.Plain.{IsPlain}
-use Rattle.inlining_laws.proofs.Wires.{long-plain}
-use Rattle.operation_paths.specs.Texts.{path_text}
+use Rattle.flat_laws.specs.Flat.{Operation, Task, runs, gets, sets}
+use Rattle.flat_laws.specs.Inlined.{wire, wirings, operation_of, stage_input, stages, inlined, inlined_all, inlined_level}
+use Rattle.flat_laws.specs.Plain.{IsPlain}
+use Rattle.flat_laws.proofs.Wires.{long-plain}
+use Rattle.algo_tree.specs.Texts.{path_text}
 use Rattle.flat_laws.specs.Names.{stage_text, half_text}
 use Rattle.flat_laws.specs.Stands.{task_of, IsTwin, StandsFor, AllStand}
 use Rattle.flat_laws.specs.Numbering.{IsNumbered, bodies_in, AreNumbered}

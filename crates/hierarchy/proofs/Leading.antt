@@ -15,12 +15,12 @@ use Rattle.algo_tree.specs.Well.{IsWell, AllWell}
 use Rattle.algo_tree.specs.declared.vertex.Vertex.{Vertex as Declared, out-Vertex}
 use Rattle.algo_tree.specs.declared.vertex.Kind.TheVariants.{Graph}
 use Rattle.algo_tree.proofs.Views.{view_out}
-use Rattle.inlining_laws.specs.Inlined.{nowhere, with_wiring, wire_source, wire, gives_by, wiring, wirings}
-use Rattle.pass_laws.proofs.Lists.{none_past}
-use Rattle.inlining_laws.proofs.Wires.{matched, wire_fix}
-use Rattle.level_order.specs.Order.{is_among, MayRun, IsOrder, nodes_of}
-use Rattle.level_order.proofs.Nodes.{nodes_view, node_at, length-nodes_of}
-use Rattle.level_order.proofs.Among.{eqb_cases, among_other}
+use Rattle.flat_laws.specs.Inlined.{nowhere, with_wiring, wire_source, wire, gives_by, wiring, wirings}
+use Rattle.algo_tree.proofs.Lists.{none_past}
+use Rattle.flat_laws.proofs.Wires.{matched, wire_fix}
+use Rattle.hierarchy.specs.Order.{is_among, MayRun, IsOrder, nodes_of}
+use Rattle.hierarchy.proofs.Nodes.{nodes_view, node_at, length-nodes_of}
+use Rattle.hierarchy.proofs.Among.{eqb_cases, among_other}
 use Rattle.hierarchy.specs.Numbers.{first_numbers}
 use Rattle.hierarchy.specs.Wires.{output_led, with_led, led_out, led, Leads}
 use Rattle.hierarchy.specs.declared.wires.Led.{Led}

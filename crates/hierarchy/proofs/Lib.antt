@@ -1,3 +1,6 @@
+pub mod Nodes
+pub mod Among
+pub mod Rounds
 pub mod Leading
 pub mod Building
 pub mod Texting

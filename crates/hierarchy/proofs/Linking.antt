@@ -5,9 +5,9 @@ use Rattle.level_meaning.specs.declared.source.Guard.{Guard}
 use Rattle.level_meaning.specs.Level.{Vector, Path}
 use Rattle.algo_tree.specs.Tree.{Label, Kind, graph, delay, Vertex, vertex, Vertices, no_vertices, and_vertex}
 use Rattle.algo_tree.specs.Counted.{operations as count}
-use Rattle.inlining_laws.specs.Flat.{Operation}
-use Rattle.inlining_laws.specs.Inlined.{wire, wirings, wire_guard, stages, inlined_by, inlined, inlined_all}
-use Rattle.operation_table.specs.Linked.{IsFound, AreFound, GuardsFound, AllLinked}
+use Rattle.flat_laws.specs.Flat.{Operation}
+use Rattle.flat_laws.specs.Inlined.{wire, wirings, wire_guard, stages, inlined_by, inlined, inlined_all}
+use Rattle.flat_laws.specs.Linked.{IsFound, AreFound, GuardsFound, AllLinked}
 
 -- the operations of several vertices
 pub linked_left : (xs ys : List Operation) → AllLinked (xs ++ ys) → AllLinked xs

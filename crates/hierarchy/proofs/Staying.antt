@@ -11,10 +11,10 @@ use Rattle.algo_tree.specs.declared.vertex.Kind.TheVariants.{Sensor, Actuator, C
 use Rattle.algo_tree.specs.declared.vertex.Vertex.{Vertex, out-Vertex}
 use Rattle.algo_tree.specs.declared.vertex.Vertex.TheOpen.{Vertex-F}
 use Rattle.algo_tree.proofs.Views.{view_out}
-use Rattle.pass_laws.specs.NoRepeat.{IsNoRepeat}
-use Rattle.pass_laws.specs.Relabelled.{with_kind}
-use Rattle.factorisation_laws.specs.Unrolled.{unroll, unroll_all, unrolled_at}
-use Rattle.conditioning_laws.specs.Guarded.{guard, guarded, guarded_all, guarded_by, guarded_cases, operation_under, shift, shift_guard}
+use Rattle.algo_tree.specs.NoRepeat.{IsNoRepeat}
+use Rattle.algo_tree.specs.Relabelled.{with_kind}
+use Rattle.flat_laws.specs.Unrolled.{unroll, unroll_all, unrolled_at}
+use Rattle.flat_laws.specs.Guarded.{guard, guarded, guarded_all, guarded_by, guarded_cases, operation_under, shift, shift_guard}
 use Rattle.hierarchy.specs.Unchanged.{IsGraphOrOperation, IsUnguarded}
 
 abbrev pub StayUnrolled : List Vertex → Type 0

@@ -5,8 +5,8 @@ use Rattle.std.proofs.lemmas.Bool.{false≢true}
 use Rattle.level_meaning.specs.declared.part.Part.{Part}
 use Rattle.level_meaning.specs.declared.part.Part.TheVariants.{Named, Numbered, Port}
 use Rattle.level_meaning.specs.Level.{Path}
-use Rattle.operation_paths.specs.Texts.{part_text, parts_text, path_text}
-use Rattle.operation_paths.specs.Named.{IsPartNamed}
+use Rattle.algo_tree.specs.Texts.{part_text, parts_text, path_text}
+use Rattle.algo_tree.specs.Named.{IsPartNamed}
 use Rattle.hierarchy.specs.Texts.{joined, Prefixes}
 
 -- a text with a part is not empty

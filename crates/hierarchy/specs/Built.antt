@@ -10,8 +10,8 @@ use Rattle.flat_graph.specs.declared.vertex.Vertex.{Vertex}
 use Rattle.flat_graph.specs.Graph.{Graph}
 use Rattle.flat_graph.specs.Meaning.{level_source, level_guard}
 use Rattle.level_meaning.specs.Level.{Vector, Path}
-use Rattle.inlining_laws.specs.Flat.{Operation, gets, sets}
-use Rattle.inlining_laws.specs.Inlined.{wire_guard, operation_of}
+use Rattle.flat_laws.specs.Flat.{Operation, gets, sets}
+use Rattle.flat_laws.specs.Inlined.{wire_guard, operation_of}
 use Rattle.flat_laws.specs.Numbering.{IsNumbered, bodies_in, HasBodiesInOrder}
 use Rattle.flat_laws.specs.Stands.{Stands}
 use Rattle.hierarchy.specs.declared.operation.Inlined.{Inlined}

@@ -1,3 +1,5 @@
+pub mod Order
+pub mod Begun
 pub mod Numbers
 pub mod Wires
 pub mod Texts

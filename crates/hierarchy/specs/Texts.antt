@@ -3,7 +3,7 @@ use Rattle.std.specs.Prelude.{◌≡◌, ℕ, List, [], ◌∷◌, ◌++◌}
 use Rattle.level_meaning.specs.declared.part.Part.{Part}
 use Rattle.level_meaning.specs.declared.part.Part.TheVariants.{Named, Numbered, Port}
 use Rattle.level_meaning.specs.Level.{Path}
-use Rattle.operation_paths.specs.Texts.{part_text, parts_text, path_text}
+use Rattle.algo_tree.specs.Texts.{part_text, parts_text, path_text}
 
 -- The text of a path with one more part: nothing stands before a reference of the main graph.
 abbrev pub joined : List ℕ → Part → List ℕ

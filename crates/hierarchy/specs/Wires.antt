@@ -3,7 +3,7 @@ use Rattle.std.specs.Prelude.{◌≡◌, ℕ, List, map, Option, Some, None, sli
 use Rattle.level_meaning.specs.declared.source.Source.{Source}
 use Rattle.level_meaning.specs.declared.source.Source.TheVariants.{Of}
 use Rattle.algo_tree.specs.Tree.{Vertex}
-use Rattle.inlining_laws.specs.Inlined.{nowhere, wire_source, wiring}
+use Rattle.flat_laws.specs.Inlined.{nowhere, wire_source, wiring}
 use Rattle.hierarchy.specs.declared.wires.Led.{Led}
 use Rattle.hierarchy.specs.declared.wires.Led.TheVariants.{Operation, Graph}
 

@@ -7,15 +7,15 @@ ghost use Rattle.algo_tree.specs.Counted.{operations as count, operations_in as 
 ghost use Rattle.algo_tree.specs.Valid.{IsTree};
 ghost use Rattle.algo_tree.specs.View.{view, vertices_view};
 ghost use Rattle.algo_tree.specs.Well.{AllWell, IsWell};
-ghost use Rattle.inlining_laws.specs.Plain.{AllPlain, IsPlain};
-ghost use Rattle.inlining_laws.specs.Inlined.{inlined, inlined_all, inlined_level, operations};
-ghost use Rattle.operation_paths.specs.Named.{AllNamed, HasNames, IsNamed};
-ghost use Rattle.level_order.specs.Order.{nodes_of};
+ghost use Rattle.flat_laws.specs.Plain.{AllPlain, IsPlain};
+ghost use Rattle.flat_laws.specs.Inlined.{inlined, inlined_all, inlined_level, operations};
+ghost use Rattle.algo_tree.specs.Named.{AllNamed, HasNames, IsNamed};
+ghost use Rattle.hierarchy.specs.Order.{nodes_of};
 ghost use Rattle.flat_laws.specs.Numbering.{HasBodiesInOrder};
 ghost use Rattle.flat_laws.specs.Stands.{Stands};
 ghost use Rattle.hierarchy.specs.Wires.{led};
 ghost use Rattle.hierarchy.specs.Texts.{Prefixes};
-ghost use Rattle.operation_table.specs.Linked.{AllLinked};
+ghost use Rattle.flat_laws.specs.Linked.{AllLinked};
 ghost use Rattle.hierarchy.specs.Built.{Adds, graph_of};
 
 use crate::level::lead_level;

@@ -6,13 +6,13 @@ ghost use Rattle.algo_tree.specs.declared.vertex.Vertex.{out-Vertex};
 ghost use Rattle.algo_tree.specs.View.{kind_view, label_view};
 ghost use Rattle.flat_graph.specs.Meaning.{level_guard, level_source};
 ghost use Rattle.level_meaning.specs.declared.source.Source.TheVariants.{Of};
-ghost use Rattle.inlining_laws.specs.Flat.{runs};
-ghost use Rattle.inlining_laws.specs.Inlined.{operation_of, stages, wire_guard};
+ghost use Rattle.flat_laws.specs.Flat.{runs};
+ghost use Rattle.flat_laws.specs.Inlined.{operation_of, stages, wire_guard};
 ghost use Rattle.flat_laws.specs.Names.{stage_text as text_of_stage};
 ghost use Rattle.flat_laws.specs.Stands.{task_of};
-ghost use Rattle.operation_paths.specs.Texts.{path_text};
+ghost use Rattle.algo_tree.specs.Texts.{path_text};
 ghost use Rattle.hierarchy.specs.Wires.{led};
-ghost use Rattle.operation_table.specs.Linked.{AllLinked, AreFound, GuardsFound, IsFound};
+ghost use Rattle.flat_laws.specs.Linked.{AllLinked, AreFound, GuardsFound, IsFound};
 ghost use Rattle.flat_laws.specs.Numbering.{IsNumbered, bodies_in};
 ghost use Rattle.hierarchy.specs.Built.{Adds, IsOperation, IsRun, body_added, graph_of, stage_pair};
 

@@ -1,9 +1,9 @@
 //! The trees that a pass of flattening leaves as they are, so that it need not be made. `pass` asks for them.
 ghost use Rattle.std.specs.Prelude.{◌≡◌, true, false};
 ghost use Rattle.algo_tree.specs.View.{kind_view, view};
-ghost use Rattle.pass_laws.specs.NoRepeat.{IsNoRepeat};
-ghost use Rattle.factorisation_laws.specs.Unrolled.{unroll as unrolled};
-ghost use Rattle.conditioning_laws.specs.Guarded.{guard as guarded};
+ghost use Rattle.algo_tree.specs.NoRepeat.{IsNoRepeat};
+ghost use Rattle.flat_laws.specs.Unrolled.{unroll as unrolled};
+ghost use Rattle.flat_laws.specs.Guarded.{guard as guarded};
 ghost use Rattle.hierarchy.specs.Unchanged.{IsUnguarded};
 ghost use Rattle.algo_tree.specs.declared.vertex.Vertex.{out-Vertex};
 

@@ -1,6 +1,6 @@
 //! The wires of a level: where its sources lead in the flat graph. `level`, `inlining` and `operation` follow them.
 ghost use Rattle.std.specs.Prelude.{◌≡◌, IfOk, map, slice_index_or};
-ghost use Rattle.inlining_laws.specs.Inlined.{nowhere};
+ghost use Rattle.flat_laws.specs.Inlined.{nowhere};
 ghost use Rattle.hierarchy.specs.Wires.{led, output_led};
 
 use level_meaning::Source;

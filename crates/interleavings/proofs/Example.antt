@@ -3,7 +3,7 @@ use Rattle.std.proofs.Common.{◌≡◌, ℕ, zero, suc, ◌+◌, ◌<◌, ◌�
 use Rattle.std.specs.Prelude.{slice_get}
 use Rattle.std.proofs.lemmas.Bool.{le-ltb}
 use Rattle.std.proofs.lemmas.Option.{same_Some}
-use Rattle.consistent_cuts.specs.Sites.{Code, step_at, place_at, hit, IsSite}
+use Rattle.interleavings.specs.Sites.{Code, step_at, place_at, hit, IsSite}
 use Rattle.interleavings.specs.System.{System, Micro, take, see, signal, await, load, store, is_take, is_signal, stores, sub, advance}
 use Rattle.interleavings.specs.Owners.{Owner, IsOwned}
 use Rattle.interleavings.specs.Media.{Half}

@@ -1,7 +1,7 @@
 -- A sender and a receiver of one element over a medium meet the hypotheses on media and wires.
 use Rattle.std.proofs.Common.{◌≡◌, ℕ, zero, suc, ◌<◌, Bool, true, false, cond, ltb, List, [], ◌∷◌, Option, Some, refl, arith, ℤ, pos}
 use Rattle.std.specs.Prelude.{slice_get}
-use Rattle.consistent_cuts.specs.Sites.{Code, step_at, place_at, hit}
+use Rattle.interleavings.specs.Sites.{Code, step_at, place_at, hit}
 use Rattle.interleavings.specs.System.{System, Micro, await, advance, load, store, stores, advances}
 use Rattle.interleavings.specs.Owners.{Owner, IsOwned, sum_below}
 use Rattle.interleavings.specs.Media.{Half, owner_of, advances_half, stores_access, writer_of, IsMedium, IsOwnWait, IsWire, IsWireLoad}

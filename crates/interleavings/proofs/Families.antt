@@ -5,8 +5,8 @@ use Rattle.std.proofs.lemmas.Nat.{div-add-mod', div-mul-add, mod-mul-add, mod_be
 use Rattle.std.proofs.Math.Nat.{mul-le-mul_right}
 use native.Mathlib.Nat.{suc-mul, add-suc, add-zero}
 use native.Mathlib.Decide.{dec_lt}
-use Rattle.consistent_cuts.specs.Precedence.{IsMade}
-use Rattle.consistent_cuts.specs.Sites.{step_at, hit, passes}
+use Rattle.interleavings.specs.Precedence.{IsMade}
+use Rattle.interleavings.specs.Sites.{step_at, hit, passes}
 use Rattle.interleavings.specs.System.{System, Micro, total, total_to}
 use Rattle.interleavings.specs.Owners.{Owner, nth_of, sum_below, nth_in, IsFamily}
 use Rattle.interleavings.proofs.Totals.{total_nth}

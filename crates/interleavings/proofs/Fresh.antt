@@ -4,11 +4,11 @@ use Rattle.std.specs.Prelude.{slice_get}
 use Rattle.std.proofs.lemmas.Bool.{cases_lt, cases_eq, eq-eqb, ne_eqb}
 use Rattle.std.proofs.lemmas.Nat.{div-add-mod', mod_below}
 use Rattle.std.proofs.lemmas.Option.{slice_get_within}
-use Rattle.consistent_cuts.specs.Precedence.{Event, IsMade, IsConsistent}
-use Rattle.consistent_cuts.specs.Sites.{Code, Site, hit, passes, IsSite, number_of}
-use Rattle.consistent_cuts.proofs.Counting.{nth_made}
-use Rattle.consistent_cuts.proofs.Between.{later_le, nth_plus}
-use Rattle.consistent_cuts.proofs.Numbers.{row_below}
+use Rattle.interleavings.specs.Precedence.{Event, IsMade, IsConsistent}
+use Rattle.interleavings.specs.Sites.{Code, Site, hit, passes, IsSite, number_of}
+use Rattle.interleavings.proofs.Counting.{nth_made}
+use Rattle.interleavings.proofs.Between.{later_le, nth_plus}
+use Rattle.interleavings.proofs.Numbers.{row_below}
 use Rattle.interleavings.specs.System.{System, Micro, take, see, sub, signal, await, advance, load, store, is_take, is_signal, stores, advances, total}
 use Rattle.interleavings.specs.Owners.{Owner, nth_of, nth_in}
 use Rattle.interleavings.specs.Media.{Half, owner_of, precedence, advances_half, stores_access, IsMedium, IsWire}

@@ -1,3 +1,7 @@
+pub mod Counting
+pub mod Between
+pub mod Numbers
+pub mod Cuts
 pub mod Totals
 pub mod Sums
 pub mod Told

@@ -5,9 +5,9 @@ use Rattle.std.proofs.lemmas.Bool.{cases_lt, le-ltb, eqb-true, leb-true, le-leb}
 use Rattle.std.proofs.lemmas.Option.{same_Some, slice_get_within}
 use Rattle.std.proofs.lemmas.Nat.{div-add-mod', div-mul-add, mod-mul-add, mod_below}
 use native.Mathlib.Nat.{suc-mul}
-use Rattle.consistent_cuts.specs.Precedence.{Event, event, IsMade, IsConsistent, IsReady}
-use Rattle.consistent_cuts.specs.Sites.{Code, step_at, reaction_at, nth, number_of}
-use Rattle.consistent_cuts.proofs.Numbers.{reaction_number, place_number}
+use Rattle.interleavings.specs.Precedence.{Event, event, IsMade, IsConsistent, IsReady}
+use Rattle.interleavings.specs.Sites.{Code, step_at, reaction_at, nth, number_of}
+use Rattle.interleavings.proofs.Numbers.{reaction_number, place_number}
 use Rattle.interleavings.specs.System.{System, await, total, advances, stores, half_number, full}
 use Rattle.interleavings.specs.Owners.{Owner, nth_of, nth_in}
 use Rattle.interleavings.specs.Media.{Half, owner_of, advances_half, stores_access, writer_of, needed, needed_turn, precedence, IsMedium, IsOwnWait, IsWire, IsWireLoad}

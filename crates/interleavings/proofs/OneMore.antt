@@ -1,7 +1,7 @@
 -- From reached counts, one more step that is enabled gives reached counts, which tell that step.
 use Rattle.std.proofs.Common.{◌≡◌, ℕ, true, cond, List, [], ◌∷◌, ◌++◌, Option, Some, None, refl, sym, ap, subst, ◌∙◌, ℤ}
 use Rattle.std.proofs.lemmas.Bool.{false≢true}
-use Rattle.consistent_cuts.specs.Precedence.{one_more}
+use Rattle.interleavings.specs.Precedence.{one_more}
 use Rattle.interleavings.specs.System.{System, State, Micro, take, see, sub, signal, await, advance, load, store, told, run, run_from, opening, step, enabled, enabled_by, next, done_by}
 use Rattle.interleavings.specs.Laws.{IsReached, HasNext}
 

@@ -5,10 +5,10 @@ use Rattle.std.proofs.lemmas.Bool.{cases_lt}
 use Rattle.std.proofs.lemmas.Option.{slice_get_within}
 use Rattle.std.proofs.Math.Nat.{mul-le-mul_right}
 use native.Mathlib.Nat.{suc-mul}
-use Rattle.consistent_cuts.specs.Precedence.{Event, event, IsConsistent}
-use Rattle.consistent_cuts.specs.Sites.{step_at, passes, number_of}
-use Rattle.consistent_cuts.proofs.Counting.{nth_made}
-use Rattle.consistent_cuts.proofs.Between.{later_le, passes_upto, passes_from}
+use Rattle.interleavings.specs.Precedence.{Event, event, IsConsistent}
+use Rattle.interleavings.specs.Sites.{step_at, passes, number_of}
+use Rattle.interleavings.proofs.Counting.{nth_made}
+use Rattle.interleavings.proofs.Between.{later_le, passes_upto, passes_from}
 use Rattle.interleavings.specs.System.{System, Micro, take, see, is_take, is_signal, stores, total}
 use Rattle.interleavings.specs.Owners.{Owner, IsOwned, nth_of}
 use Rattle.interleavings.specs.Media.{Half, needed, precedence}

@@ -2,8 +2,8 @@
 use Rattle.std.proofs.Common.{◌≡◌, ℕ, ◌<◌, ◌≤◌, ◌⊎◌, inl, inr, true, Some, refl, eq-eqb}
 use Rattle.std.proofs.lemmas.Bool.{le-leb, cases_lt, lt-ltb, le-ltb}
 use Rattle.std.proofs.lemmas.Option.{none-some}
-use Rattle.consistent_cuts.specs.Sites.{step_at}
-use Rattle.consistent_cuts.specs.Precedence.{Precedence, IsReady}
+use Rattle.interleavings.specs.Sites.{step_at}
+use Rattle.interleavings.specs.Precedence.{Precedence, IsReady}
 use Rattle.interleavings.specs.System.{System, Micro, take, see, sub, signal, await, advance, load, store, stores, total, told, enabled_by, next, full, round_number}
 use Rattle.interleavings.specs.Sound.{IsSoundAt}
 use Rattle.interleavings.specs.Laws.{Finds}

@@ -6,9 +6,9 @@ use Rattle.std.proofs.lemmas.Bool.{lt-ltb, le-ltb, cases_lt, cases_eq}
 use Rattle.std.proofs.lemmas.Nat.{mod_below}
 use Rattle.std.proofs.Math.Nat.{mul-le-mul_right}
 use native.Mathlib.Nat.{suc-mul}
-use Rattle.consistent_cuts.specs.Precedence.{Event, event, IsEvent, IsSerial}
-use Rattle.consistent_cuts.specs.Sites.{Site, step_at, reaction_at, place_at, passes, number_of}
-use Rattle.consistent_cuts.proofs.Numbers.{reaction_number, place_number, row_below, number_split}
+use Rattle.interleavings.specs.Precedence.{Event, event, IsEvent, IsSerial}
+use Rattle.interleavings.specs.Sites.{Site, step_at, reaction_at, place_at, passes, number_of}
+use Rattle.interleavings.proofs.Numbers.{reaction_number, place_number, row_below, number_split}
 use Rattle.interleavings.specs.System.{System, Micro, take, see, sub, signal, await, advance, load, store, is_take, full, half_number}
 use Rattle.interleavings.specs.Owners.{Owner, nth_of, nth_in}
 use Rattle.interleavings.specs.Media.{Half, IsMedium, needed, needed_turn, precedence, owner_of, advances_half}

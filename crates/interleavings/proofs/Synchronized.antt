@@ -3,11 +3,11 @@ use Rattle.std.proofs.Common.{◌≡◌, ℕ, zero, suc, ◌+◌, ◌-◌, ◌*�
 use Rattle.std.specs.Prelude.{slice_get}
 use Rattle.std.proofs.lemmas.Option.{same_Some, slice_get_within}
 use Rattle.std.proofs.lemmas.Bool.{lt-ltb, le-ltb, cases_lt, cases_eq}
-use Rattle.consistent_cuts.specs.Precedence.{Precedence, Event, event, IsMade, IsConsistent, IsReady}
-use Rattle.consistent_cuts.specs.Sites.{step_at, reaction_at, place_at, passes, number_of}
-use Rattle.consistent_cuts.proofs.Numbers.{reaction_number, number_split}
-use Rattle.consistent_cuts.proofs.Between.{passes_from, passes_not_past}
-use Rattle.consistent_cuts.proofs.Cuts.{progress}
+use Rattle.interleavings.specs.Precedence.{Precedence, Event, event, IsMade, IsConsistent, IsReady}
+use Rattle.interleavings.specs.Sites.{step_at, reaction_at, place_at, passes, number_of}
+use Rattle.interleavings.proofs.Numbers.{reaction_number, number_split}
+use Rattle.interleavings.proofs.Between.{passes_from, passes_not_past}
+use Rattle.interleavings.proofs.Cuts.{progress}
 use Rattle.interleavings.specs.System.{System, State, Micro, take, see, sub, signal, await, advance, load, store, is_take, is_signal, stores, total, run, told, enabled, enabled_by, full, next, round_number}
 use Rattle.interleavings.specs.Owners.{Owner, nth_of}
 use Rattle.interleavings.specs.Media.{Half, needed, precedence}

@@ -1,12 +1,12 @@
 -- The totals that counts tell: one more step, and a test that one sequence owns.
 use Rattle.std.proofs.Common.{◌≡◌, ℕ, zero, suc, ◌+◌, ◌<◌, ◌≤◌, ◌⊎◌, Bool, refl, sym, ap, subst, inl, inr, arith, ◌∙◌, add-one}
 use Rattle.std.proofs.lemmas.Bool.{cases_eq}
-use Rattle.consistent_cuts.specs.Precedence.{one_more, IsMade}
-use Rattle.consistent_cuts.specs.Sites.{step_at, hit, passes}
+use Rattle.interleavings.specs.Precedence.{one_more, IsMade}
+use Rattle.interleavings.specs.Sites.{step_at, hit, passes}
 use Rattle.interleavings.specs.System.{System, Micro, total_to, total}
 use Rattle.interleavings.specs.Owners.{Owner, IsOwned, nth_of}
-use Rattle.consistent_cuts.proofs.Cuts.{one_more-same, one_more-other}
-use Rattle.consistent_cuts.proofs.Counting.{nth_made}
+use Rattle.interleavings.proofs.Cuts.{one_more-same, one_more-other}
+use Rattle.interleavings.proofs.Counting.{nth_made}
 
 module _ {P : Type 0} (w : System P) (p : Micro → Bool) where
   passes_one : (s n : ℕ) → passes p (w.codes s) (n + 1) ≡ passes p (w.codes s) n + hit p (step_at (w.codes s) n)

@@ -2,7 +2,7 @@
 -- loaded after that round was stored. An access of element y in reaction j is one of round j
 -- times its period plus the access's number; its place is the round modulo the places of y.
 use Rattle.std.specs.Prelude.{◌≡◌, ℕ, ◌+◌, ◌*◌, ◌%◌, ◌<◌, Some, slice_get}
-use Rattle.consistent_cuts.specs.Sites.{number_of}
+use Rattle.interleavings.specs.Sites.{number_of}
 use Rattle.interleavings.specs.System.{System, load, store}
 
 module _ {P : Type 0} (w : System P) (c : ℕ → ℕ) where

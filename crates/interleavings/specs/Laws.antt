@@ -1,7 +1,7 @@
 -- The laws of every run of a synchronized system: what it is, that it
 -- is fresh, that it can go on, and what one more step does.
 use Rattle.std.specs.Prelude.{◌≡◌, ℕ, ◌<◌, ◌≤◌, true, List, Some, ℤ}
-use Rattle.consistent_cuts.specs.Precedence.{one_more}
+use Rattle.interleavings.specs.Precedence.{one_more}
 use Rattle.interleavings.specs.System.{
   System,
   Micro,

@@ -1,3 +1,6 @@
+pub mod Precedence
+pub mod Sites
+pub mod CutLaws
 pub mod System
 pub mod Sound
 pub mod Owners

@@ -17,8 +17,8 @@ use Rattle.std.specs.Prelude.{
   nat_eq,
   ◌&&◌,
 }
-use Rattle.consistent_cuts.specs.Precedence.{Precedence, Event}
-use Rattle.consistent_cuts.specs.Sites.{step_at, passes}
+use Rattle.interleavings.specs.Precedence.{Precedence, Event}
+use Rattle.interleavings.specs.Sites.{step_at, passes}
 use Rattle.interleavings.specs.System.{
   System,
   Micro,

@@ -1,7 +1,7 @@
 -- One serial order of all micro-steps of a reaction, in which each need stands earlier.
 use Rattle.std.specs.Prelude.{◌≡◌, ℕ, ◌+◌, ◌*◌, ◌<◌, ◌≤◌, ◌⊎◌, Bool, true, false, cond, nat_lt, Some, slice_get, length}
-use Rattle.consistent_cuts.specs.Precedence.{Event}
-use Rattle.consistent_cuts.specs.Sites.{reaction_at, place_at}
+use Rattle.interleavings.specs.Precedence.{Event}
+use Rattle.interleavings.specs.Sites.{reaction_at, place_at}
 use Rattle.interleavings.specs.System.{System, Micro, take, see, sub, signal, await}
 use Rattle.interleavings.specs.Owners.{Owner}
 use Rattle.interleavings.specs.Media.{Half, IsMedium, IsOwnWait}

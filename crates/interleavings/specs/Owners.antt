@@ -1,8 +1,8 @@
 -- Who makes the events that others wait for: one sequence for each
 -- test, and families of tests whose events come in one order.
 use Rattle.std.specs.Prelude.{◌≡◌, ℕ, zero, suc, ◌+◌, ◌/◌, ◌%◌, ◌<◌, Bool}
-use Rattle.consistent_cuts.specs.Precedence.{Event, event}
-use Rattle.consistent_cuts.specs.Sites.{Site, step_at, hit, IsSite, nth}
+use Rattle.interleavings.specs.Precedence.{Event, event}
+use Rattle.interleavings.specs.Sites.{Site, step_at, hit, IsSite, nth}
 use Rattle.interleavings.specs.System.{System, Micro}
 
 -- one sequence owns a test: it holds at one site of that sequence, and nowhere else

@@ -1,7 +1,7 @@
 -- What each next step has to find in consistent counts, so that every run is what its counts tell.
 use Rattle.std.specs.Prelude.{◌≡◌, ℕ, ◌+◌, ◌-◌, ◌<◌, ◌≤◌, true, Some, ℤ}
-use Rattle.consistent_cuts.specs.Precedence.{Precedence, IsConsistent, IsReady}
-use Rattle.consistent_cuts.specs.Sites.{step_at}
+use Rattle.interleavings.specs.Precedence.{Precedence, IsConsistent, IsReady}
+use Rattle.interleavings.specs.Sites.{step_at}
 use Rattle.interleavings.specs.System.{
   System,
   Micro,

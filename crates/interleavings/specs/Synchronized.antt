@@ -1,6 +1,6 @@
 -- A synchronized system: what each step of its sequences is part of.
 use Rattle.std.specs.Prelude.{◌≡◌, ℕ, ◌<◌, ◌⊎◌, Some, slice_get}
-use Rattle.consistent_cuts.specs.Sites.{step_at}
+use Rattle.interleavings.specs.Sites.{step_at}
 use Rattle.interleavings.specs.System.{System, take, signal, load, store, stores}
 use Rattle.interleavings.specs.Owners.{Owner, IsOwned}
 use Rattle.interleavings.specs.Media.{Half, IsMedium, IsWire, IsWireLoad}

@@ -25,8 +25,8 @@ use Rattle.std.specs.Prelude.{
   ℤ,
   pos,
 }
-use Rattle.consistent_cuts.specs.Sites.{Code, step_at, reaction_at, passes}
-use Rattle.consistent_cuts.specs.Precedence.{one_more}
+use Rattle.interleavings.specs.Sites.{Code, step_at, reaction_at, passes}
+use Rattle.interleavings.specs.Precedence.{one_more}
 
 -- A micro-step. Semaphore x: `take` at depth 1, `see` and then `sub` at a
 -- greater depth. Medium m: i is a half of a transfer of one reaction.

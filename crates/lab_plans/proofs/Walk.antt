@@ -7,7 +7,7 @@ use Rattle.syn_base.specs.Rows.{Reactions}
 use Rattle.syn_base.specs.declared.limits.LimitFault.{LimitFault}
 use Rattle.outside.specs.declared.file.File.{File}
 use Rattle.outside.specs.declared.file.File.TheVariants.{Algorithm, Architecture, Sensors, Code, Durations}
-use Rattle.algo_defs.specs.declared.definition.Defs.{Defs}
+use Rattle.algo_text.specs.declared.definition.Defs.{Defs}
 use Rattle.algo_text.specs.Text.{definitions_of}
 use Rattle.elaboration.specs.Elaborated.{elaboration_of}
 use Rattle.algo_tree.specs.Tree.{Vertex}
@@ -17,9 +17,9 @@ use Rattle.durations.specs.Table.{Table, durations_of}
 use Rattle.flat_graph.specs.Graph.{Graph}
 use Rattle.flat_laws.specs.FlatOf.{flat_of}
 use Rattle.executive_program.specs.declared.program.Program.{Program}
-use Rattle.code_text.specs.Text.{program_in}
-use Rattle.code_text.specs.declared.fault.CodeError.{CodeError}
-use Rattle.code_text.specs.declared.fault.CodeError.TheVariants as macros
+use Rattle.macro_code.specs.ReadText.{program_in}
+use Rattle.macro_code.specs.declared.fault.CodeError.{CodeError}
+use Rattle.macro_code.specs.declared.fault.CodeError.TheVariants as macros
 use Rattle.sensor_table.specs.SensorTable.{rows_of}
 use Rattle.schedule.specs.declared.decision.Schedule.{Schedule}
 use Rattle.actual_defs.specs.declared.fault.ActualError.{ActualError}

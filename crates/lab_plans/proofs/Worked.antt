@@ -1,7 +1,7 @@
 -- Plans over worked texts, and what is answered of the pressure run.
 use Rattle.std.proofs.Common.{◌≡◌, ℕ, refl, List, [], ◌∷◌, ◌++◌, length, Option, Some, None, Result, Ok, Err, codes}
 use Rattle.std.specs.Fmt.{digits}
-use Rattle.code_text.specs.Forms.{macro_of}
+use Rattle.macro_code.specs.Forms.{macro_of}
 use Rattle.csv.specs.Writing.{fields_text, is_blank}
 use Rattle.syn_base.specs.Bytes.{Bytes}
 use Rattle.outside.specs.Bytes.{named}

@@ -27,17 +27,17 @@ use Rattle.macro_code.specs.Text.{macro_code}
 use Rattle.actual_defs.specs.declared.fault.ActualError.{ActualError}
 use Rattle.actual_durations.specs.Actual.{actual_of}
 use Rattle.chart_picture.specs.Picture.{picture}
-use Rattle.date_picture.specs.Picture.{dates_picture}
-use Rattle.dates_trace.specs.Trace.{dates_trace}
+use Rattle.chart_picture.specs.DatesPicture.{dates_picture}
+use Rattle.trace_events.specs.DatesTrace.{dates_trace}
 use Rattle.trace_events.specs.Trace.{chart_trace}
 use Rattle.graph_drawing.specs.FlatDrawing.{placed_drawing}
-use Rattle.self_timed_period.specs.declared.period.Period.{Period}
-use Rattle.self_timed_period.specs.Period.{period_of_schedule}
-use Rattle.latencies.specs.Stated.{latencies_of_schedule}
-use Rattle.schedule_report.specs.Numbers as numbers
-use Rattle.schedule_report.specs.Transfers.{transfers}
-use Rattle.schedule_report.specs.declared.report.Report.{Report}
-use Rattle.busiest_line.specs.Busiest.{busiest}
+use Rattle.self_timed.specs.declared.period.Period.{Period}
+use Rattle.self_timed.specs.Period.{period_of_schedule}
+use Rattle.self_timed.specs.StatedLatencies.{latencies_of_schedule}
+use Rattle.lower_bound.specs.Numbers as numbers
+use Rattle.lower_bound.specs.Transfers.{transfers}
+use Rattle.lower_bound.specs.declared.report.Report.{Report}
+use Rattle.lower_bound.specs.Busiest.{busiest}
 use Rattle.lower_bound.specs.Chain.{chain_links}
 use Rattle.report_text.specs.Text.{report_text}
 use Rattle.report_text.specs.declared.figures.Figures.{Figures}

@@ -3,7 +3,7 @@ use Rattle.std.specs.Prelude.{◌++◌, ◌*◌, ℕ, length, sum, Option, Some,
 use Rattle.syn_base.specs.Bytes.{Bytes}
 use Rattle.syn_base.specs.Rows.{Reactions}
 use Rattle.outside.specs.declared.file.File.TheVariants.{Architecture, Code, Durations}
-use Rattle.algo_defs.specs.declared.definition.Defs.{Defs}
+use Rattle.algo_text.specs.declared.definition.Defs.{Defs}
 use Rattle.algo_tree.specs.Tree.{Vertex}
 use Rattle.algo_tree.specs.Ends.{actuator_lengths}
 use Rattle.archi_defs.specs.Text.{Described}
@@ -13,17 +13,17 @@ use Rattle.durations.specs.Table.{Table}
 use Rattle.flat_graph.specs.Graph.{Graph}
 use Rattle.flat_laws.specs.FlatOf.{flat_of}
 use Rattle.executive_program.specs.declared.program.Program.{Program}
-use Rattle.code_text.specs.Text.{program_in}
+use Rattle.macro_code.specs.ReadText.{program_in}
 use Rattle.check_places.specs.Why.{why as reason}
 use Rattle.why_text.specs.Text.{answer_text, setting}
 use Rattle.act_text.specs.Names.{actuator_names}
 use Rattle.sync_meaning.specs.Simulated.{simulated}
 use Rattle.definition_drawing.specs.Drawing.{drawing}
-use Rattle.table_template.specs.Template.{template_text}
+use Rattle.sensor_table.specs.Template.{template_text}
 use Rattle.text_lint.specs.Algorithm.{algorithm_findings}
 use Rattle.text_lint.specs.Architecture.{architecture_findings}
 use Rattle.text_lint.specs.Printed.{findings_text}
-use Rattle.signal_plot.specs.Plot as signal
+use Rattle.svg_text.specs.Plot as signal
 use Rattle.command_plan.specs.Plan.{Plan, after, give, refuse}
 use Rattle.command_status.specs.Status.{Refusal, of_code, usage}
 use Rattle.top_plans.specs.Plans.{

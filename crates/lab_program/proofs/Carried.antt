@@ -7,7 +7,7 @@ use Rattle.outside.specs.Shelf.{Held}
 use Rattle.outside.specs.Sink.{Sunk}
 use Rattle.outside.specs.declared.file.File.{File}
 use Rattle.outside.specs.declared.file.File.TheVariants.{Architecture, Durations}
-use Rattle.algo_defs.specs.declared.definition.Defs.{Defs}
+use Rattle.algo_text.specs.declared.definition.Defs.{Defs}
 use Rattle.algo_text.specs.Text.{definitions_of}
 use Rattle.elaboration.specs.Elaborated.{elaboration_of}
 use Rattle.algo_tree.specs.Tree.{Vertex}
@@ -15,10 +15,10 @@ use Rattle.archi_defs.specs.Text.{Described, description_of}
 use Rattle.archi_defs.specs.declared.text.ArchiText.{ArchiText}
 use Rattle.archi_graph.specs.Archi.{Architecture as Archi}
 use Rattle.flat_graph.specs.Graph.{Graph}
-use Rattle.code_text.specs.Given.{Fails}
-use Rattle.code_text.specs.Text.{program_in}
-use Rattle.code_text.specs.declared.fault.CodeError.{CodeError}
-use Rattle.code_text.specs.declared.fault.CodeError.TheVariants as code
+use Rattle.macro_code.specs.Given.{Fails}
+use Rattle.macro_code.specs.ReadText.{program_in}
+use Rattle.macro_code.specs.declared.fault.CodeError.{CodeError}
+use Rattle.macro_code.specs.declared.fault.CodeError.TheVariants as code
 use Rattle.csv.specs.Reading.{default_config, records, strip_bom}
 use Rattle.durations.specs.Table.{Table, durations_of}
 use Rattle.flat_laws.specs.FlatOf.{flat_of}

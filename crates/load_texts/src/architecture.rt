@@ -11,9 +11,8 @@ ghost use Rattle.load_texts.specs.Architecture.{
 };
 
 use crate::lines::append_lines;
-use grown_text::append;
 use std::alloc::Global;
-use syn_base::OutOfMemory;
+use syn_base::{OutOfMemory, append};
 
 /// The text of the architecture: four operators on two media, and the durations.
 pub fn architecture(alloc: Global) -> Result<Vec<u8>, OutOfMemory>

@@ -17,8 +17,7 @@ ghost use Rattle.load_texts.specs.Algorithm.{
 };
 
 use crate::lines::append_lines;
-use grown_text::{append, append_count};
-use syn_base::OutOfMemory;
+use syn_base::{OutOfMemory, append, append_count};
 
 /// Appends the main graph with this many layers.
 pub fn append_main(out: &mut Vec<u8>, layers: usize) -> Result<(), OutOfMemory>

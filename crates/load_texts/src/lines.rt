@@ -2,8 +2,7 @@
 ghost use Rattle.std.specs.Prelude.{◌≡◌, ◌++◌, OnOk, map};
 ghost use Rattle.load_texts.specs.Lines.{lines_text};
 
-use grown_text::append;
-use syn_base::OutOfMemory;
+use syn_base::{OutOfMemory, append};
 
 /// Appends these lines, each with a line feed after it.
 pub fn append_lines(out: &mut Vec<u8>, lines: &[&str]) -> Result<(), OutOfMemory>

@@ -4,9 +4,8 @@ ghost use Rattle.load_texts.specs.Table.{next_state, row, rows, state_after, tab
 
 use crate::generator::Generator;
 use crate::lines::append_lines;
-use grown_text::{append, append_count};
 use std::alloc::Global;
-use syn_base::{OutOfMemory, print_int};
+use syn_base::{OutOfMemory, append, append_count, print_int};
 
 /// The table of load `n`: its header and a row for each of its 100 + n reactions.
 pub fn table_of(alloc: Global, n: u32) -> Result<Vec<u8>, OutOfMemory>

@@ -15,7 +15,7 @@ use Rattle.lower_bound.specs.Bound.{greatest, divided_up, least, carried_to, tak
 use Rattle.lower_bound.specs.Laws.{NoValidScheduleIsShorter}
 use Rattle.lower_bound.proofs.Parts.{Each, one_of, both_of, least_low}
 use Rattle.lower_bound.proofs.Late.{IsLate, all_late}
-use Rattle.lower_bound.proofs.Loads.{total, work_low}
+use Rattle.lower_bound.proofs.OperatorWork.{total, work_low}
 
 ends_low : (xs : List Act) → Each (λ y. end_of y ≤ latest xs) xs
 ends_low [] = tt

@@ -1,3 +1,12 @@
+pub mod Runs
+pub mod Busy
+pub mod Thousandths
+pub mod Steps
+pub mod Counting
+pub mod WholeReport
+mod WorkedReports
+pub mod Low
+pub mod WorkedBusiest
 pub mod Back
 pub mod Below
 pub mod Done
@@ -5,7 +14,7 @@ pub mod Follow
 pub mod Late
 pub mod Least
 pub mod Lesser
-pub mod Loads
+pub mod OperatorWork
 pub mod Longer
 pub mod Parts
 pub mod Plain

@@ -1,3 +1,8 @@
+pub mod Runs
+pub mod LoadLaws
+pub mod Numbers
+pub mod Transfers
+pub mod Busiest
 pub mod Bound
 pub mod Chain
 pub mod Laws

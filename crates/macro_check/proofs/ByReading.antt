@@ -8,7 +8,7 @@ use Rattle.executive_program.specs.Instructions.{readers}
 use Rattle.executive_program.specs.Places.{writer_of, written_at}
 use Rattle.executive_program.specs.WellFormed.{operator_of}
 use Rattle.program_walks.specs.Walks.{all_at}
-use Rattle.buffer_check.specs.Pairs.{has_operator, is_read_between, is_written_between}
+use Rattle.program_walks.specs.Pairs.{has_operator, is_read_between, is_written_between}
 use Rattle.program_tables.specs.declared.readings.Reading.{Reading}
 use Rattle.program_tables.specs.Readings.{reading_of, readings}
 use Rattle.check_laws.specs.Tests.{are_guarded}

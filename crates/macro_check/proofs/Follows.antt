@@ -3,11 +3,11 @@ use Rattle.std.proofs.Common.{◌≡◌, ℕ, zero, suc, ◌+◌, ◌-◌, ◌/�
 use Rattle.std.specs.Prelude.{slice_get}
 use Rattle.std.specs.List.{range_with_len}
 use Rattle.executive_program.specs.declared.program.Program.{Program}
-use Rattle.value_check.specs.declared.carrying.Origin.{Origin}
-use Rattle.value_check.specs.declared.carrying.Origin.TheVariants.{Made, Received, Nowhere}
+use Rattle.order_check.specs.declared.carrying.Origin.{Origin}
+use Rattle.order_check.specs.declared.carrying.Origin.TheVariants.{Made, Received, Nowhere}
 use Rattle.executive_program.specs.Places.{carried_within}
-use Rattle.value_check.specs.Carries.{origin, source_from}
-use Rattle.value_check.proofs.Kept.{hop}
+use Rattle.order_check.specs.Carries.{origin, source_from}
+use Rattle.order_check.proofs.Kept.{hop}
 use Rattle.check_laws.specs.Items.{is_made, made_from}
 use Rattle.macro_check.specs.Carrying.{follow, follow_all, further, further_in, is_call, origin_or, source_met}
 use Rattle.macro_check.proofs.Told.{made_there}

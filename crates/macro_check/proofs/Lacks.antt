@@ -7,11 +7,11 @@ use Rattle.executive_program.specs.declared.program.Instr.TheVariants.{Suc1, Pre
 use Rattle.executive_program.specs.declared.program.Program.{Program}
 use Rattle.executive_program.specs.MicroSteps.{first_of}
 use Rattle.executive_program.specs.WellFormed.{Stands}
-use Rattle.buffer_check.specs.Opened.{are_opened}
+use Rattle.program_walks.specs.Opened.{are_opened}
 use Rattle.check_laws.specs.Items.{AreNamed, AreOpened, AreTransferred}
 use Rattle.check_laws.specs.Run.{stuck}
 use Rattle.check_laws.specs.Tests.{sequences_differ, calls_wrong, transfers_wrong, buffers_wrong, pairs_wrong, prologue_wrong, stopped, are_named, are_called, are_transferred, are_written, are_guarded, cause}
-use Rattle.buffer_check.proofs.Prologues.{opened_of, of_opened}
+use Rattle.program_walks.proofs.Prologues.{opened_of, of_opened}
 use Rattle.check_laws.proofs.Causes.{moved_of, guarded_of}
 use Rattle.check_laws.proofs.Guarded.{numbered_of}
 use Rattle.macro_check.specs.Awaiting.{MayRun}

@@ -16,7 +16,7 @@ use Rattle.program_tables.specs.declared.crossings.Crossing.{Crossing}
 use Rattle.program_tables.specs.Communications.{communicators_of}
 use Rattle.program_tables.specs.Crossings.{crossing, crossing_by, crossings, crossings_on}
 use Rattle.program_tables.proofs.Crossed.{all_from}
-use Rattle.value_check.specs.Transfers.{is_received, is_sent, is_wait}
+use Rattle.order_check.specs.Transfers.{is_received, is_sent, is_wait}
 use Rattle.check_laws.specs.Tests.{is_moved, waits_between}
 use Rattle.macro_check.specs.Tabled.{other_waits, waits_in}
 use Rattle.macro_check.proofs.Told.{made_there}

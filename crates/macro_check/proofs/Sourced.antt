@@ -19,11 +19,11 @@ use Rattle.program_walks.proofs.ListTests.{below_of, of_below}
 use Rattle.program_tables.specs.declared.crossings.Crossing.{Crossing}
 use Rattle.program_tables.specs.Crossings.{crossing, crossings, crossings_on}
 use Rattle.program_tables.proofs.Lone.{same_tests}
-use Rattle.buffer_check.specs.Buffers.{are_buffers}
-use Rattle.value_check.specs.declared.carrying.Origin.{Origin}
-use Rattle.value_check.specs.declared.carrying.Origin.TheVariants.{Received}
-use Rattle.value_check.specs.Calls.{has_len}
-use Rattle.value_check.specs.Carries.{are_kept, is_kept, origin_of, received, same_source, sent_on}
+use Rattle.program_walks.specs.Buffers.{are_buffers}
+use Rattle.order_check.specs.declared.carrying.Origin.{Origin}
+use Rattle.order_check.specs.declared.carrying.Origin.TheVariants.{Received}
+use Rattle.order_check.specs.Calls.{has_len}
+use Rattle.order_check.specs.Carries.{are_kept, is_kept, origin_of, received, same_source, sent_on}
 use Rattle.check_laws.specs.Items.{AreTransferred, is_made}
 use Rattle.check_laws.specs.Tests.{are_written, fits, has_same_len}
 use Rattle.check_laws.proofs.Sent.{found}

@@ -23,7 +23,7 @@ use Rattle.sequence_build_laws.proofs.Lists.{counts_tally, tally, tally_grows}
 use Rattle.check_laws.specs.Items.{AreGuarded, AreTransferred}
 use Rattle.check_laws.specs.Run.{awaited, on_medium, receive_before, receive_of, send_of, signal_of}
 use Rattle.executive_program.proofs.Passing.{full_signalled, full_taken}
-use Rattle.buffer_check.proofs.Guarded.{of_only}
+use Rattle.program_walks.proofs.Guarded.{of_only}
 use Rattle.macro_check.specs.Tabled.{crossing_at, crossing_before, in_row}
 use Rattle.macro_check.specs.Awaiting.{received_at, sent_at, stand_or}
 

@@ -28,9 +28,9 @@ use Rattle.program_walks.specs.Walks.{all_at}
 use Rattle.program_tables.specs.Crossings.{crossing}
 use Rattle.check_laws.specs.Tests.{fits}
 use Rattle.program_tables.specs.declared.crossings.Crossing.{Crossing}
-use Rattle.value_check.specs.declared.carrying.Origin.{Origin}
-use Rattle.value_check.specs.declared.carrying.Origin.TheVariants.{Made, Received, Nowhere}
-use Rattle.value_check.specs.Carries.{origin, same_source}
+use Rattle.order_check.specs.declared.carrying.Origin.{Origin}
+use Rattle.order_check.specs.declared.carrying.Origin.TheVariants.{Made, Received, Nowhere}
+use Rattle.order_check.specs.Carries.{origin, same_source}
 
 -- from a buffer that is received, this way further
 abbrev pub further : Origin → (ℕ → Origin) → Origin

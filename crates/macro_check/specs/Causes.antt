@@ -5,7 +5,7 @@ use Rattle.executive_program.specs.declared.program.Instr.TheVariants.{Suc1, Pre
 use Rattle.executive_program.specs.declared.program.Program.{Program}
 use Rattle.executive_program.specs.MicroSteps.{first_of}
 use Rattle.executive_program.specs.WellFormed.{Stands}
-use Rattle.buffer_check.specs.Opened.{are_opened}
+use Rattle.program_walks.specs.Opened.{are_opened}
 use Rattle.check_laws.specs.Run.{stuck}
 use Rattle.check_laws.specs.Tests.{
   Cause,

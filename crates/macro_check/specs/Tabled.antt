@@ -22,7 +22,7 @@ use Rattle.program_tables.specs.MarkRows.{row}
 use Rattle.executive_program.specs.Instructions.{operator, turn}
 use Rattle.executive_program.specs.Places.{communication_at}
 use Rattle.program_walks.specs.Walks.{implies}
-use Rattle.value_check.specs.Transfers.{is_wait}
+use Rattle.order_check.specs.Transfers.{is_wait}
 use Rattle.executive_program.specs.declared.program.Program.{Program}
 use Rattle.program_tables.specs.declared.crossings.Crossing.{Crossing}
 use Rattle.program_tables.specs.declared.roles.Role.TheVariants.{Called, Written, Read}

@@ -5,7 +5,7 @@ ghost use Rattle.executive_program.specs.Places.{caller_of};
 ghost use Rattle.program_tables.specs.MarkRows.{row};
 ghost use Rattle.program_tables.specs.declared.roles.Role.TheVariants.{Called};
 ghost use Rattle.program_tables.specs.Marks.{lone, marks_of};
-ghost use Rattle.value_check.specs.Calls.{called_at, is_before_twin};
+ghost use Rattle.order_check.specs.Calls.{called_at, is_before_twin};
 ghost use Rattle.check_laws.specs.Tests.{are_called, is_called};
 
 use executive_program::Program;

@@ -5,8 +5,8 @@ ghost use Rattle.executive_program.specs.Instructions.{turn};
 ghost use Rattle.executive_program.specs.WellFormed.{Stands};
 ghost use Rattle.program_tables.specs.declared.roles.Role.TheVariants.{Written};
 ghost use Rattle.program_tables.specs.Marks.{marks_of};
-ghost use Rattle.value_check.specs.declared.carrying.Origin.TheVariants.{Received};
-ghost use Rattle.value_check.specs.Carries.{origin, origin_of};
+ghost use Rattle.order_check.specs.declared.carrying.Origin.TheVariants.{Received};
+ghost use Rattle.order_check.specs.Carries.{origin, origin_of};
 ghost use Rattle.check_laws.specs.Items.{AreTransferred};
 ghost use Rattle.macro_check.specs.Carrying.{follow_all, from_transfer, further_in, origin_or};
 ghost use Rattle.macro_check.specs.Tabled.{AreTables};
@@ -14,11 +14,11 @@ ghost use Rattle.macro_check.specs.Tabled.{AreTables};
 use crate::awaiting::transfer_of;
 use crate::tables::Tables;
 use executive_program::{Instr, Program};
+use order_check::Origin;
 use program_tables::{Crossing, Mark, Write, write_of};
 use program_walks::turn_of;
 use std::alloc::Global;
 use syn_base::OutOfMemory;
-use value_check::Origin;
 
 /// The buffer that a transfer sends.
 fn from_transfer(crossing: Option<Crossing>) -> Origin

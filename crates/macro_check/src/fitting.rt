@@ -3,8 +3,8 @@ ghost use Rattle.std.specs.Prelude.{◌≡◌, ◌+◌, ◌<◌, ◌≤◌, ◌&
 ghost use Rattle.executive_program.specs.Instructions.{turn};
 ghost use Rattle.executive_program.specs.Places.{carried};
 ghost use Rattle.program_walks.specs.Walks.{all_at};
-ghost use Rattle.value_check.specs.Calls.{carries, carry_guards, carry_inputs, gives, gives_at, has_len, takes};
-ghost use Rattle.value_check.specs.Carries.{same_source};
+ghost use Rattle.order_check.specs.Calls.{carries, carry_guards, carry_inputs, gives, gives_at, has_len, takes};
+ghost use Rattle.order_check.specs.Carries.{same_source};
 ghost use Rattle.check_laws.specs.Tests.{fits, fits_at};
 ghost use Rattle.macro_check.specs.Carrying.{follow_all, met_in};
 ghost use Rattle.macro_check.specs.Tabled.{AreTables};
@@ -13,9 +13,9 @@ use crate::carrying::origin_in;
 use crate::tables::Tables;
 use executive_program::Program;
 use flat_graph::{Guard, Source, Vertex};
+use order_check::{Origin, has_len, has_output, ins_of, outs_of};
 use program_tables::call_of;
 use program_walks::{Stand, len_of, turn_of};
-use value_check::{Origin, has_len, has_output, ins_of, outs_of};
 
 /// Whether a buffer carries this output of an operation, by the table of what is met from each buffer.
 fn is_source(sources: &[Origin], buffer: usize, vertex: usize, port: usize) -> bool

@@ -6,16 +6,17 @@ ghost use Rattle.program_tables.specs.MarkRows.{row};
 ghost use Rattle.program_tables.specs.Communications.{communicators_of, places_of};
 ghost use Rattle.program_tables.specs.Crossings.{crossing, crossing_by, crossings, crossings_on};
 ghost use Rattle.program_walks.specs.Walks.{all_below};
-ghost use Rattle.value_check.specs.Transfers.{is_received, is_sent};
+ghost use Rattle.order_check.specs.Transfers.{is_received, is_sent};
 ghost use Rattle.check_laws.specs.Tests.{are_moved, are_transferred, is_moved};
 ghost use Rattle.macro_check.specs.Tabled.{other_waits, waits_in};
 
 use executive_program::Program;
-use order_check::{are_communicators, are_counted, are_on_media};
+use order_check::{
+    are_communicators, are_counted, are_on_media, is_receive_from, is_send_to, is_wait,
+};
 use program_tables::{Crossing, Mark, MarkTable, place_of_communication};
 use program_walks::{is_on, medium_of, operator_of, turn_of};
 use syn_base::Items;
-use value_check::{is_receive_from, is_send_to, is_wait};
 
 /// Whether a transfer has its send: in a communicator of its medium, to the operator that receives.
 fn is_sent(program: &Program, medium: usize, number: usize, moved: Crossing) -> bool

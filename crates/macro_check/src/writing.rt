@@ -11,11 +11,11 @@ use crate::fitting::are_fitting;
 use crate::tables::Tables;
 use executive_program::Program;
 use flat_graph::Vertex;
+use order_check::Origin;
 use program_tables::{Crossing, are_buffers};
 use program_walks::len_of;
 use std::alloc::Global;
 use syn_base::{Items, OutOfMemory};
-use value_check::Origin;
 
 /// Whether what is met is an output of an operation.
 pub fn is_call(origin: &Origin) -> bool

@@ -1,3 +1,5 @@
+pub mod Texts
+pub mod Refusals
 pub mod Parts
 pub mod Rows
 pub mod Appending

@@ -5,8 +5,7 @@ ghost use Rattle.macro_code.specs.Macros.{word_of};
 ghost use Rattle.macro_code.specs.Text.{buffer_name, each_after_comma, joined, line, word_line};
 
 use crate::macros::Macro;
-use grown_text::{append, append_count};
-use syn_base::OutOfMemory;
+use syn_base::{OutOfMemory, append, append_count};
 
 /// Appends the line of a macro without arguments.
 pub fn append_word_line(out: &mut Vec<u8>, name: Macro) -> Result<(), OutOfMemory>

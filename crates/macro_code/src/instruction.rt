@@ -8,8 +8,7 @@ use crate::arguments::{
 use crate::macros::Macro;
 use crate::named::Named;
 use executive_program::{Instr, SeqCode};
-use grown_text::append;
-use syn_base::OutOfMemory;
+use syn_base::{OutOfMemory, append};
 
 /// Appends the prologue of a sequence, and then its loop.
 pub fn append_sequence(out: &mut Vec<u8>, named: &Named, code: &SeqCode) -> Result<(), OutOfMemory>

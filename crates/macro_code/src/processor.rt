@@ -12,9 +12,8 @@ use crate::instruction::append_sequence;
 use crate::macros::Macro;
 use crate::named::Named;
 use executive_program::{Buffer, Program, SeqCode};
-use grown_text::{append, append_count};
 use std::alloc::Global;
-use syn_base::OutOfMemory;
+use syn_base::{OutOfMemory, append, append_count};
 
 /// Appends the text of an operator.
 pub fn append_processor(

@@ -6,7 +6,7 @@ use Rattle.algo_tree.specs.Meaning.{vertices_in}
 use Rattle.algo_tree.specs.Valid.{IsTree}
 use Rattle.algo_tree.specs.View.{vertices_of}
 use Rattle.algo_tree.specs.Counted.{operations_by, operations, operations_in}
-use Rattle.pass_laws.proofs.Appends.{counted-append}
+use Rattle.algo_tree.proofs.Appends.{counted-append}
 use Rattle.multi_period.specs.declared.mark.Mark.{Mark}
 use Rattle.multi_period.specs.Marks.{mark_at, IsMark, MayHave, AreMarked}
 use Rattle.multi_period.specs.Periods.{turns, keep, body, period_by, all_periods}

@@ -10,8 +10,8 @@ use Rattle.level_meaning.specs.Parts.{HasDistinctParts}
 use Rattle.algo_tree.specs.Tree.{Label, Vertices}
 use Rattle.algo_tree.specs.Meaning.{kind_outputs, kind_next, node, nodes}
 use Rattle.algo_tree.specs.View.{vertices_of}
-use Rattle.pass_laws.proofs.Views.{nodes-vertices_of}
-use Rattle.pass_laws.proofs.Appends.{blind}
+use Rattle.algo_tree.proofs.LevelViews.{nodes-vertices_of}
+use Rattle.algo_tree.proofs.Appends.{blind}
 use Rattle.multi_period.specs.declared.mark.Mark.{Mark}
 use Rattle.multi_period.specs.Marks.{IsMark}
 use Rattle.multi_period.specs.Periods.{count, keep_name, keep, inputs_from, run, when_runs, otherwise, body}

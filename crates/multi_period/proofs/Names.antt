@@ -8,8 +8,8 @@ use Rattle.level_meaning.specs.Level.{numbers_below}
 use Rattle.algo_tree.specs.Tree.{Label, Vertex, vertex, Vertices, no_vertices, and_vertex}
 use Rattle.algo_tree.specs.Meaning.{vertices_in}
 use Rattle.algo_tree.specs.View.{vertices_of}
-use Rattle.operation_paths.specs.Named.{is_word, AreNames, IsNamed, AllNamed, HasNames}
-use Rattle.operation_paths.specs.Bounded.{IsBounded, AllBounded, HasBounds}
+use Rattle.algo_tree.specs.Named.{is_word, AreNames, IsNamed, AllNamed, HasNames}
+use Rattle.algo_tree.specs.Bounded.{IsBounded, AllBounded, HasBounds}
 use Rattle.multi_period.specs.declared.mark.Mark.{Mark}
 use Rattle.multi_period.specs.Marks.{mark_at, IsMark, MayHave, AreMarked}
 use Rattle.multi_period.specs.Periods.{keep, body, period, period_by, all_periods, periods}

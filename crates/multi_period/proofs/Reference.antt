@@ -6,7 +6,7 @@ use Rattle.level_meaning.specs.declared.part.Part.TheVariants.{Named, Numbered}
 use Rattle.level_meaning.specs.Level.{Values, Vector, State, Node, vector_at, zeros, numbers_below, all_hold, with_node, node_outputs, node_next, graph_outputs, graph_next, graph_initial}
 use Rattle.algo_tree.specs.Tree.{Label, vertex, Vertices}
 use Rattle.algo_tree.specs.Meaning.{asked_by, kind_outputs, node, nodes}
-use Rattle.pass_laws.proofs.Appends.{blind}
+use Rattle.algo_tree.proofs.Appends.{blind}
 use Rattle.multi_period.specs.declared.mark.Mark.{Mark}
 use Rattle.multi_period.specs.Marks.{IsMark}
 use Rattle.multi_period.specs.Meaning.{held_by, held_in}

@@ -8,7 +8,7 @@ use Rattle.level_meaning.specs.Level.{zeros, numbers_below}
 use Rattle.algo_tree.specs.Tree.{Label, vertex, Vertices, no_vertices, and_vertex}
 use Rattle.algo_tree.specs.View.{vertices_of}
 use Rattle.algo_tree.specs.Typed.{IsLength, AreLengths, label_of, outs_of, source_length, AreGroups, IsTyped, AllTyped}
-use Rattle.pass_laws.proofs.Appends.{lengths-append, outs-append, typed-append}
+use Rattle.algo_tree.proofs.Appends.{lengths-append, outs-append, typed-append}
 use Rattle.multi_period.specs.declared.mark.Mark.{Mark}
 use Rattle.multi_period.specs.Marks.{IsMark, AreMarked, MayHave}
 use Rattle.multi_period.specs.Periods.{count, keep, inputs_from, run, when_runs, otherwise, body, period, period_by, all_periods}

@@ -11,8 +11,8 @@ use Rattle.algo_tree.specs.Tree.{Label, Kind, sensor, actuator, constant, delay,
 use Rattle.algo_tree.specs.Meaning.{asked_by, node, nodes}
 use Rattle.algo_tree.specs.View.{vertices_of}
 use Rattle.algo_tree.specs.Well.{AreOwn, IsKindWell, IsWell, AllWell}
-use Rattle.pass_laws.proofs.Segments.{OrderFrom, in_order-from, order-append, before-append, before_below, order_below, before-asked}
-use Rattle.pass_laws.proofs.Appends.{well-append}
+use Rattle.algo_tree.proofs.Segments.{OrderFrom, in_order-from, order-append, before-append, before_below, order_below, before-asked}
+use Rattle.algo_tree.proofs.Appends.{well-append}
 use Rattle.multi_period.specs.declared.mark.Mark.{Mark}
 use Rattle.multi_period.specs.Marks.{IsMarkable, IsMark, AreMarked, MayHave}
 use Rattle.multi_period.specs.Periods.{keep, inputs_from, run, body, period, period_by, all_periods}

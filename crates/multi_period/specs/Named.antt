@@ -1,7 +1,7 @@
 -- The outputs of marked references have names.
 use Rattle.std.specs.Prelude.{ℕ, suc, Option, Some, None}
 use Rattle.algo_tree.specs.Tree.{Label, Vertices, no_vertices, and_vertex, vertex}
-use Rattle.operation_paths.specs.Named.{AreNames}
+use Rattle.algo_tree.specs.Named.{AreNames}
 use Rattle.multi_period.specs.declared.mark.Mark.{Mark}
 
 -- If there is a mark, the names of the outputs of the reference are words.

@@ -7,9 +7,8 @@ ghost use Rattle.multi_period.specs.Seen.{AreKept, ArePorts, label_seen, of_seen
 use crate::ports::{Ports, inputs_from};
 use algo_tree::{Kind, Vertex, copy_bytes, share_each, share_kind};
 use level_meaning::{Part, Source};
-use shared_items::Shared;
 use std::alloc::Global;
-use syn_base::{Items, OutOfMemory};
+use syn_base::{Items, OutOfMemory, Shared};
 
 /// What a vertex has whatever its part, its inputs and its kind.
 #[derive(Drop)]

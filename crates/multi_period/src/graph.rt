@@ -11,9 +11,8 @@ use crate::mark::Mark;
 use crate::ports::{Ports, firsts, inputs_from, outputs_of, ports_of};
 use algo_tree::{Kind, Vertex, copy_bytes, copy_part};
 use level_meaning::{Part, Source};
-use shared_items::Shared;
 use std::alloc::Global;
-use syn_base::{Items, OutOfMemory, len_at};
+use syn_base::{Items, OutOfMemory, Shared, len_at};
 
 /// A vertex of a definition of its own, which listings call `every`.
 fn make_vertex(

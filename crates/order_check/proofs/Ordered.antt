@@ -9,22 +9,22 @@ use Rattle.executive_program.specs.declared.program.Program.{Program}
 use Rattle.executive_program.specs.Places.{carried, places}
 use Rattle.executive_program.specs.WellFormed.{IsOrder}
 use Rattle.order_check.specs.Checked.{communicators, counts, follows_loops, named, on_media}
-use Rattle.buffer_check.specs.Buffers.{are_buffers}
-use Rattle.value_check.specs.Calls.{are_called}
-use Rattle.value_check.specs.Carries.{are_kept}
-use Rattle.buffer_check.specs.Opened.{are_opened}
+use Rattle.program_walks.specs.Buffers.{are_buffers}
+use Rattle.order_check.specs.Calls.{are_called}
+use Rattle.order_check.specs.Carries.{are_kept}
+use Rattle.program_walks.specs.Opened.{are_opened}
 use Rattle.order_check.specs.Order.{are_guards_right, are_numbers_right, are_values_right, is_order}
-use Rattle.buffer_check.specs.Pairs.{are_pairs}
+use Rattle.program_walks.specs.Pairs.{are_pairs}
 use Rattle.order_check.specs.Sequenced.{are_sequences}
-use Rattle.value_check.specs.Transfers.{are_transfers}
-use Rattle.value_check.proofs.Called.{calls_of, of_calls}
+use Rattle.order_check.specs.Transfers.{are_transfers}
+use Rattle.order_check.proofs.Called.{calls_of, of_calls}
 use Rattle.order_check.proofs.Exact.{communicators_of, counts_of, follows_of, named_of, of_communicators, of_counts, of_follows, of_named, of_on_media, on_media_of}
-use Rattle.buffer_check.proofs.Guarded.{numbered_of, of_pairs, pairs_of}
-use Rattle.value_check.proofs.Kept.{kept_of, of_kept}
+use Rattle.program_walks.proofs.Guarded.{numbered_of, of_pairs, pairs_of}
+use Rattle.order_check.proofs.Kept.{kept_of, of_kept}
 use Rattle.order_check.proofs.Listed.{sequences_of_test, test_of_sequences}
-use Rattle.buffer_check.proofs.Prologues.{of_opened, opened_of}
-use Rattle.value_check.proofs.Transferred.{of_transfers, transfers_of}
-use Rattle.buffer_check.proofs.Written.{buffers_of, of_buffers}
+use Rattle.program_walks.proofs.Prologues.{of_opened, opened_of}
+use Rattle.order_check.proofs.Transferred.{of_transfers, transfers_of}
+use Rattle.program_walks.proofs.Written.{buffers_of, of_buffers}
 
 module _ (p : Program) (g : Graph) (seqs : List Seq) (media : ℕ) (order : List ℕ) where
   order_of : is_order p g.vertices seqs media order ≡ true → IsOrder p g seqs media order

@@ -4,13 +4,13 @@ use Rattle.archi_graph.specs.declared.medium.Seq.{Seq}
 use Rattle.flat_graph.specs.declared.vertex.Vertex.{Vertex}
 use Rattle.executive_program.specs.declared.program.Program.{Program}
 use Rattle.order_check.specs.Checked.{communicators, counts, follows_loops, named, on_media}
-use Rattle.buffer_check.specs.Buffers.{are_buffers}
-use Rattle.value_check.specs.Calls.{are_called}
-use Rattle.value_check.specs.Carries.{are_kept}
-use Rattle.buffer_check.specs.Opened.{are_opened}
-use Rattle.buffer_check.specs.Pairs.{are_pairs}
+use Rattle.program_walks.specs.Buffers.{are_buffers}
+use Rattle.order_check.specs.Calls.{are_called}
+use Rattle.order_check.specs.Carries.{are_kept}
+use Rattle.program_walks.specs.Opened.{are_opened}
+use Rattle.program_walks.specs.Pairs.{are_pairs}
 use Rattle.order_check.specs.Sequenced.{are_sequences}
-use Rattle.value_check.specs.Transfers.{are_transfers}
+use Rattle.order_check.specs.Transfers.{are_transfers}
 
 module _ (p : Program) where
   -- names and numbers, where there are this many operations and media

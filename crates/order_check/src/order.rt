@@ -6,14 +6,14 @@ ghost use Rattle.archi_graph.specs.Sequences.{sequences, sequences_of};
 ghost use Rattle.executive_program.specs.WellFormed.{IsOrder};
 ghost use Rattle.order_check.specs.Order.{are_guards_right, are_numbers_right, are_values_right, is_order};
 
+use crate::clauses::{operations_are_called, transfers_are_right, transfers_keep_sources};
 use crate::loops::are_followed;
 use crate::naming::{are_communicators, are_counted, are_named, are_on_media};
 use crate::sequencing::are_sequences;
 use archi_graph::{Archi, Medium};
-use buffer_check::{buffers_are_right, pairs_guard, prologues_open};
 use executive_program::Program;
 use flat_graph::Flat;
-use value_check::{operations_are_called, transfers_are_right, transfers_keep_sources};
+use program_walks::{buffers_are_right, pairs_guard, prologues_open};
 
 /// Whether what the instructions name is there, communications stand in communicators of this many media,
 /// and each has one in each transfer of its medium.

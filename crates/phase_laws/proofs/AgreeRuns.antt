@@ -3,8 +3,8 @@ use Rattle.std.proofs.Common.{◌≡◌, ℕ, ◌+◌, ◌-◌, ◌*◌, ◌/◌
 use Rattle.std.specs.Prelude.{slice_get, slice_index_or, slice_set, replicate, nat_eq, nat_lt, nat_le}
 use Rattle.std.proofs.lemmas.Bool.{cases_eq, cases_lt, eq-eqb, ne_eqb, ltb-true}
 use Rattle.std.proofs.lemmas.List.{length-set, length-replicate, get_or-replicate, get_or_past}
-use Rattle.consistent_cuts.specs.Sites.{step_at, reaction_at, place_at}
-use Rattle.consistent_cuts.specs.Precedence.{one_more}
+use Rattle.interleavings.specs.Sites.{step_at, reaction_at, place_at}
+use Rattle.interleavings.specs.Precedence.{one_more}
 use Rattle.interleavings.specs.System as theory
 use Rattle.interleavings.specs.System.{Micro, State, put, place_number, load, store}
 use Rattle.level_meaning.specs.Level.{Vector, element_at, vector_at}

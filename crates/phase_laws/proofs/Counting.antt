@@ -5,7 +5,7 @@ use Rattle.std.specs.List.{count_by}
 use Rattle.std.proofs.lemmas.Option.{same_Some}
 use Rattle.std.proofs.lemmas.Bool.{cases_eq, cases_Bool, both_ways}
 use Rattle.std.proofs.lemmas.List.Sums.{sum_by-cons}
-use Rattle.consistent_cuts.specs.Sites.{hit}
+use Rattle.interleavings.specs.Sites.{hit}
 use Rattle.interleavings.specs.System.{Micro}
 use Rattle.interleavings.proofs.Sums.{none_below}
 use Rattle.interleavings.specs.Owners.{sum_below}

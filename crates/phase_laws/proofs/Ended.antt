@@ -5,8 +5,8 @@ use Rattle.std.specs.List.{range_with_len}
 use Rattle.std.proofs.lemmas.Bool.{lt-ltb, le-ltb, and_parts, eqb-true}
 use Rattle.std.proofs.lemmas.Option.{same_Some}
 use Rattle.std.proofs.lemmas.List.{drop_more, drop_all, length-map}
-use Rattle.consistent_cuts.specs.Sites.{reaction_at, place_at, number_of}
-use Rattle.consistent_cuts.proofs.Numbers.{reaction_number, place_number}
+use Rattle.interleavings.specs.Sites.{reaction_at, place_at, number_of}
+use Rattle.interleavings.proofs.Numbers.{reaction_number, place_number}
 use Rattle.level_meaning.specs.Level.{Values, Vector, vector_at, zeros}
 use Rattle.flat_graph.specs.declared.vertex.Source.{Source}
 use Rattle.flat_graph.specs.declared.vertex.Vertex.{Vertex}

@@ -1,7 +1,7 @@
 -- A sequence is enabled by the one word that its next micro-step looks at.
 use Rattle.std.proofs.Common.{◌≡◌, ℕ, ◌*◌, ◌+◌, cond, ltb, length, Option, Some, None, refl, ap, ◌∙◌}
 use Rattle.std.specs.Prelude.{nat_eq, nat_le}
-use Rattle.consistent_cuts.specs.Sites.{step_at, reaction_at}
+use Rattle.interleavings.specs.Sites.{step_at, reaction_at}
 use Rattle.executive_program.specs.declared.steps.MicroStep.{MicroStep}
 use Rattle.executive_program.specs.declared.steps.MicroStep.TheVariants.{Take, See, Lower, Signal, Await, Advance, Load, Store}
 use Rattle.executive_program.specs.Steps.{steps}

@@ -3,7 +3,7 @@ use Rattle.std.proofs.Common.{◌≡◌, ℕ, ◌+◌, ◌-◌, ◌<◌, ◌≤�
 use Rattle.std.specs.Prelude.{slice_get, nat_lt}
 use Rattle.std.proofs.lemmas.Option.{same_Some, slice_get_within}
 use Rattle.std.proofs.lemmas.Bool.{cases_eq, lt-ltb, le-ltb, eq-eqb, ne_eqb}
-use Rattle.consistent_cuts.specs.Sites.{reaction_at}
+use Rattle.interleavings.specs.Sites.{reaction_at}
 use Rattle.interleavings.specs.System.{Micro}
 use Rattle.interleavings.specs.Owners.{sum_below}
 use Rattle.level_meaning.specs.Level.{vector_at, element_at, all_joined}

@@ -2,7 +2,7 @@
 use Rattle.std.proofs.Common.{◌≡◌, ℕ, ◌+◌, ◌-◌, ◌*◌, ◌/◌, ◌%◌, ◌<◌, ◌⊎◌, Bool, true, false, cond, List, [], ◌∷◌, length, Some, refl, sym, ap, inl, inr, ⊎_elim, arith, ◌∙◌, ℤ, length-append}
 use Rattle.std.specs.Prelude.{nat_lt}
 use Rattle.std.proofs.lemmas.Bool.{lt-ltb, le-ltb, ne_eqb}
-use Rattle.consistent_cuts.specs.Sites.{reaction_at}
+use Rattle.interleavings.specs.Sites.{reaction_at}
 use Rattle.interleavings.specs.System.{Micro, load, store, advance}
 use Rattle.level_meaning.specs.Level.{element_at}
 use Rattle.executive_program.specs.declared.program.Instr.{Instr}

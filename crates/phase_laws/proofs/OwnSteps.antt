@@ -3,7 +3,7 @@ use Rattle.std.proofs.Common.{◌≡◌, ℕ, ◌+◌, ◌-◌, ◌<◌, ◌≤�
 use Rattle.std.specs.Prelude.{slice_get, slice_index_or, slice_set, nat_lt}
 use Rattle.std.proofs.lemmas.Option.{same_Some}
 use Rattle.std.proofs.lemmas.Bool.{cases_eq, cases_lt, lt-ltb, le-ltb, eq-eqb, ne_eqb}
-use Rattle.consistent_cuts.specs.Sites.{place_at, reaction_at}
+use Rattle.interleavings.specs.Sites.{place_at, reaction_at}
 use Rattle.interleavings.specs.System.{Micro}
 use Rattle.level_meaning.specs.Level.{Vector, Values, vector_at, all_joined}
 use Rattle.flat_graph.specs.declared.vertex.Kind.{Kind}

@@ -5,8 +5,8 @@ use Rattle.std.specs.List.{count_by}
 use Rattle.std.proofs.lemmas.Bool.{cases_lt, lt-ltb, le-ltb}
 use Rattle.std.proofs.lemmas.List.{length-map}
 use Rattle.std.proofs.Math.Nat.{mul-le-mul_right}
-use Rattle.consistent_cuts.specs.Sites.{step_at, place_at, reaction_at}
-use Rattle.consistent_cuts.proofs.Numbers.{number_split}
+use Rattle.interleavings.specs.Sites.{step_at, place_at, reaction_at}
+use Rattle.interleavings.proofs.Numbers.{number_split}
 use Rattle.interleavings.specs.System.{Micro, take as taken, see, sub, signal, await, advance, load, store, round_number, full}
 use Rattle.interleavings.specs.Owners.{sum_below}
 use Rattle.interleavings.specs.Sound.{IsRightAt}

@@ -4,7 +4,7 @@ use Rattle.std.specs.Prelude.{slice_get, take}
 use Rattle.std.specs.List.{count_by}
 use Rattle.std.proofs.lemmas.Option.{same_Some, slice_get_within}
 use Rattle.std.proofs.lemmas.Bool.{cases_lt, cases_Bool, lt-ltb, le-ltb}
-use Rattle.consistent_cuts.specs.Sites.{step_at, place_at, hit}
+use Rattle.interleavings.specs.Sites.{step_at, place_at, hit}
 use Rattle.interleavings.specs.System.{System, Micro, signal}
 use Rattle.interleavings.specs.Owners.{Owner, IsOwned, sum_below}
 use Rattle.interleavings.specs.Pairs.{late}

@@ -5,7 +5,7 @@ use Rattle.std.specs.List.{count_by}
 use Rattle.std.proofs.lemmas.Option.{slice_get_within}
 use Rattle.std.proofs.lemmas.Bool.{le-ltb}
 use native.Mathlib.Nat.{mul-one}
-use Rattle.consistent_cuts.specs.Sites.{step_at, place_at}
+use Rattle.interleavings.specs.Sites.{step_at, place_at}
 use Rattle.interleavings.specs.System.{Micro, take as taken, see, sub, advance}
 use Rattle.interleavings.specs.Owners.{sum_below}
 use Rattle.interleavings.proofs.Sums.{same_below}

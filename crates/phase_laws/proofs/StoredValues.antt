@@ -4,7 +4,7 @@ use Rattle.std.specs.Prelude.{nat_lt}
 use Rattle.std.proofs.lemmas.Bool.{lt-ltb, le-ltb}
 use Rattle.std.proofs.lemmas.Nat.{mod-mul-add, div-mul-add}
 use native.Mathlib.Nat.{mul-one}
-use Rattle.consistent_cuts.specs.Sites.{reaction_at}
+use Rattle.interleavings.specs.Sites.{reaction_at}
 use Rattle.interleavings.specs.System.{round_number}
 use Rattle.interleavings.specs.Owners.{sum_below}
 use Rattle.level_meaning.specs.Level.{element_at}

@@ -2,7 +2,7 @@
 use Rattle.std.proofs.Common.{◌≡◌, ℕ, ◌+◌, ◌*◌, ◌<◌, ◌≤◌, ◌⊎◌, length, Some, refl, sym, subst, inl, inr, ⊎_elim, arith, ◌∙◌}
 use Rattle.std.specs.Prelude.{slice_get}
 use Rattle.std.proofs.lemmas.Bool.{cases_lt, lt-ltb, le-ltb, ne_eqb}
-use Rattle.consistent_cuts.specs.Sites.{step_at, place_at}
+use Rattle.interleavings.specs.Sites.{step_at, place_at}
 use Rattle.interleavings.specs.System.{System, Micro, take as taken, see, sub, signal, load, store}
 use Rattle.interleavings.specs.Owners.{Owner}
 use Rattle.interleavings.specs.Media.{Half}

@@ -4,7 +4,7 @@ use Rattle.std.specs.Prelude.{slice_get}
 use Rattle.std.proofs.lemmas.Bool.{eqb-true, eq-eqb, lt-ltb, le-ltb, cases_lt, and_parts, and_from}
 use Rattle.std.proofs.lemmas.Option.{same_Some}
 use Rattle.std.proofs.Math.Nat.{le-max_left, le-max_right}
-use Rattle.consistent_cuts.specs.Sites.{step_at, place_at}
+use Rattle.interleavings.specs.Sites.{step_at, place_at}
 use Rattle.interleavings.specs.System.{System, Micro, take as taken, see, sub, signal, await, advance, load, store, stores}
 use Rattle.interleavings.specs.Owners.{Owner, IsOwned, sum_below}
 use Rattle.interleavings.specs.Media.{Half, stores_access, writer_of, IsMedium, IsOwnWait, IsWire}

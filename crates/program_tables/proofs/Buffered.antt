@@ -12,7 +12,7 @@ use Rattle.executive_program.specs.declared.program.SeqCode.{SeqCode}
 use Rattle.executive_program.specs.declared.program.Program.{Program}
 use Rattle.executive_program.specs.Instructions.{is_guarded, operator, operator_in, reads, turn, turn_of, waits_for, writes}
 use Rattle.executive_program.specs.WellFormed.{Stands}
-use Rattle.buffer_check.specs.Buffers.{is_near, is_operator, is_written_once, touches, writes_only}
+use Rattle.program_walks.specs.Buffers.{is_near, is_operator, is_written_once, touches, writes_only}
 use Rattle.program_walks.specs.Walks.{all_at, every, implies}
 use Rattle.program_walks.proofs.ListTests.{all_here, all_there, every_of, of_every, from_zero, to_zero, implied, implying}
 use Rattle.program_tables.specs.declared.roles.Role.TheVariants.{Written, Read}

@@ -5,7 +5,7 @@ use Rattle.std.specs.List.{list_all}
 use Rattle.program_tables.specs.declared.mark_table.Mark.{Mark}
 use Rattle.executive_program.specs.declared.program.Program.{Program}
 use Rattle.executive_program.specs.Places.{signals_empty, signals_full, takes_empty, takes_full}
-use Rattle.buffer_check.specs.Pairs.{first_place, is_read_between, is_written_between}
+use Rattle.program_walks.specs.Pairs.{first_place, is_read_between, is_written_between}
 use Rattle.program_walks.specs.Walks.{implies}
 use Rattle.program_tables.specs.declared.roles.Role.TheVariants.{EmptyTaken, FullSignalled, FullTaken, EmptySignalled, Read}
 use Rattle.program_tables.specs.Marks.{first_at, lone, marks_of}

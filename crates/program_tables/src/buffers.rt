@@ -2,7 +2,7 @@
 //! another sequence reads it.
 ghost use Rattle.std.specs.Prelude.{◌≡◌, ℕ, ◌<◌, ◌&&◌, nat_eq, nat_lt, length, slice_get};
 ghost use Rattle.std.specs.List.{list_all, list_any};
-ghost use Rattle.buffer_check.specs.Buffers.{are_buffers, has_places, is_buffer, is_buffer_at, is_near, is_operator, is_written_first, is_written_once, writes_at};
+ghost use Rattle.program_walks.specs.Buffers.{are_buffers, has_places, is_buffer, is_buffer_at, is_near, is_operator, is_written_first, is_written_once, writes_at};
 ghost use Rattle.executive_program.specs.Instructions.{is_guarded, operator};
 ghost use Rattle.program_tables.specs.MarkRows.{row};
 ghost use Rattle.program_tables.specs.declared.roles.Role.TheVariants.{Read, Written};

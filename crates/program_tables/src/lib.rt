@@ -5,7 +5,7 @@
 //! (`find_marks`) it says where each operation, buffer and pair of semaphores is named. `find_crossings` and its
 //! neighbours find the communications of each sequence and the communicators of each medium. Over these tables
 //! `are_buffers`, `guards` and `are_opened` are the exact checks of buffers, pairs of semaphores and prologues.
-//! `macro_check` asks them of programs of any origin; `buffer_check` has the same checks without memory.
+//! `macro_check` asks them of programs of any origin; `program_walks` has the same checks without memory.
 #![tactic(auto)]
 
 mod buffers;

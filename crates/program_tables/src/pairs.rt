@@ -1,7 +1,7 @@
 //! The check of pairs of semaphores by tables: each guards its buffer for its reader.
 ghost use Rattle.std.specs.Prelude.{◌≡◌, ◌<◌, ◌&&◌, nat_eq, nat_lt, length, slice_get, IfOk};
 ghost use Rattle.std.specs.List.{list_all};
-ghost use Rattle.buffer_check.specs.Pairs.{has_operator, is_read_between, is_written_between};
+ghost use Rattle.program_walks.specs.Pairs.{has_operator, is_read_between, is_written_between};
 ghost use Rattle.executive_program.specs.WellFormed.{operator_of};
 ghost use Rattle.executive_program.specs.Places.{writer_of, written_at};
 ghost use Rattle.program_tables.specs.declared.roles.Role.TheVariants.{Read, Written};

@@ -3,8 +3,8 @@ use Rattle.std.proofs.Common.{◌≡◌, ℕ, suc, ◌+◌, ◌<◌, ◌≤◌, 
 use Rattle.std.proofs.lemmas.List.{append-nil, drop_all}
 use Rattle.syn_base.specs.Bytes.{Bytes}
 use Rattle.timing_chart.specs.Chart.{line_text, text_of}
-use Rattle.schedule_report.specs.declared.loads.Load.{Load}
-use Rattle.schedule_report.specs.declared.alone.Alone.{Alone}
+use Rattle.lower_bound.specs.declared.loads.Load.{Load}
+use Rattle.lower_bound.specs.declared.alone.Alone.{Alone}
 use Rattle.report_text.specs.Text.{alone_line, alone_lines, load_line, load_lines}
 
 -- the first of what is left, whatever stands where there is none

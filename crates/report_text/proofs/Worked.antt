@@ -7,16 +7,16 @@ use Rattle.flat_graph.specs.declared.vertex.Kind.TheVariants.{Sensor, Actuator}
 use Rattle.archi_graph.specs.Archi.{Architecture}
 use Rattle.schedule.proofs.Examples.{archi, medium, source, vertex}
 use Rattle.timing_chart.specs.Chart.{line_text, text_of}
-use Rattle.self_timed_period.specs.declared.period.Period.{Period}
-use Rattle.latencies.specs.declared.latency.Latency.{Latency}
+use Rattle.self_timed.specs.declared.period.Period.{Period}
+use Rattle.self_timed.specs.declared.latency.Latency.{Latency}
 use Rattle.lower_bound.specs.declared.links.Link.{Link}
-use Rattle.schedule_report.specs.declared.ratio.Ratio.{Ratio}
-use Rattle.schedule_report.specs.declared.loads.Load.{Load}
-use Rattle.schedule_report.specs.declared.alone.Alone.{Alone}
-use Rattle.schedule_report.specs.declared.report.Report.{Report}
-use Rattle.schedule_report.specs.declared.transfers.Transfers.{Transfers}
-use Rattle.busiest_line.specs.declared.busiest.Line.{Line}
-use Rattle.busiest_line.specs.declared.busiest.Line.TheVariants.{Medium, Operator}
+use Rattle.lower_bound.specs.declared.ratio.Ratio.{Ratio}
+use Rattle.lower_bound.specs.declared.loads.Load.{Load}
+use Rattle.lower_bound.specs.declared.alone.Alone.{Alone}
+use Rattle.lower_bound.specs.declared.report.Report.{Report}
+use Rattle.lower_bound.specs.declared.transfers.Transfers.{Transfers}
+use Rattle.lower_bound.specs.declared.busiest.Line.{Line}
+use Rattle.lower_bound.specs.declared.busiest.Line.TheVariants.{Medium, Operator}
 use Rattle.report_text.specs.declared.figures.Figures.{Figures}
 use Rattle.report_text.specs.declared.figures.Pace.{Pace}
 use Rattle.report_text.specs.Text.{alone_lines, beside_lines, best_alone, busiest_line, load_lines, period_line, ratio_word, report_text, transfers_line}

@@ -24,18 +24,18 @@ use Rattle.flat_graph.specs.declared.vertex.Vertex.{Vertex}
 use Rattle.archi_graph.specs.declared.medium.Medium.{Medium}
 use Rattle.archi_graph.specs.Archi.{Architecture}
 use Rattle.timing_chart.specs.Chart.{Line, operation_name, operator_name, text_of}
-use Rattle.self_timed_period.specs.declared.period.Period.{Period}
-use Rattle.latencies.specs.declared.latency.Latency.{Latency}
+use Rattle.self_timed.specs.declared.period.Period.{Period}
+use Rattle.self_timed.specs.declared.latency.Latency.{Latency}
 use Rattle.lower_bound.specs.declared.links.Link.{Link}
-use Rattle.schedule_report.specs.Numbers.{ratio}
-use Rattle.schedule_report.specs.declared.ratio.Ratio.{Ratio}
-use Rattle.schedule_report.specs.declared.loads.Load.{Load}
-use Rattle.schedule_report.specs.declared.alone.Alone.{Alone}
-use Rattle.schedule_report.specs.declared.report.Report.{Report}
-use Rattle.schedule_report.specs.declared.transfers.Transfers.{Transfers}
-use Rattle.busiest_line.specs.declared.busiest.Busiest.{Busiest}
-use Rattle.busiest_line.specs.declared.busiest.Line as busy
-use Rattle.busiest_line.specs.declared.busiest.Line.TheVariants as busy_line
+use Rattle.lower_bound.specs.Numbers.{ratio}
+use Rattle.lower_bound.specs.declared.ratio.Ratio.{Ratio}
+use Rattle.lower_bound.specs.declared.loads.Load.{Load}
+use Rattle.lower_bound.specs.declared.alone.Alone.{Alone}
+use Rattle.lower_bound.specs.declared.report.Report.{Report}
+use Rattle.lower_bound.specs.declared.transfers.Transfers.{Transfers}
+use Rattle.lower_bound.specs.declared.busiest.Busiest.{Busiest}
+use Rattle.lower_bound.specs.declared.busiest.Line as busy
+use Rattle.lower_bound.specs.declared.busiest.Line.TheVariants as busy_line
 use Rattle.report_text.specs.declared.figures.Figures.{Figures}
 use Rattle.report_text.specs.declared.figures.Pace.{Pace}
 

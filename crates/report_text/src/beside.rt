@@ -5,9 +5,8 @@ ghost use Rattle.report_text.specs.Text.{beside_lines, best_alone, best_from, be
 
 use crate::figures::Pace;
 use crate::line::{append_number, append_period_word};
-use grown_text::{append, append_count};
-use schedule_report::Alone;
-use syn_base::OutOfMemory;
+use lower_bound::Alone;
+use syn_base::{OutOfMemory, append, append_count};
 
 /// Appends the length and the period of the pressure run, and the time of the operator that is fastest
 /// alone, where there is one on which all operations may stand. Nothing is appended where nothing was

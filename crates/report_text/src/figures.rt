@@ -1,10 +1,7 @@
 //! What a report tells.
 
-use busiest_line::Busiest;
-use latencies::Latency;
-use lower_bound::Link;
-use schedule_report::{Report, Transfers};
-use self_timed_period::Period;
+use lower_bound::{Busiest, Link, Report, Transfers};
+use self_timed::{Latency, Period};
 use syn_base::Items;
 
 /// How long a schedule is, and how fast its reactions follow each other.

@@ -15,10 +15,9 @@ ghost use Rattle.report_text.specs.Text.{
 };
 
 use flat_graph::Vertex;
-use grown_text::{append, append_count};
-use schedule_report::{Alone, Load, Ratio, Transfers, ratio_of};
-use self_timed_period::Period;
-use syn_base::OutOfMemory;
+use lower_bound::{Alone, Load, Ratio, Transfers, ratio_of};
+use self_timed::Period;
+use syn_base::{OutOfMemory, append, append_count};
 
 /// Appends a line of a word and a number.
 pub fn append_number(out: &mut Vec<u8>, word: &[u8], number: u64) -> Result<(), OutOfMemory>

@@ -14,12 +14,10 @@ ghost use Rattle.report_text.specs.Text.{
 use crate::figures::Figures;
 use crate::line::{append_end, append_period_word, append_share, name_of};
 use archi_graph::{Archi, Medium};
-use busiest_line::{Busiest, Line};
 use flat_graph::Vertex;
-use grown_text::append;
-use latencies::Latency;
-use self_timed_period::Period;
-use syn_base::{Name, OutOfMemory};
+use lower_bound::{Busiest, Line};
+use self_timed::{Latency, Period};
+use syn_base::{Name, OutOfMemory, append};
 
 /// Appends the period, the operator or medium that is busiest in it, and the latency from each sensor to
 /// each actuator that depends on it.

@@ -23,7 +23,7 @@ use Rattle.comm_routing.proofs.Right.{candidate_given, is_given}
 use Rattle.pressure_heuristic.specs.Pressure.{operations}
 use Rattle.pressure_heuristic.proofs.Lists.{left, one_fewer}
 use Rattle.pressure_heuristic.proofs.Whole.{in_range}
-use Rattle.self_timed_laws.specs.Entries.{stated}
+use Rattle.self_timed.specs.Entries.{stated}
 use Rattle.schedule_search.specs.Found.{MayAllStand, time_alone}
 use Rattle.schedule_search.specs.Alone.{SoFar, time_left}
 use Rattle.schedule_search.proofs.Timed.{all_left, less_left}

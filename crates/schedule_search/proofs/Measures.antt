@@ -14,9 +14,9 @@ use Rattle.comm_routing.specs.Task.{Task}
 use Rattle.pressure_heuristic.specs.Adequation.{IsRunOfAny}
 use Rattle.pressure_heuristic.specs.Pressure.{pressure_run}
 use Rattle.pressure_heuristic.specs.Tasks.{task}
-use Rattle.self_timed_laws.specs.Entries.{stated}
+use Rattle.self_timed.specs.Entries.{stated}
 use Rattle.self_timed.specs.Told.{IsValidForSome}
-use Rattle.self_timed_period.specs.Period.{OneOperatorHasItsLengthAsPeriod}
+use Rattle.self_timed.specs.Period.{OneOperatorHasItsLengthAsPeriod}
 use Rattle.plan_costs.specs.declared.site.Goal.{Goal}
 use Rattle.plan_costs.specs.declared.site.Goal.TheVariants.{Length, Period}
 use Rattle.plan_costs.specs.declared.site.Site.{Site}

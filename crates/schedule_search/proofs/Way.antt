@@ -20,7 +20,7 @@ use Rattle.comm_routing.specs.Draft.{Drafted, after_placing, task_of}
 use Rattle.comm_routing.specs.Placing.{decision, is_candidate, is_placed, may_place, needs}
 use Rattle.comm_routing.proofs.Arrivals.{placed_rightly_behind}
 use Rattle.comm_routing.proofs.Sites.{site_of}
-use Rattle.self_timed_laws.specs.Entries.{stated}
+use Rattle.self_timed.specs.Entries.{stated}
 use Rattle.plan_costs.specs.declared.site.Site.{Site}
 use Rattle.pressure_heuristic.specs.Pressure.{operations}
 use Rattle.pressure_heuristic.proofs.Lists.{left, none_left}

@@ -7,7 +7,7 @@ use Rattle.route_table.specs.Table.{RouteTable, IsTableOf}
 use Rattle.durations.specs.Table.{Table}
 use Rattle.schedule.specs.declared.decision.Schedule.{Schedule}
 use Rattle.schedule.specs.Acts.{length_of}
-use Rattle.self_timed_period.specs.Period.{period_of_schedule}
+use Rattle.self_timed.specs.Period.{period_of_schedule}
 use Rattle.comm_routing.specs.Placing.{ticks_in}
 use Rattle.pressure_heuristic.specs.Pressure.{pressure_run}
 use Rattle.pressure_heuristic.specs.Tasks.{task}

@@ -11,7 +11,7 @@ use crate::replay::{open, whole};
 use comm_routing::Draft;
 use plan_search::{Goal, Site};
 use schedule::Schedule;
-use self_timed_period::one_operator_has_its_length_as_period;
+use self_timed::one_operator_has_its_length_as_period;
 use syn_base::OutOfMemory;
 
 /// The best of a schedule and of those on one operator alone.

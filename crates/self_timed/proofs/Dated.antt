@@ -23,12 +23,12 @@ use Rattle.sequence_build_laws.specs.Built.{buffers_from, program_of, is_guarded
 use Rattle.schedule.proofs.Copies.{few_outputs, copy_is}
 use Rattle.sequence_build_laws.proofs.Lists.{get_some, tally, tally_grows, counts_tally}
 use Rattle.sequence_build_laws.proofs.Works.{of_run}
-use Rattle.self_timed_laws.specs.Dates.{AreDates, has_reader}
-use Rattle.self_timed_laws.specs.Entries.{stated, is_transfer, entry_at, entry_of, row_in, lasting, AreWithin}
-use Rattle.self_timed_laws.proofs.Solution.{are_dates}
-use Rattle.self_timed_laws.proofs.InTime.{none_longer}
-use Rattle.self_timed_laws.proofs.Entered.{is_entry, one}
-use Rattle.self_timed_laws.proofs.Whole.{buffers_have_depth, no_later_than_stated, first_reaction_is_stated}
+use Rattle.self_timed.specs.Dates.{AreDates, has_reader}
+use Rattle.self_timed.specs.Entries.{stated, is_transfer, entry_at, entry_of, row_in, lasting, AreWithin}
+use Rattle.self_timed.proofs.Solution.{are_dates}
+use Rattle.self_timed.proofs.InTime.{none_longer}
+use Rattle.self_timed.proofs.Entered.{is_entry, one}
+use Rattle.self_timed.proofs.Whole.{buffers_have_depth, no_later_than_stated, first_reaction_is_stated}
 use Rattle.self_timed.specs.declared.dates.Span.{Span}
 use Rattle.self_timed.specs.declared.layout.Plan.{Plan}
 use Rattle.self_timed.specs.declared.layout.Step.{Step}

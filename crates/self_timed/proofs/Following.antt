@@ -9,8 +9,8 @@ use Rattle.flat_graph.specs.declared.vertex.Vertex.{Vertex}
 use Rattle.schedule.specs.Acts.{Act}
 use Rattle.schedule.specs.Tight.{reads_from}
 use Rattle.sequence_build_laws.proofs.Lists.{get_some}
-use Rattle.self_timed_laws.specs.Dates.{start_by}
-use Rattle.self_timed_laws.specs.Entries.{entry_of}
+use Rattle.self_timed.specs.Dates.{start_by}
+use Rattle.self_timed.specs.Entries.{entry_of}
 use Rattle.self_timed.specs.declared.dates.Span.{Span}
 use Rattle.self_timed.specs.declared.layout.Step.{Step}
 use Rattle.self_timed.specs.declared.layout.Plan.{Plan}

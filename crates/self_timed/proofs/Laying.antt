@@ -17,8 +17,8 @@ use Rattle.schedule.proofs.Copies.{copy_is, same_copy_self}
 use Rattle.executive_program.proofs.Reading.{any_at, any_of}
 use Rattle.sequence_build_laws.proofs.Lists.{tally, counts_tally, tally-append, get_before, get_past, get_some, from_map, map_at, take_next}
 use Rattle.sequence_build_laws.proofs.Works.{read_made, one_maker}
-use Rattle.self_timed_laws.specs.Entries.{is_transfer, entry_at, entry_of}
-use Rattle.self_timed_laws.specs.Dates.{with_act}
+use Rattle.self_timed.specs.Entries.{is_transfer, entry_at, entry_of}
+use Rattle.self_timed.specs.Dates.{with_act}
 use Rattle.self_timed.specs.declared.layout.Step.{Step}
 use Rattle.self_timed.specs.Lines.{line_of}
 use Rattle.self_timed.specs.Laid.{Laid, maker_in, with_makers, started, entry_after, next_after, step_of, after, after_all, HasPlace, HasShape}

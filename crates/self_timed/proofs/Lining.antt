@@ -8,7 +8,7 @@ use Rattle.schedule.specs.Acts.{Act, carry, run}
 use Rattle.schedule.specs.Tight.{same_line}
 use Rattle.executive_program.specs.MicroSteps.{first_of}
 use Rattle.sequence_build_laws.proofs.Lists.{take_next}
-use Rattle.self_timed_laws.specs.Dates.{Event, greatest, last_where, latest_of, in_line}
+use Rattle.self_timed.specs.Dates.{Event, greatest, last_where, latest_of, in_line}
 use Rattle.self_timed.specs.declared.line.Line.{Line}
 use Rattle.self_timed.specs.declared.line.Line.TheVariants.{Operator, Medium}
 use Rattle.self_timed.specs.declared.line.Ends.{Ends}

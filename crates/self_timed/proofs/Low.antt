@@ -23,10 +23,10 @@ use Rattle.schedule.proofs.Decided.{few_operations}
 use Rattle.schedule.proofs.Copies.{few_outputs}
 use Rattle.sequence_build_laws.proofs.Lists.{from_map}
 use Rattle.sequence_build_laws.proofs.Works.{right_at, one_maker, one_run, of_run}
-use Rattle.self_timed_laws.specs.Dates.{Event, needs, AreDates}
-use Rattle.self_timed_laws.specs.Entries.{stated}
-use Rattle.self_timed_laws.proofs.Needs.{needs_are, greatest_below}
-use Rattle.self_timed_laws.proofs.Ranks.{by_reaction}
+use Rattle.self_timed.specs.Dates.{Event, needs, AreDates}
+use Rattle.self_timed.specs.Entries.{stated}
+use Rattle.self_timed.proofs.Needs.{needs_are, greatest_below}
+use Rattle.self_timed.proofs.Ranks.{by_reaction}
 use Rattle.self_timed.proofs.Counted.{pigeons}
 use Rattle.self_timed.proofs.Held.{held_made}
 

@@ -8,8 +8,8 @@ use Rattle.flat_graph.specs.declared.vertex.Vertex.{Vertex}
 use Rattle.schedule.specs.Acts.{Act}
 use Rattle.schedule.specs.Tight.{same_line, reads_from}
 use Rattle.sequence_build_laws.proofs.Lists.{get_some}
-use Rattle.self_timed_laws.specs.Dates.{has_reader, start_by, AreDates}
-use Rattle.self_timed_laws.specs.Entries.{entry_of}
+use Rattle.self_timed.specs.Dates.{has_reader, start_by, AreDates}
+use Rattle.self_timed.specs.Entries.{entry_of}
 use Rattle.self_timed.specs.declared.dates.Span.{Span}
 use Rattle.self_timed.specs.declared.layout.Step.{Step}
 use Rattle.self_timed.specs.Lines.{AreTables, IsLine, line_of, last_in, noted}

@@ -9,11 +9,11 @@ use Rattle.schedule.specs.Acts.{Act}
 use Rattle.schedule.specs.Tight.{same_line, reads_from}
 use Rattle.sequence_build_laws.specs.Serial.{numbers_where}
 use Rattle.sequence_build_laws.proofs.Lists.{tally, from_map, get_before, map_at, number_at, from_numbers, get_take, take_get}
-use Rattle.self_timed_laws.specs.Dates.{Event, event, greatest, has_reader, in_line, brought, emptied, start_by, AreDates}
-use Rattle.self_timed_laws.specs.Entries.{entry_of}
-use Rattle.self_timed_laws.proofs.Needs.{greatest_below}
-use Rattle.self_timed_laws.proofs.Charted.{greatest-append}
-use Rattle.self_timed_laws.proofs.Lined.{greatest_above, across}
+use Rattle.self_timed.specs.Dates.{Event, event, greatest, has_reader, in_line, brought, emptied, start_by, AreDates}
+use Rattle.self_timed.specs.Entries.{entry_of}
+use Rattle.self_timed.proofs.Needs.{greatest_below}
+use Rattle.self_timed.proofs.Charted.{greatest-append}
+use Rattle.self_timed.proofs.Lined.{greatest_above, across}
 use Rattle.self_timed.specs.declared.dates.Span.{Span}
 use Rattle.self_timed.specs.declared.layout.Step.{Step}
 use Rattle.self_timed.specs.Lines.{line_of, last_in}
@@ -46,7 +46,7 @@ module _ (depth : ℕ) (vertices : List Vertex) (xs : List Act) (long ends : ℕ
       omega arith
     where
       own : (x y : Act) → same_line x y ≡ true → same_line y y ≡ true
-      own x y l = Rattle.self_timed_laws.proofs.Lined.same_both x y y l l
+      own x y l = Rattle.self_timed.proofs.Lined.same_both x y y l l
 
   module _ (k i : ℕ) (x : Act) (e : slice_get xs i ≡ Some x) where
     -- what must precede it ends no later than it starts

@@ -1,3 +1,12 @@
+pub mod Dates
+pub mod Entries
+pub mod Laws
+pub mod Period
+pub mod Stated
+pub mod Latency
+pub mod Turns
+pub mod PathLaws
+pub mod StatedLatencies
 pub mod Lines
 pub mod Laid
 pub mod Running

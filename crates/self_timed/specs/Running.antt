@@ -19,7 +19,7 @@ use Rattle.std.specs.Prelude.{
   slice_index_or,
   slice_set,
 }
-use Rattle.self_timed_laws.specs.Dates.{greatest}
+use Rattle.self_timed.specs.Dates.{greatest}
 use Rattle.self_timed.specs.declared.dates.Span.{Span}
 use Rattle.self_timed.specs.declared.layout.Step.{Step}
 use Rattle.self_timed.specs.declared.layout.Plan.{Plan}

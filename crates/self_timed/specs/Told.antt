@@ -23,8 +23,8 @@ use Rattle.schedule.specs.declared.decision.Schedule.{Schedule}
 use Rattle.schedule.specs.Acts.{Act, acts, start_of, end_of, length_of}
 use Rattle.schedule.specs.Tight.{is_tight}
 use Rattle.schedule.specs.Valid.{is_valid}
-use Rattle.self_timed_laws.specs.Dates.{dates, has_reader, start_by}
-use Rattle.self_timed_laws.specs.Entries.{is_transfer, entry_of, lasting, IsFirstStated}
+use Rattle.self_timed.specs.Dates.{dates, has_reader, start_by}
+use Rattle.self_timed.specs.Entries.{is_transfer, entry_of, lasting, IsFirstStated}
 use Rattle.self_timed.specs.declared.dates.Span.{Span}
 use Rattle.self_timed.specs.Running.{span, span_in}
 

@@ -3,7 +3,7 @@
 ghost use Rattle.std.specs.Prelude.{◌≡◌, ◌≤◌, IfOk, length};
 ghost use Rattle.schedule.specs.Acts.{acts};
 ghost use Rattle.sequence_build_laws.specs.Built.{program_of};
-ghost use Rattle.self_timed_laws.specs.Entries.{AreWithin};
+ghost use Rattle.self_timed.specs.Entries.{AreWithin};
 ghost use Rattle.self_timed.specs.Depths.{deepest};
 ghost use Rattle.self_timed.specs.Told.{AreDatesOf, EndInTime, HaveEntries, HaveDepth, IsValidForSome, StartsAsStated, entries_of};
 

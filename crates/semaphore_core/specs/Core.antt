@@ -28,7 +28,7 @@ use Rattle.std.specs.Prelude.{
   replicate,
   ℤ,
 }
-use Rattle.consistent_cuts.specs.Sites.{step_at, reaction_at}
+use Rattle.interleavings.specs.Sites.{step_at, reaction_at}
 use Rattle.level_meaning.specs.Level.{Values, element_at, zeros}
 use Rattle.executive_program.specs.declared.program.Program.{Program}
 use Rattle.executive_program.specs.declared.steps.Place.{Place}

@@ -2,7 +2,7 @@
 -- delays' opening values, as a system of interleaved sequences.
 use Rattle.std.specs.Prelude.{ℕ, ◌+◌, ◌-◌, ◌*◌, cond, nat_lt, List, [], map, length, replicate}
 use Rattle.std.specs.List.{sum_by}
-use Rattle.consistent_cuts.specs.Sites.{reaction_at, step_at}
+use Rattle.interleavings.specs.Sites.{reaction_at, step_at}
 use Rattle.interleavings.specs.System.{System}
 use Rattle.interleavings.specs.Owners.{sum_below}
 use Rattle.std.specs.Coded.{Coded, code_by, coded×, coded_list, coded_ℕ, coded_ℤ}

@@ -25,7 +25,7 @@ use Rattle.std.specs.Prelude.{
   ℤ,
 }
 use Rattle.std.specs.List.{range_with_len}
-use Rattle.consistent_cuts.specs.Sites.{place_at, reaction_at}
+use Rattle.interleavings.specs.Sites.{place_at, reaction_at}
 use Rattle.interleavings.specs.System.{is_take, is_signal, advances, stores, total, latest}
 use Rattle.level_meaning.specs.Level.{Vector, Values, element_at, vector_at, zeros, all_joined}
 use Rattle.flat_graph.specs.declared.vertex.Source.{Source}

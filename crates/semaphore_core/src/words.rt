@@ -1,6 +1,6 @@
 //! Words and elements that sequences share, and the next micro-step of a sequence.
 ghost use Rattle.std.specs.Prelude.{◌≡◌, ◌+◌, ◌-◌, ◌*◌, ◌/◌, ◌<◌, ◌++◌, replicate, slice_index_or, slice_set, pos, IfOk};
-ghost use Rattle.consistent_cuts.specs.Sites.{reaction_at};
+ghost use Rattle.interleavings.specs.Sites.{reaction_at};
 ghost use Rattle.semaphore_core.specs.Core.{buffer_zeros, turn_reached, wire_zeros};
 ghost use Rattle.semaphore_core.specs.Elements.{element_in, with_element_in};
 ghost use Rattle.executive_program.specs.Expanded.{code_of, next_in};

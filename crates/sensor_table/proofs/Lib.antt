@@ -1,3 +1,5 @@
+pub mod ReadBack
+mod Worked
 pub mod Taken
 pub mod Values
 pub mod Whole

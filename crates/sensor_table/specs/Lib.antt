@@ -1,3 +1,4 @@
+pub mod Template
 pub mod Answers
 pub mod Columns
 pub mod Reading

@@ -1,2 +1,4 @@
+pub mod Bytes
+mod Steps
 pub mod Appending
 pub mod Worked

@@ -8,8 +8,7 @@ use crate::scale::Scale;
 use crate::shapes::{Point, append_line, begin_group};
 use crate::style::END_GROUP;
 use crate::text::{begin_text, end_text};
-use grown_text::{append, append_count};
-use syn_base::OutOfMemory;
+use syn_base::{OutOfMemory, append, append_count};
 
 /// Appends the axis over a height, and where all ends, which a word tells.
 #[tactic(auto, unfolding(crate::specs::Axis::axis_text))]

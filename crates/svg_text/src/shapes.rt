@@ -4,8 +4,7 @@ ghost use Rattle.std.specs.Fmt.{decimal};
 ghost use Rattle.svg_text.specs.Shapes.{arrow_text, bar_end, bar_text, class_text, curve_text, group_text, head_text, line_text, move_text, origin_text, paper_text, point_text, root_text, shade_text, sides_of_bar, sides_text, tile_text, view_text};
 
 use crate::style::STYLE;
-use grown_text::{append, append_count};
-use syn_base::OutOfMemory;
+use syn_base::{OutOfMemory, append, append_count};
 
 /// A point of a picture, from its origin to the right and down.
 #[derive(Clone, Copy, Debug, PartialEq, Eq)]

@@ -3,8 +3,7 @@ ghost use Rattle.std.specs.Prelude.{◌≡◌, ◌++◌, OnOk};
 ghost use Rattle.svg_text.specs.Shapes.{aside_text, words_end, words_text};
 
 use crate::shapes::append_class;
-use grown_text::{append, append_count};
-use syn_base::OutOfMemory;
+use syn_base::{OutOfMemory, append, append_count};
 
 /// Begins a text of a class, at a place and at a height that is given as a number may be written.
 #[tactic(auto, unfolding(crate::specs::Shapes::words_text))]

@@ -1,1 +1,12 @@
+pub mod Pushing
+pub mod Reading
+pub mod Among
+pub mod Rounds
+pub mod Whole
+pub mod Facts
+pub mod Pieces
+pub mod Table
+pub mod Keeping
+pub mod Running
+pub mod Operating
 pub mod Same

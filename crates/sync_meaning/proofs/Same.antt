@@ -10,10 +10,10 @@ use Rattle.flat_graph.specs.declared.vertex.Kind.TheVariants.{Sensor, Actuator, 
 use Rattle.flat_graph.specs.declared.vertex.Vertex.{Vertex}
 use Rattle.flat_graph.specs.Graph.{Graph}
 use Rattle.flat_graph.specs.Meaning.{initial_cells, flat_act_row}
-use Rattle.inlining_laws.specs.Flat.{Operation}
+use Rattle.flat_laws.specs.Flat.{Operation}
 use Rattle.flat_laws.specs.Stands.{KeepsGraph}
 use Rattle.flat_laws.specs.EndLengths.{HasEndLengths, actuator_len, actuator_lens}
-use Rattle.flat_simulator.specs.Ran.{taken_len, taken_lens, ran}
+use Rattle.sync_meaning.specs.Ran.{taken_len, taken_lens, ran}
 use Rattle.sync_meaning.specs.Simulated.{simulated}
 
 same_len : (g : Graph) (x : Vertex) (kind : Kind) → taken_len g.vertices x kind ≡ actuator_len g x kind

@@ -2,12 +2,12 @@
 ghost use Rattle.std.specs.Prelude.{◌≡◌, IfOk, true};
 ghost use Rattle.algo_tree.specs.Ends.{sensor_lengths};
 ghost use Rattle.algo_tree.specs.Size.{is_large as large};
-ghost use Rattle.operation_paths.specs.Bounded.{HasBounds};
-ghost use Rattle.operation_paths.specs.Named.{HasNames};
+ghost use Rattle.algo_tree.specs.Bounded.{HasBounds};
+ghost use Rattle.algo_tree.specs.Named.{HasNames};
 ghost use Rattle.sync_meaning.specs.Simulated.{simulated};
 
+use crate::run::run_flat;
 use algo_tree::{SizeError, Tree, is_large};
-use flat_simulator::run_flat;
 use hierarchy::flatten;
 use std::alloc::Global;
 use syn_base::{ActRows, OutOfMemory, SensorRows};

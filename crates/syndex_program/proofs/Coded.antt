@@ -15,14 +15,14 @@ use Rattle.archi_graph.specs.Sequences.{sequences}
 use Rattle.flat_graph.specs.Graph.{Graph}
 use Rattle.executive_program.specs.declared.program.Program.{Program}
 use Rattle.executive_program.specs.WellFormed.{IsWellFormed}
-use Rattle.code_text.specs.Text.{program_in}
-use Rattle.code_text.specs.declared.fault.CodeError.{CodeError}
-use Rattle.code_text.specs.declared.fault.CodeError.TheVariants as code
+use Rattle.macro_code.specs.ReadText.{program_in}
+use Rattle.macro_code.specs.declared.fault.CodeError.{CodeError}
+use Rattle.macro_code.specs.declared.fault.CodeError.TheVariants as code
 use Rattle.code_reader.specs.Given.{Fails}
 use Rattle.check_cause.specs.declared.cause.CheckCause.{CheckCause}
 use Rattle.check_cause.specs.declared.cause.CheckCause.TheVariants.{Sequences, Calls, Transfers, Buffers, Pairs, Prologue, Stuck}
 use Rattle.check_cause.specs.declared.cause.Stop.{Stop}
-use Rattle.checked_code.specs.Checked.{IsLacking}
+use Rattle.compiler.specs.Checked.{IsLacking}
 use Rattle.macro_check.specs.Awaiting.{place_of}
 use Rattle.macro_check.specs.Causes.{cause_of}
 use Rattle.word_rule.specs.Driven.{Driven, driven_by}

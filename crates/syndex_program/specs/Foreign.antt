@@ -8,7 +8,7 @@ use Rattle.archi_graph.specs.Sequences.{sequences}
 use Rattle.flat_graph.specs.Graph.{Graph}
 use Rattle.executive_program.specs.declared.program.Program.{Program}
 use Rattle.executive_program.specs.WellFormed.{IsWellFormed}
-use Rattle.code_text.specs.Text.{program_in}
+use Rattle.macro_code.specs.ReadText.{program_in}
 use Rattle.command_plan.specs.Run.{Makes, WasRead}
 use Rattle.command_status.specs.Status.{ending_of}
 use Rattle.command_status.specs.declared.status.Status.{Status}

@@ -1,20 +1,27 @@
-//! Splits a text into lines, and a line into words. The readers of algorithm, architecture and
-//! macro-code texts begin with it.
+//! Splits a text into lines, and a line into words, and keeps names in first-seen order, each once. The readers
+//! of algorithm, architecture and macro-code texts begin with it.
 //!
 //! Lines end at a line feed; the last line may lack one. Tab, carriage return and space are blanks
 //! (`is_blank_byte`). From `#` on a line is comment. `line_end` finds the end of a line, `code` cuts off its
-//! comment, `foreign` finds a byte that may not stand there, `Words` are its words, `read_name` reads a
-//! word as a name, and `check_limit` refuses a quantity above its bound.
+//! comment, `foreign` finds a byte that may not stand there, `Words` are its words, `read_name` reads a word as
+//! a name, and `check_limit` refuses a quantity above its bound.
+//!
+//! `Names` are found by hash, with `add` and `find`. The readers of texts and whoever looks up definitions by
+//! name use them.
 #![tactic(auto)]
 
+mod key;
 mod limit;
+mod names;
 mod words;
 
 ghost use Rattle.std.specs.Prelude.{◌≡◌, ◌+◌, ◌<◌, ◌≤◌, length, drop, map, None, Some, IfOk, All, position};
 ghost use Rattle.std.specs.List.{position_or_len};
 ghost use Rattle.text_lines.specs.Text.{is_feed, is_blank, is_foreign, is_hash, code_of, foreign_place, words_of, text_at, IsWithin};
 
+pub use key::TableKey;
 pub use limit::check_limit;
+pub use names::Names;
 use std::alloc::Global;
 use syn_base::OutOfMemory;
 pub use words::{Words, read_name};

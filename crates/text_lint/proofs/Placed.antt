@@ -6,10 +6,10 @@ use Rattle.std.specs.Str.{bytes_eq}
 use Rattle.std.proofs.lemmas.Option.{slice_get_past}
 use Rattle.text_lines.proofs.Places.{found_at, missing_at}
 use Rattle.syn_base.specs.Bytes.{Bytes}
-use Rattle.algo_defs.specs.declared.definition.Def.{Def}
+use Rattle.algo_text.specs.declared.definition.Def.{Def}
 use Rattle.algo_rules.specs.Links.{definition}
-use Rattle.algo_links.specs.Placing.{names_of}
-use Rattle.algo_links.proofs.Found.{found}
+use Rattle.algo_check.specs.Placing.{names_of}
+use Rattle.algo_check.proofs.Found.{found}
 
 same_place : (ds : List Def) (w : Bytes) → position_or_len (bytes_eq w) (names_of ds) ≡ position_or_len (λ e. bytes_eq w e.name) ds
 same_place [] w = refl

@@ -36,21 +36,21 @@ use Rattle.body_lang.specs.Expr.{
   select,
 }
 use Rattle.body_lang.specs.declared.expression.Port.{Port}
-use Rattle.algo_defs.specs.Words.{is_among}
-use Rattle.algo_defs.specs.declared.definition.Def.{Def}
-use Rattle.algo_defs.specs.declared.definition.Body.{Body}
-use Rattle.algo_defs.specs.declared.definition.Body.TheVariants.{
+use Rattle.algo_text.specs.Among.{is_among}
+use Rattle.algo_text.specs.declared.definition.Def.{Def}
+use Rattle.algo_text.specs.declared.definition.Body.{Body}
+use Rattle.algo_text.specs.declared.definition.Body.TheVariants.{
   Constant,
   Delay,
   Function,
   Graph,
   Switch,
 }
-use Rattle.algo_defs.specs.declared.definition.Case.{Case}
-use Rattle.algo_defs.specs.declared.definition.Edge.{Edge}
-use Rattle.algo_defs.specs.declared.definition.End.{End}
-use Rattle.algo_defs.specs.declared.definition.Output.{Output}
-use Rattle.algo_defs.specs.declared.definition.Reference.{Reference}
+use Rattle.algo_text.specs.declared.definition.Case.{Case}
+use Rattle.algo_text.specs.declared.definition.Edge.{Edge}
+use Rattle.algo_text.specs.declared.definition.End.{End}
+use Rattle.algo_text.specs.declared.definition.Output.{Output}
+use Rattle.algo_text.specs.declared.definition.Reference.{Reference}
 use Rattle.algo_rules.specs.Links.{definition, is_main}
 use Rattle.text_lint.specs.Named.{named_in}
 use Rattle.text_lint.specs.declared.finding.Finding.{Finding}

@@ -23,10 +23,10 @@ use Rattle.std.specs.Prelude.{
 }
 use Rattle.std.specs.List.{list_any}
 use Rattle.syn_base.specs.Bytes.{Bytes}
-use Rattle.algo_defs.specs.Words.{is_among}
-use Rattle.algo_defs.specs.declared.definition.Def.{Def}
-use Rattle.algo_defs.specs.declared.definition.Body.{Body}
-use Rattle.algo_defs.specs.declared.definition.Body.TheVariants.{Sensor, Actuator, Function}
+use Rattle.algo_text.specs.Among.{is_among}
+use Rattle.algo_text.specs.declared.definition.Def.{Def}
+use Rattle.algo_text.specs.declared.definition.Body.{Body}
+use Rattle.algo_text.specs.declared.definition.Body.TheVariants.{Sensor, Actuator, Function}
 use Rattle.algo_rules.specs.Links.{definition}
 use Rattle.archi_defs.specs.Text.{Described}
 use Rattle.archi_defs.specs.declared.text.DurationLine.{DurationLine}

@@ -2,11 +2,11 @@
 use Rattle.std.specs.Prelude.{◌≡◌, List, [], ◌∷◌, ◌++◌, map}
 use Rattle.std.specs.List.{flat_map}
 use Rattle.syn_base.specs.Bytes.{Bytes}
-use Rattle.algo_defs.specs.Words.{is_among}
-use Rattle.algo_defs.specs.declared.definition.Def.{Def}
-use Rattle.algo_defs.specs.declared.definition.Body.{Body}
-use Rattle.algo_defs.specs.declared.definition.Body.TheVariants.{Graph, Switch, Repeat}
-use Rattle.algo_links.specs.Placing.{names_of}
+use Rattle.algo_text.specs.Among.{is_among}
+use Rattle.algo_text.specs.declared.definition.Def.{Def}
+use Rattle.algo_text.specs.declared.definition.Body.{Body}
+use Rattle.algo_text.specs.declared.definition.Body.TheVariants.{Graph, Switch, Repeat}
+use Rattle.algo_check.specs.Placing.{names_of}
 
 -- The definitions of references, of cases and `otherwise`, and of the copies of a repetition.
 abbrev pub named_by : Body → List Bytes

@@ -1,13 +1,13 @@
 //! The names that the lines of definitions name, for `known`.
 ghost use Rattle.std.specs.Prelude.{◌≡◌, ◌++◌, ◌∷◌, [], IfOk, OnOk, map};
 ghost use Rattle.syn_base.specs.Bytes.{Bytes};
-ghost use Rattle.algo_defs.specs.Words.{is_among};
+ghost use Rattle.algo_text.specs.Among.{is_among};
 ghost use Rattle.text_lint.specs.Named.{named_by, named_in};
 
-use algo_defs::{Body, Case, Def, Reference};
-use name_table::{Names, TableKey};
+use algo_text::{Body, Case, Def, Reference};
 use std::alloc::Global;
 use syn_base::OutOfMemory;
+use text_lines::{Names, TableKey};
 
 /// Appends the names that lines of these definitions name.
 pub fn append_named<'a>(named: &mut Vec<&'a [u8]>, defs: &'a [Def]) -> Result<(), OutOfMemory>

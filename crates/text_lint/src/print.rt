@@ -16,9 +16,8 @@ ghost use Rattle.text_lint.specs.Printed.{
 };
 
 use crate::finding::{Finding, Why};
-use grown_text::{append, append_count};
 use std::alloc::Global;
-use syn_base::{Name, OutOfMemory, print_int};
+use syn_base::{Name, OutOfMemory, append, append_count, print_int};
 
 /// Appends a line for each finding: the text and the line where it stands, what it is, and its names and
 /// numbers. After want of memory `out` is as before.

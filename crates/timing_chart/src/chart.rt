@@ -7,10 +7,9 @@ ghost use Rattle.timing_chart.specs.Chart.{act_line, chart, medium_parts, operat
 use crate::line::{Named, append_head, append_operation, append_transfer};
 use archi_graph::{Archi, Medium};
 use flat_graph::Flat;
-use grown_text::{append, append_count};
 use schedule::{Decision, Schedule, Transfer};
 use std::alloc::Global;
-use syn_base::OutOfMemory;
+use syn_base::{OutOfMemory, append, append_count};
 
 /// Appends the chart of a schedule: for each operator `operator NAME`, and then a line `START END
 /// OPERATION` for each operation that runs on it; for each medium `medium NAME`, and then a line

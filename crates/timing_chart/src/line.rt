@@ -5,9 +5,8 @@ ghost use Rattle.schedule.specs.Acts.{carry, run};
 ghost use Rattle.timing_chart.specs.Chart.{act_line, line_text, operation_name, operator_name, rest_of_line};
 
 use flat_graph::Vertex;
-use grown_text::{append, append_count};
 use schedule::{Decision, Transfer};
-use syn_base::{Name, OutOfMemory};
+use syn_base::{Name, OutOfMemory, append, append_count};
 
 /// The operations and the operators of which a chart tells.
 #[derive(Clone, Copy)]

@@ -4,16 +4,16 @@ use Rattle.std.specs.Prelude.{if◌then◌else◌}
 use Rattle.syn_base.specs.Bytes.{Bytes}
 use Rattle.syn_base.specs.declared.limits.LimitFault.{LimitFault}
 use Rattle.algo_tree.specs.Tree.{Vertex}
-use Rattle.algo_defs.specs.declared.definition.Def.{Def}
-use Rattle.algo_defs.specs.declared.definition.Defs.{Defs}
-use Rattle.algo_defs.specs.declared.definition.Reference.{Reference}
-use Rattle.algo_defs.specs.declared.fault.AlgoError.{AlgoError}
+use Rattle.algo_text.specs.declared.definition.Def.{Def}
+use Rattle.algo_text.specs.declared.definition.Defs.{Defs}
+use Rattle.algo_text.specs.declared.definition.Reference.{Reference}
+use Rattle.algo_text.specs.declared.fault.AlgoError.{AlgoError}
 use Rattle.algo_rules.specs.Resolved.{resolution_of}
 use Rattle.multi_period.specs.declared.fault.PeriodError.{PeriodError}
 use Rattle.multi_period.specs.declared.fault.PeriodError.TheVariants as period
 use Rattle.multi_period.specs.declared.mark.Mark.{Mark}
 use Rattle.multi_period.specs.Within.{made_within}
-use Rattle.period_marks.specs.Marking.{bad_by, bad_every, references_of, marking_by, marking_of}
+use Rattle.elaboration.specs.Marking.{bad_by, bad_every, references_of, marking_by, marking_of}
 use Rattle.elaboration.specs.Elaborated as elaborated
 use Rattle.elaboration.specs.Elaborated.{made_by, marked_by, elaboration_of}
 use Rattle.top_plans.proofs.Only.{Only, ok, either}

@@ -3,14 +3,14 @@ use Rattle.std.proofs.Common.{◌≡◌, ℕ, refl, List, [], ◌∷◌, ◌++�
 use Rattle.csv.specs.Reading.{records_from, strip_bom}
 use Rattle.csv.specs.Machine.{next_record}
 use Rattle.std.specs.Fmt.{digits}
-use Rattle.code_text.specs.Forms.{macro_of}
+use Rattle.macro_code.specs.Forms.{macro_of}
 use Rattle.syn_base.specs.Bytes.{Bytes}
 use Rattle.outside.specs.Bytes.{named}
 use Rattle.semaphore_core.specs.Job.{JobData, reactions}
 use Rattle.command_plan.specs.Plan.{outcome}
 use Rattle.command_plan.specs.Stage.{Stage}
 use Rattle.command_status.specs.Status.{Refusal, bad_code, failed_check, bad_durations}
-use Rattle.code_text.specs.declared.fault.CodeCause.TheVariants as code_cause
+use Rattle.macro_code.specs.declared.fault.CodeCause.TheVariants as code_cause
 use Rattle.check_cause.specs.declared.cause.CheckCause.TheVariants.{Sequences}
 use Rattle.archi_defs.specs.declared.fault.ArchiCause.TheVariants as archi_cause
 use Rattle.actual_defs.specs.declared.fault.ActualFault.TheVariants.{Text, Longer}

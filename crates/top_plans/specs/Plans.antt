@@ -31,7 +31,7 @@ use Rattle.syn_base.specs.declared.limits.LimitFault.{LimitFault}
 use Rattle.syn_base.specs.declared.limits.LimitKind.TheVariants.{Output}
 use Rattle.level_meaning.specs.Level.{Values, all_joined}
 use Rattle.body_lang.specs.Expr.{total}
-use Rattle.algo_defs.specs.declared.definition.Defs.{Defs}
+use Rattle.algo_text.specs.declared.definition.Defs.{Defs}
 use Rattle.algo_text.specs.Text.{definitions_of}
 use Rattle.elaboration.specs.Elaborated.{elaboration_of}
 use Rattle.algo_print.specs.Canonical.{canonical_text}
@@ -56,7 +56,7 @@ use Rattle.sequence_build.specs.Limit.{program_limit}
 use Rattle.semaphore_core.specs.Job.{total_steps}
 use Rattle.semaphore_core.specs.IsJob.{limit_of}
 use Rattle.macro_code.specs.Text.{macro_code}
-use Rattle.code_text.specs.Text.{program_in}
+use Rattle.macro_code.specs.ReadText.{program_in}
 use Rattle.check_cause.specs.declared.cause.CheckCause.{CheckCause}
 use Rattle.actual_durations.specs.Actual.{actual_of}
 use Rattle.dates_text.specs.Listing.{dates_text}

@@ -1,3 +1,6 @@
+pub mod Overlap
+pub mod DatesShown
+pub mod Told
 pub mod Lanes
 mod Rows
 pub mod Slices

@@ -1,3 +1,5 @@
+pub mod DatesShown
+pub mod DatesTrace
 pub mod Events
 pub mod Printed
 pub mod Shown

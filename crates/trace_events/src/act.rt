@@ -10,9 +10,8 @@ use crate::event::{Moment, Reader, append_slice_rest};
 use crate::flow::{append_arrival, append_arrivals, append_departure, append_guard_arrivals};
 use crate::word::{Word, append_word, bytes_of};
 use flat_graph::Vertex;
-use grown_text::{append, append_count};
 use schedule::{Decision, Transfer};
-use syn_base::{Name, OutOfMemory};
+use syn_base::{Name, OutOfMemory, append, append_count};
 
 /// The operations, the operators and the decisions of which a trace tells.
 #[derive(Clone, Copy)]

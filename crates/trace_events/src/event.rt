@@ -3,8 +3,7 @@ ghost use Rattle.std.specs.Prelude.{◌≡◌, ◌++◌, OnOk};
 ghost use Rattle.trace_events.specs.Events.{event_text, lane_text, moment_text, name_text, place_text, rank_text, rest_of_slice, thread};
 
 use crate::word::{Word, append_word};
-use grown_text::{append, append_count};
-use syn_base::OutOfMemory;
+use syn_base::{OutOfMemory, append, append_count};
 
 /// When an act lasts, in ticks, and in which reaction.
 #[derive(Clone, Copy)]

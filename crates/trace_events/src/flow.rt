@@ -8,9 +8,8 @@ ghost use Rattle.trace_events.specs.Trace.{arrival, brings, is_brought};
 use crate::event::{Reader, append_place};
 use crate::word::{Word, append_word};
 use flat_graph::{Guard, Source};
-use grown_text::append_count;
 use schedule::{Decision, Transfer};
-use syn_base::OutOfMemory;
+use syn_base::{OutOfMemory, append_count};
 
 /// Appends that the value leaves here.
 pub fn append_departure(

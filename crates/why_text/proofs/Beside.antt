@@ -11,12 +11,12 @@ use Rattle.executive_program.specs.declared.program.Instr.TheVariants as instr
 use Rattle.executive_program.specs.declared.program.SeqCode.{SeqCode}
 use Rattle.macro_code.specs.declared.macros.Macro.{Macro}
 use Rattle.macro_code.specs.declared.macros.Macro.TheVariants as macro
-use Rattle.code_text.specs.declared.fault.CodeError.{CodeError}
-use Rattle.code_text.specs.declared.fault.CodeCause.TheVariants.{BadLine}
-use Rattle.code_text.specs.declared.stage.Stage.{Stage}
-use Rattle.code_text.specs.declared.stage.Stage.TheVariants.{Outside, Named, Declared, Threaded, Prologue, Turn, Ended}
-use Rattle.code_text.specs.Forms.{Form, arguments_of, bare, call, form_of, listed, macro_of}
-use Rattle.code_text.specs.Text.{Arguments, Reading, Joined, and_then, at_processor, at_thread, awaits_more, call_line, call_of, code_here, declaration_of, ends_of, formed, is_declared, is_ended, is_named, is_outside, is_prologue, is_threaded, is_turn, known_macro, line_by, line_of, macro_line, may_stand, medium_of, moved_of, named_line, next_line, operation_names, pair_of, pairs_of, placed_line, processor_of, refused, start, starts_more, takes_instr, thread_of, with_buffer, with_instr, with_pairs, without, words_line}
+use Rattle.macro_code.specs.declared.fault.CodeError.{CodeError}
+use Rattle.macro_code.specs.declared.fault.CodeCause.TheVariants.{BadLine}
+use Rattle.macro_code.specs.declared.stage.Stage.{Stage}
+use Rattle.macro_code.specs.declared.stage.Stage.TheVariants.{Outside, Named, Declared, Threaded, Prologue, Turn, Ended}
+use Rattle.macro_code.specs.Forms.{Form, arguments_of, bare, call, form_of, listed, macro_of}
+use Rattle.macro_code.specs.ReadText.{Arguments, Reading, Joined, and_then, at_processor, at_thread, awaits_more, call_line, call_of, code_here, declaration_of, ends_of, formed, is_declared, is_ended, is_named, is_outside, is_prologue, is_threaded, is_turn, known_macro, line_by, line_of, macro_line, may_stand, medium_of, moved_of, named_line, next_line, operation_names, pair_of, pairs_of, placed_line, processor_of, refused, start, starts_more, takes_instr, thread_of, with_buffer, with_instr, with_pairs, without, words_line}
 use Rattle.check_places.specs.declared.place.Part.{Part}
 use Rattle.check_places.specs.declared.place.Part.TheVariants as part
 use Rattle.why_text.specs.declared.lines.Head.{Head}

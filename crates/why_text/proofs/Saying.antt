@@ -13,9 +13,9 @@ use Rattle.executive_program.specs.declared.program.SeqCode.{SeqCode}
 use Rattle.executive_program.specs.declared.program.Program.{Program}
 use Rattle.executive_program.specs.Instructions.{prologue_of, turn_of}
 use Rattle.executive_program.specs.Steps.{all_turns}
-use Rattle.code_text.specs.Text.{Reading, above, and_then, counted, first_misnumbered, is_outside, limited, next_line, operation_names, program_of, refused, rest_of, start, whole, within_steps, words}
-use Rattle.code_text.specs.declared.fault.CodeError.{CodeError}
-use Rattle.code_text.specs.declared.fault.CodeCause.TheVariants.{BadLine}
+use Rattle.macro_code.specs.ReadText.{Reading, above, and_then, counted, first_misnumbered, is_outside, limited, next_line, operation_names, program_of, refused, rest_of, start, whole, within_steps, words}
+use Rattle.macro_code.specs.declared.fault.CodeError.{CodeError}
+use Rattle.macro_code.specs.declared.fault.CodeCause.TheVariants.{BadLine}
 use Rattle.check_places.specs.declared.place.Part.{Part}
 use Rattle.check_places.specs.declared.place.Part.TheVariants.{Loop, Prologue}
 use Rattle.check_places.specs.declared.place.Spot.{Spot}

@@ -20,7 +20,7 @@ use Rattle.std.specs.Prelude.{
 use Rattle.std.specs.Str.{bytes_eq}
 use Rattle.syn_base.specs.Bytes.{Bytes}
 use Rattle.text_lines.specs.Text.{code_of, lines_of, words_of}
-use Rattle.code_text.specs.Forms.{before, is_open}
+use Rattle.macro_code.specs.Forms.{before, is_open}
 use Rattle.check_places.specs.declared.place.Part.{Part}
 use Rattle.check_places.specs.declared.place.Part.TheVariants as part
 use Rattle.check_places.specs.declared.place.Spot.{Spot}

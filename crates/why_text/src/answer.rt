@@ -8,9 +8,8 @@ use archi_graph::Archi;
 use check_places::Why;
 use executive_program::Program;
 use flat_graph::Flat;
-use grown_text::append;
 use std::alloc::Global;
-use syn_base::OutOfMemory;
+use syn_base::{OutOfMemory, append};
 
 /// What is asked about: macro-code and its program, for a flat graph and an architecture.
 #[derive(Clone, Copy)]

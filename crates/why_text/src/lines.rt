@@ -1,7 +1,7 @@
 //! In which lines of a text of macro-code the instructions of its program stand.
 ghost use Rattle.std.specs.Prelude.{◌≡◌, IfOk, OnOk, position, slice_get};
 ghost use Rattle.std.specs.Str.{bytes_eq};
-ghost use Rattle.code_text.specs.Forms.{before, is_open};
+ghost use Rattle.macro_code.specs.Forms.{before, is_open};
 ghost use Rattle.why_text.specs.Lines.{begun_at, head_at, head_of, is_instruction, line_at, line_or, lines_in, lines_of_part, nothing, seen};
 
 use check_places::{Part, Spot};

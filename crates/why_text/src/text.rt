@@ -11,8 +11,7 @@ use archi_graph::{Medium, Seq};
 use check_places::{Part, Place, Spot, Subject, Waiting, Why};
 use executive_program::Program;
 use flat_graph::Vertex;
-use grown_text::{append, append_count};
-use syn_base::{Name, OutOfMemory};
+use syn_base::{Name, OutOfMemory, append, append_count};
 
 /// What a text is written for: the program, the names, the sequences of the architecture, and where the instructions
 /// of the program stand in its own text.

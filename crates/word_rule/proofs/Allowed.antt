@@ -13,7 +13,7 @@ use Rattle.executive_program.specs.declared.steps.MicroStep.TheVariants.{Take, S
 use Rattle.semaphore_core.specs.Job.{JobData}
 use Rattle.semaphore_core.specs.Core.{Core, opening, turn_reached, enabled_in, done_in, full, home_of, slot_of}
 use Rattle.executive_program.specs.Steps.{steps}
-use Rattle.consistent_cuts.specs.Sites.{step_at, reaction_at}
+use Rattle.interleavings.specs.Sites.{step_at, reaction_at}
 use Rattle.semaphore_core.specs.Told.{told}
 use Rattle.semaphore_core.specs.Laws.{one_more}
 use Rattle.word_rule.specs.declared.view.Knowledge.{Knowledge}

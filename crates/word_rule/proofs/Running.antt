@@ -5,7 +5,7 @@ use Rattle.std.proofs.lemmas.Bool.{cases_lt}
 use Rattle.std.proofs.lemmas.List.{length-map, length-replicate, get_or-map}
 use Rattle.std.proofs.lemmas.Nat.{mod_below}
 use Rattle.std.proofs.lemmas.Option.{same_Some, slice_get_past}
-use Rattle.consistent_cuts.specs.Sites.{step_at, place_at}
+use Rattle.interleavings.specs.Sites.{step_at, place_at}
 use Rattle.interleavings.specs.Owners.{sum_below}
 use Rattle.interleavings.proofs.Sums.{le_below, member_below}
 use Rattle.interleavings.specs.System.{Micro}

@@ -7,7 +7,7 @@ use Rattle.std.proofs.lemmas.Option.{same_Some}
 use Rattle.level_meaning.specs.Level.{Values, vector_at}
 use Rattle.flat_graph.specs.declared.vertex.Vertex.{Vertex}
 use Rattle.flat_graph.specs.declared.vertex.Kind.TheVariants.{Actuator}
-use Rattle.consistent_cuts.specs.Sites.{step_at, reaction_at, place_at}
+use Rattle.interleavings.specs.Sites.{step_at, reaction_at, place_at}
 use Rattle.interleavings.specs.System as theory
 use Rattle.interleavings.specs.System.{Micro}
 use Rattle.interleavings.specs.Sound.{AreValues, IsRightAt}

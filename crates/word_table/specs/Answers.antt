@@ -15,7 +15,7 @@ use Rattle.std.specs.Prelude.{
   None,
   slice_index_or,
 }
-use Rattle.consistent_cuts.specs.Sites.{step_at, reaction_at}
+use Rattle.interleavings.specs.Sites.{step_at, reaction_at}
 use Rattle.executive_program.specs.declared.steps.MicroStep.{MicroStep}
 use Rattle.executive_program.specs.declared.steps.MicroStep.TheVariants.{Take, See, Await}
 use Rattle.executive_program.specs.Steps.{steps}

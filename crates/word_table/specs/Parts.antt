@@ -24,7 +24,7 @@ use Rattle.level_meaning.specs.Level.{Values, vector_at}
 use Rattle.flat_graph.specs.declared.vertex.Vertex.{Vertex}
 use Rattle.flat_graph.specs.declared.vertex.Kind.TheVariants.{Actuator}
 use Rattle.atomic_table.specs.Seated.{TableId}
-use Rattle.consistent_cuts.specs.Sites.{step_at, reaction_at}
+use Rattle.interleavings.specs.Sites.{step_at, reaction_at}
 use Rattle.executive_program.specs.Expanded.{AreSteps}
 use Rattle.executive_program.specs.Steps.{steps}
 use Rattle.semaphore_core.specs.Job.{JobData, zero_rows}

@@ -2,13 +2,14 @@
 //! The programs here are read by it.
 ghost use Rattle.std.specs.Prelude.{◌≡◌, ◌≤◌, IfOk, length, sum};
 ghost use Rattle.flat_graph.specs.Laws.{sensor_lens};
-ghost use Rattle.operation_paths.specs.Bounded.{HasBounds};
-ghost use Rattle.operation_paths.specs.Named.{HasNames};
+ghost use Rattle.algo_tree.specs.Bounded.{HasBounds};
+ghost use Rattle.algo_tree.specs.Named.{HasNames};
 
 use crate::moves::number_of;
-use algo_defs::AlgoError;
+use algo_laws::{accepted_are_few, accepted_are_well_read};
 use algo_reader::read_algo;
 use algo_resolve::resolve;
+use algo_text::AlgoError;
 use algo_tree::Tree;
 use archi_graph::Archi;
 use archi_reader::{ArchiText, read_archi};
@@ -17,7 +18,6 @@ use executive_program::Program;
 use flat_graph::Flat;
 use hierarchy::flatten;
 use order_check::is_order;
-use reading_laws::{accepted_are_few, accepted_are_well_read};
 use semaphore_core::{Job, opening_of, sensor_lens};
 use std::alloc::Global;
 use std::process::Abort;

@@ -11,18 +11,17 @@ ghost use Rattle.outside.specs.Shelf.{Stays, file_bound};
 ghost use Rattle.schedule.specs.Acts.{acts};
 ghost use Rattle.schedule.specs.Valid.{is_valid};
 ghost use Rattle.self_timed.specs.Told.{HaveEntries, IsValidForSome, entries_of};
-ghost use Rattle.self_timed_laws.specs.Entries.{AreWithin};
+ghost use Rattle.self_timed.specs.Entries.{AreWithin};
 ghost use Rattle.sequence_build_laws.specs.Built.{program_of};
 ghost use Rattle.lab_program.specs.Found.{problem_of};
 ghost use Rattle.lab_program.specs.Texts.{Carries, Gives, GivesOfFound};
 
 use crate::found::{build_program, find_schedule};
 use actual_durations::actual_of;
+use chart_picture::dates_picture;
 use command_status::Status;
 use compiler::{Compilation, read_algorithm, read_architecture, read_file};
-use date_picture::dates_picture;
 use dates_text::{actual_are_within, repeated};
-use dates_trace::dates_trace;
 use executive_program::Program;
 use lab_words::{Effort, Form};
 use outside::{File, Shelf};
@@ -30,6 +29,7 @@ use schedule::Schedule;
 use self_timed::Actual;
 use std::alloc::Global;
 use syn_base::OutOfMemory;
+use trace_events::dates_trace;
 
 /// In which form how many reactions are dated, and how their schedule is searched.
 #[derive(Clone, Copy, Drop)]

@@ -5,7 +5,7 @@ ghost use Rattle.lab_plans.specs.Plans.{graph_plan};
 ghost use Rattle.outside.specs.Shelf.{Stays};
 ghost use Rattle.lab_program.specs.Texts.{Carries};
 
-use algo_defs::Defs;
+use algo_text::Defs;
 use command_status::Status;
 use compiler::read_algorithm;
 use definition_drawing::print_definitions;

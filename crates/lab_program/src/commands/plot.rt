@@ -3,10 +3,10 @@ ghost use Rattle.std.specs.Prelude.{◌≡◌, IfOk};
 ghost use Rattle.act_text.specs.Names.{actuator_names};
 ghost use Rattle.algo_tree.specs.Ends.{sensor_lengths};
 ghost use Rattle.lab_plans.specs.Plans.{plot_plan, plotted};
-ghost use Rattle.operation_paths.specs.Bounded.{HasBounds};
-ghost use Rattle.operation_paths.specs.Named.{HasNames};
+ghost use Rattle.algo_tree.specs.Bounded.{HasBounds};
+ghost use Rattle.algo_tree.specs.Named.{HasNames};
 ghost use Rattle.outside.specs.Shelf.{Held, Stays};
-ghost use Rattle.signal_plot.specs.Plot.{plot};
+ghost use Rattle.svg_text.specs.Plot.{plot};
 ghost use Rattle.sync_meaning.specs.Simulated.{simulated};
 ghost use Rattle.lab_program.specs.Texts.{Carries};
 
@@ -15,8 +15,8 @@ use algo_tree::Tree;
 use command_status::Status;
 use compiler::{excess, output_width, read_algorithm, read_table};
 use outside::Shelf;
-use signal_plot::plot_rows;
 use std::alloc::Global;
+use svg_text::plot_rows;
 use syn_base::{OutOfMemory, SensorRows};
 use sync_meaning::simulate;
 

@@ -8,16 +8,13 @@ ghost use Rattle.report_text.specs.Text.{report_text};
 ghost use Rattle.schedule.specs.Valid.{is_valid};
 ghost use Rattle.lab_program.specs.Found.{problem_of};
 
-use busiest_line::busiest_line;
 use compiler::{Compilation, find_schedule};
 use durations::durations_fit;
 use lab_words::Effort;
-use latencies::schedule_latencies;
-use lower_bound::chain_of;
+use lower_bound::{busiest_line, chain_of, report_of, transfers_of};
 use report_text::{Figures, Pace, print_report};
 use schedule::Schedule;
-use schedule_report::{report_of, transfers_of};
-use self_timed_period::schedule_period;
+use self_timed::{schedule_latencies, schedule_period};
 use std::alloc::Global;
 use syn_base::{Items, OutOfMemory};
 

@@ -6,8 +6,8 @@ ghost use Rattle.lab_program.specs.Texts.{Carries};
 use command_status::Status;
 use compiler::read_algorithm;
 use outside::Shelf;
+use sensor_table::template_text;
 use std::alloc::Global;
-use table_template::template_text;
 
 /// The header of the sensor table of an accepted algorithm and one reaction of zeros, or why there is none.
 pub fn table_text<S: Shelf>(

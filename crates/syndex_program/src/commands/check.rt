@@ -7,8 +7,8 @@ ghost use Rattle.compiler.specs.Compiles.{described};
 ghost use Rattle.compiler.specs.Reads.{text_in};
 ghost use Rattle.top_plans.specs.Plans.{both_texts, check_plan};
 
-use algo_defs::Defs;
 use algo_print::{canonical_text_reads_back, print_algo};
+use algo_text::Defs;
 use archi_defs::ArchiText;
 use archi_reader::print_archi;
 use command_status::Status;

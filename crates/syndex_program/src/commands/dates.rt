@@ -5,7 +5,7 @@ ghost use Rattle.durations.specs.Table.{entry_in};
 ghost use Rattle.outside.specs.Shelf.{Held, Stays, file_bound};
 ghost use Rattle.schedule.specs.Acts.{acts};
 ghost use Rattle.schedule.specs.Valid.{is_valid};
-ghost use Rattle.self_timed_laws.specs.Entries.{AreWithin};
+ghost use Rattle.self_timed.specs.Entries.{AreWithin};
 ghost use Rattle.self_timed.specs.Told.{HaveEntries, entries_of};
 ghost use Rattle.dates_text.specs.Listing.{dates_text};
 ghost use Rattle.sequence_build_laws.specs.Built.{program_of};

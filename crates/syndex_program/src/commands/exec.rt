@@ -14,9 +14,11 @@ use crate::execution::{Execution, execution_of};
 use crate::lines::{lines_of, status_of, write_lines};
 use accepted_laws::accepted_have_flat;
 use archi_graph::Archi;
-use checked_code::{CheckedError, read_checked};
 use command_status::Status;
-use compiler::{flatten_tree, read_algorithm, read_description, read_file, read_table};
+use compiler::{
+    CheckedError, flatten_tree, read_algorithm, read_checked, read_description, read_file,
+    read_table,
+};
 use executive_program::Program;
 use flat_graph::Flat;
 use job_windows::Drive;

@@ -4,8 +4,8 @@ ghost use Rattle.command_plan.specs.Run.{Makes};
 ghost use Rattle.flat_laws.specs.FlatOf.{flat_of};
 ghost use Rattle.flat_text.specs.Listing.{listing};
 ghost use Rattle.outside.specs.Shelf.{Stays};
-ghost use Rattle.operation_paths.specs.Bounded.{HasBounds};
-ghost use Rattle.operation_paths.specs.Named.{HasNames};
+ghost use Rattle.algo_tree.specs.Bounded.{HasBounds};
+ghost use Rattle.algo_tree.specs.Named.{HasNames};
 ghost use Rattle.compiler.specs.Reads.{text_in};
 ghost use Rattle.top_plans.specs.Plans.{flat_plan};
 

@@ -20,13 +20,12 @@ use crate::commands::put_text;
 use crate::execution::Execution;
 use crate::windows::windows_of;
 use command_status::Status;
-use grown_text::{append, append_count};
 use job_windows::{Drive, JobWindows};
 use outside::{Gate, Sink};
 use std::alloc::Global;
 use std::sync::Wait;
 use std::thread::Threads;
-use syn_base::{ActRows, OutOfMemory, print_int};
+use syn_base::{ActRows, OutOfMemory, append, append_count, print_int};
 use word_table::Driven;
 
 /// Runs what is to be executed, and writes its summary; or returns why there is nothing.

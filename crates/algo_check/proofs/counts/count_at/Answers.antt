@@ -1,8 +1,8 @@
 use Rattle.std.proofs.Common.{◌<◌, ◌∙◌, sym, subst, ap, List, ℕ, length, arith}
 use Rattle.std.specs.Prelude.{slice_index}
 use Rattle.std.specs.List.{All, sum_by}
-use Rattle.algo_links.specs.Linked.{named}
-use Rattle.algo_links.proofs.Leading.{all_lead}
+use Rattle.algo_check.specs.Linked.{named}
+use Rattle.algo_check.proofs.Leading.{all_lead}
 use Rattle.algo_check.specs.Counts.{count_here, row}
 use Rattle.algo_check.proofs.Counted.{linked_count, named_few}
 use Rattle.algo_check.proofs.Here.{row_there}

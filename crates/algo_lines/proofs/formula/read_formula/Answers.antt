@@ -1,6 +1,6 @@
 use Rattle.std.proofs.Common.{Ok, ap, sym, ◌∙◌}
 use Rattle.body_lang.specs.Expr.{Expr}
-use Rattle.algo_defs.specs.declared.fault.AlgoCause.TheVariants.{UnknownName}
+use Rattle.algo_text.specs.declared.fault.AlgoCause.TheVariants.{UnknownName}
 use Rattle.syn_base.specs.Bytes.{Bytes}
 use Rattle.algo_text.specs.Blocks.{refused}
 use Rattle.algo_text.proofs.Grammars.{body_formula, bad_read}

@@ -1,5 +1,5 @@
 use Rattle.std.proofs.Common.{◌≡◌, drop, map}
-use Rattle.algo_defs.specs.Words.{is_among}
+use Rattle.algo_text.specs.Among.{is_among}
 use Rattle.algo_lines.proofs.ports.has_port.Given as goal
 
 abbrev pub invariant-loop-port : goal.invariant-loop-port

@@ -1,6 +1,6 @@
 use Rattle.std.proofs.Common.{map, sym, subst}
 use Rattle.body_text.specs.Canonical.{IsRead}
-use Rattle.algo_defs.specs.declared.definition.Output.{Output}
+use Rattle.algo_text.specs.declared.definition.Output.{Output}
 use Rattle.algo_print.proofs.blocks.print_outputs.Goals as goal
 
 pub print_output-requires : goal.print_output-requires

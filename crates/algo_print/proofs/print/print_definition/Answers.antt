@@ -1,5 +1,5 @@
 use Rattle.std.proofs.Common.{subst}
-use Rattle.algo_defs.specs.declared.definition.Body.{Body}
+use Rattle.algo_text.specs.declared.definition.Body.{Body}
 use Rattle.algo_print.specs.Canonical.{IsPrintable}
 use Rattle.algo_print.proofs.print.print_definition.Goals as goal
 

@@ -1,6 +1,6 @@
 use Rattle.std.proofs.Common.{◌≡◌, drop}
-use Rattle.algo_defs.specs.Words.{is_among}
-use Rattle.algo_defs.specs.Outer.{all_outer}
+use Rattle.algo_text.specs.Among.{is_among}
+use Rattle.algo_text.specs.Outer.{all_outer}
 use Rattle.algo_reader.proofs.repetition.has_outer.Given as goal
 
 abbrev pub invariant-loop-line : goal.invariant-loop-line

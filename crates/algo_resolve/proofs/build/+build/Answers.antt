@@ -5,11 +5,11 @@ use Rattle.std.specs.Global.{Vec}
 use Rattle.body_lang.specs.declared.expression.Port.{Port}
 use Rattle.level_meaning.specs.declared.source.Source.{Source}
 use Rattle.level_meaning.specs.declared.part.Part.TheVariants.{Named}
-use Rattle.algo_defs.specs.declared.definition.Body.{Body}
-use Rattle.algo_defs.specs.declared.definition.Body.TheVariants.{Switch}
-use Rattle.algo_defs.specs.declared.definition.Case.{Case}
-use Rattle.algo_defs.specs.declared.definition.Def.{Def}
-use Rattle.algo_links.specs.Linked.{named}
+use Rattle.algo_text.specs.declared.definition.Body.{Body}
+use Rattle.algo_text.specs.declared.definition.Body.TheVariants.{Switch}
+use Rattle.algo_text.specs.declared.definition.Case.{Case}
+use Rattle.algo_text.specs.declared.definition.Def.{Def}
+use Rattle.algo_check.specs.Linked.{named}
 use Rattle.syn_base.specs.Bytes.{Bytes}
 use Rattle.algo_rules.specs.Links.{definition}
 use Rattle.algo_rules.specs.Placed.{ArePlaced}
@@ -19,7 +19,7 @@ use Rattle.algo_tree.specs.View.{kind_view, view}
 use Rattle.algo_tree.specs.declared.vertex.Vertex.{Vertex}
 use Rattle.algo_resolve.specs.declared.build.Seat.{Seat}
 use Rattle.algo_resolve.specs.declared.plan.Plan.{Plan}
-use Rattle.frontier_check.proofs.Places.{one_more}
+use Rattle.body_check.proofs.Places.{one_more}
 use Rattle.algo_resolve.proofs.Placed.{def_at, place_at, place_there}
 use Rattle.algo_resolve.specs.Plans.{Planned, wires_by}
 use Rattle.algo_resolve.proofs.Planned.{beside, plan_at, planned_kind, shared_by}

@@ -3,7 +3,7 @@ use Rattle.std.specs.List.{flat_map}
 use Rattle.level_meaning.specs.declared.frontier.Feed.{Feed}
 use Rattle.level_meaning.specs.declared.frontier.Give.{Give}
 use Rattle.algo_tree.specs.Tree as tree
-use Rattle.algo_defs.specs.declared.definition.FrontierLine.{FrontierLine}
+use Rattle.algo_text.specs.declared.definition.FrontierLine.{FrontierLine}
 use Rattle.algo_rules.specs.Resolved.{feed_of, give_by}
 use Rattle.algo_rules.specs.declared.ports.Ports.{Ports}
 use Rattle.algo_resolve.proofs.kind.repeat_kind.Goals as goal

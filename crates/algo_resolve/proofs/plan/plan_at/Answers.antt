@@ -2,9 +2,9 @@ use Rattle.std.proofs.Common.{◌≡◌, List, ℕ, ap, ap₂, sym, subst, ◌�
 use Rattle.std.proofs.lemmas.Option.{get_or_from_slice_get}
 use Rattle.level_meaning.specs.declared.source.Source.{Source}
 use Rattle.algo_tree.specs.Tree.{Kind}
-use Rattle.algo_links.specs.Linked.{named}
+use Rattle.algo_check.specs.Linked.{named}
 use Rattle.algo_rules.specs.Placed.{ArePlaced}
-use Rattle.algo_defs.specs.declared.definition.Def.{Def}
+use Rattle.algo_text.specs.declared.definition.Def.{Def}
 use Rattle.algo_rules.specs.Ports.{ports_of}
 use Rattle.algo_rules.specs.WellRead.{IsWellRead}
 use Rattle.algo_rules.specs.Resolved.{kind_by, vertex_within}

@@ -1,5 +1,5 @@
 use Rattle.std.proofs.Common.{◌≡◌, codes, sym, subst, ◌∙◌}
-use Rattle.algo_defs.specs.declared.definition.Def.{Def}
+use Rattle.algo_text.specs.declared.definition.Def.{Def}
 use Rattle.algo_rules.specs.Placed.{IsPlaced}
 use Rattle.algo_rules.specs.Resolved.{tree_of, vertex_within}
 use Rattle.algo_tree.specs.View.{view}

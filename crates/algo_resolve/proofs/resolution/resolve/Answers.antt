@@ -1,12 +1,12 @@
 use Rattle.std.proofs.Common.{◌≡◌, false, List, None, Err, sym, subst, ◌∙◌}
-use Rattle.algo_defs.specs.declared.definition.Def.{Def}
+use Rattle.algo_text.specs.declared.definition.Def.{Def}
 use Rattle.algo_rules.specs.Resolved.{refusal, tree_of}
 use Rattle.algo_tree.specs.Size.{is_large}
 use Rattle.algo_tree.specs.Tree.{Vertex}
-use Rattle.operation_paths.specs.Bounded.{HasBounds}
-use Rattle.operation_paths.specs.Named.{HasNames}
-use Rattle.tree_laws.proofs.Bounds.{have_bounds}
-use Rattle.tree_laws.proofs.Names.{have_names}
+use Rattle.algo_tree.specs.Bounded.{HasBounds}
+use Rattle.algo_tree.specs.Named.{HasNames}
+use Rattle.algo_laws.proofs.Bounds.{have_bounds}
+use Rattle.algo_laws.proofs.Names.{have_names}
 use Rattle.algo_resolve.specs.Ready.{IsReady}
 use Rattle.algo_resolve.specs.Within.{Makes}
 use Rattle.algo_resolve.proofs.Told.{are_ready, given, not_made}

@@ -1,6 +1,6 @@
 -- One more word.
 use Rattle.std.proofs.Common.{sym, ◌∙◌}
-use Rattle.code_text.specs.Forms.{number_in}
+use Rattle.macro_code.specs.Forms.{number_in}
 use Rattle.code_lines.proofs.Each.{one_more}
 use Rattle.code_lines.proofs.arguments.numbers.Goals as goal
 

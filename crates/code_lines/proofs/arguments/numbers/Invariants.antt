@@ -1,5 +1,5 @@
 use Rattle.std.proofs.Common.{◌≡◌, map}
-use Rattle.code_text.specs.Forms.{each_in, number_in}
+use Rattle.macro_code.specs.Forms.{each_in, number_in}
 use Rattle.code_lines.proofs.Each.{behind, left}
 use Rattle.code_lines.proofs.arguments.numbers.Given as goal
 

@@ -1,6 +1,6 @@
 use Rattle.std.proofs.Common.{List, Some, ap, sym}
 use Rattle.syn_base.specs.Bytes.{Bytes}
-use Rattle.code_text.specs.Text.{one_of}
+use Rattle.macro_code.specs.ReadText.{one_of}
 use Rattle.code_lines.proofs.Lists.{more_than_one, one_word}
 use Rattle.code_lines.proofs.arguments.one_word.Goals as goal
 

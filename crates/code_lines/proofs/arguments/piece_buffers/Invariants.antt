@@ -1,6 +1,6 @@
 use Rattle.std.proofs.Common.{◌≡◌, ◌≤◌, ◌+◌, ◌-◌, length}
 use Rattle.std.specs.List.{slice_split}
-use Rattle.code_text.specs.Forms.{buffer_in, each_in, is_comma}
+use Rattle.macro_code.specs.Forms.{buffer_in, each_in, is_comma}
 use Rattle.code_lines.proofs.Each.{behind}
 use Rattle.code_lines.proofs.Lists.{pieces}
 use Rattle.code_lines.proofs.arguments.piece_buffers.Given as goal

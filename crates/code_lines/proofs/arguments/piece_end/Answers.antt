@@ -1,5 +1,5 @@
 use Rattle.text_lines.proofs.Places.{missing_from}
-use Rattle.code_text.specs.Forms.{is_comma}
+use Rattle.macro_code.specs.Forms.{is_comma}
 use Rattle.code_lines.proofs.arguments.piece_end.Goals as goal
 
 pub returns-in-None-clause-next : goal.returns-in-None-clause-next

@@ -1,6 +1,6 @@
 use Rattle.std.proofs.Common.{List, Some, ap}
 use Rattle.syn_base.specs.Bytes.{Bytes}
-use Rattle.code_text.specs.Text.{two_of}
+use Rattle.macro_code.specs.ReadText.{two_of}
 use Rattle.code_lines.proofs.Lists.{at_most_one, more_than_two, two_words}
 use Rattle.code_lines.proofs.arguments.two_words.Goals as goal
 

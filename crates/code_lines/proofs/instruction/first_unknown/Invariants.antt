@@ -1,5 +1,5 @@
 use Rattle.std.proofs.Common.{◌≡◌, map, drop}
-use Rattle.code_text.specs.Text.{first_unknown}
+use Rattle.macro_code.specs.ReadText.{first_unknown}
 use Rattle.code_lines.proofs.instruction.first_unknown.Given as goal
 
 abbrev pub invariant-loop-word : goal.invariant-loop-word

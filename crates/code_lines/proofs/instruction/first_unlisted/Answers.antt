@@ -1,5 +1,5 @@
 use Rattle.std.proofs.Common.{sym}
-use Rattle.code_text.specs.Forms.{arguments_of}
+use Rattle.macro_code.specs.Forms.{arguments_of}
 use Rattle.code_lines.proofs.Lists.{all_declared}
 use Rattle.code_lines.proofs.instruction.first_unlisted.Goals as goal
 

@@ -1,5 +1,5 @@
 use Rattle.std.proofs.Common.{◌≡◌, max, map, drop}
-use Rattle.code_text.specs.Text.{longest_on}
+use Rattle.macro_code.specs.ReadText.{longest_on}
 use Rattle.code_reader.specs.Views.{code_of}
 use Rattle.code_reader.specs.Wide.{program_of}
 use Rattle.code_reader.proofs.counts.wire_len.Given as goal

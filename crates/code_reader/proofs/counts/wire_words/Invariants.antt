@@ -1,6 +1,6 @@
 use Rattle.std.proofs.Common.{◌≡◌, ◌-◌, ◌^◌, min}
 use Rattle.interleavings.specs.Owners.{sum_below}
-use Rattle.code_text.specs.Text.{wire_len}
+use Rattle.macro_code.specs.ReadText.{wire_len}
 use Rattle.code_reader.specs.Wide.{program_of}
 use Rattle.code_reader.proofs.counts.wire_words.Given as goal
 

@@ -1,6 +1,6 @@
 use Rattle.std.proofs.Common.{◌≡◌, ◌≤◌, ◌+◌, ◌-◌, length, drop}
 use Rattle.text_lines.specs.Text.{lines_of}
-use Rattle.code_text.specs.Text.{rest_of, start}
+use Rattle.macro_code.specs.ReadText.{rest_of, start}
 use Rattle.code_reader.specs.Read.{reading}
 use Rattle.code_reader.proofs.lines.read_lines.Given as goal
 

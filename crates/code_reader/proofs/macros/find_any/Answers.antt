@@ -1,6 +1,6 @@
 -- A macro is found where its name stands in the table.
 use Rattle.std.proofs.Common.{◌∙◌, sym}
-use Rattle.code_text.specs.Forms.{macros, macro_of}
+use Rattle.macro_code.specs.Forms.{macros, macro_of}
 use Rattle.code_reader.proofs.Found.{found_at, not_found}
 use Rattle.code_reader.proofs.macros.find_any.Goals as goal
 

@@ -1,6 +1,6 @@
 use Rattle.std.proofs.Common.{get_or, length, refl}
-use Rattle.code_text.specs.declared.numbered.Numbered.{Numbered}
-use Rattle.code_text.specs.Text.{misnumbered}
+use Rattle.macro_code.specs.declared.numbered.Numbered.{Numbered}
+use Rattle.macro_code.specs.ReadText.{misnumbered}
 use Rattle.code_reader.proofs.Placing.{placed_more, right_here, took}
 use Rattle.code_reader.proofs.places.places_of.Goals as goal
 

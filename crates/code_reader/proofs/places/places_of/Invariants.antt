@@ -1,5 +1,5 @@
 use Rattle.std.proofs.Common.{◌≡◌, length, take, drop}
-use Rattle.code_text.specs.Text.{first_wrong, misnumbered}
+use Rattle.macro_code.specs.ReadText.{first_wrong, misnumbered}
 use Rattle.code_reader.specs.Placed.{ArePlaced}
 use Rattle.code_reader.proofs.places.places_of.Given as goal
 

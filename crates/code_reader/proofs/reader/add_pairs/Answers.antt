@@ -1,6 +1,6 @@
 -- One more pair.
 use Rattle.std.proofs.Common.{ℕ, refl}
-use Rattle.code_text.specs.Text.{numbered}
+use Rattle.macro_code.specs.ReadText.{numbered}
 use Rattle.code_reader.proofs.Appending.{mapped}
 use Rattle.code_reader.proofs.reader.add_pairs.Goals as goal
 

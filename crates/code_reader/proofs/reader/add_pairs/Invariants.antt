@@ -1,5 +1,5 @@
 use Rattle.std.proofs.Common.{◌≡◌, ◌++◌, map, take}
-use Rattle.code_text.specs.Text.{numbered}
+use Rattle.macro_code.specs.ReadText.{numbered}
 use Rattle.code_reader.proofs.reader.add_pairs.Given as goal
 
 abbrev pub invariant-loop-number : goal.invariant-loop-number

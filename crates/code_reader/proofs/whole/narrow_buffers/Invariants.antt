@@ -1,5 +1,5 @@
 use Rattle.std.proofs.Common.{◌≡◌, map, take}
-use Rattle.code_text.specs.Text.{sized}
+use Rattle.macro_code.specs.ReadText.{sized}
 use Rattle.code_reader.proofs.whole.narrow_buffers.Given as goal
 
 abbrev pub invariant-loop-size : goal.invariant-loop-size

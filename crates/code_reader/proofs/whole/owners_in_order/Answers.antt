@@ -1,6 +1,6 @@
 -- One more operator.
 use Rattle.std.proofs.Common.{[], None}
-use Rattle.code_text.specs.Text.{at_place}
+use Rattle.macro_code.specs.ReadText.{at_place}
 use Rattle.code_reader.proofs.Appending.{mapped}
 use Rattle.code_reader.proofs.whole.owners_in_order.Goals as goal
 

@@ -1,5 +1,5 @@
 use Rattle.std.proofs.Common.{◌≡◌, map, take}
-use Rattle.code_text.specs.Text.{at_place}
+use Rattle.macro_code.specs.ReadText.{at_place}
 use Rattle.code_reader.proofs.whole.owners_in_order.Given as goal
 
 abbrev pub invariant-loop-place : goal.invariant-loop-place

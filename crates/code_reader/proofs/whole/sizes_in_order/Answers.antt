@@ -1,6 +1,6 @@
 -- One more size.
 use Rattle.std.proofs.Common.{[], None}
-use Rattle.code_text.specs.Text.{at_place, no_size}
+use Rattle.macro_code.specs.ReadText.{at_place, no_size}
 use Rattle.code_reader.proofs.Appending.{mapped}
 use Rattle.code_reader.proofs.whole.sizes_in_order.Goals as goal
 

@@ -1,5 +1,5 @@
 use Rattle.std.proofs.Common.{◌≡◌, ◌++◌, take, drop}
-use Rattle.conditioning_laws.specs.Guarded.{own_guards as guards_owned}
+use Rattle.flat_laws.specs.Guarded.{own_guards as guards_owned}
 use Rattle.conditioning.proofs.conditions.are_own.Given as goal
 
 abbrev pub invariant-loop-at : goal.invariant-loop-at

@@ -1,5 +1,5 @@
 use Rattle.std.proofs.Common.{◌≡◌, ◌++◌, map, drop}
-use Rattle.conditioning_laws.specs.Guarded.{shift_guard}
+use Rattle.flat_laws.specs.Guarded.{shift_guard}
 use Rattle.conditioning.proofs.conditions.guards_before.Given as goal
 
 abbrev pub invariant-loop-guard : goal.invariant-loop-guard

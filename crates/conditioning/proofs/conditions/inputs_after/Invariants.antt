@@ -1,5 +1,5 @@
 use Rattle.std.proofs.Common.{◌≡◌, ◌++◌, map, drop}
-use Rattle.conditioning_laws.specs.Guarded.{shift, guard_sources}
+use Rattle.flat_laws.specs.Guarded.{shift, guard_sources}
 use Rattle.conditioning.proofs.conditions.inputs_after.Given as goal
 
 abbrev pub invariant-loop-source : goal.invariant-loop-source

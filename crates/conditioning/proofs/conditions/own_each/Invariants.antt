@@ -1,5 +1,5 @@
 use Rattle.std.proofs.Common.{◌≡◌, ◌++◌, drop, length}
-use Rattle.conditioning_laws.specs.Guarded.{own_guards as guards_owned}
+use Rattle.flat_laws.specs.Guarded.{own_guards as guards_owned}
 use Rattle.conditioning.proofs.conditions.own_each.Given as goal
 
 abbrev pub invariant-loop-guard : goal.invariant-loop-guard

@@ -1,5 +1,5 @@
 use Rattle.std.proofs.Common.{◌≡◌, map, take}
-use Rattle.conditioning_laws.specs.Guarded.{shift}
+use Rattle.flat_laws.specs.Guarded.{shift}
 use Rattle.conditioning.proofs.conditions.shift_each.Given as goal
 
 abbrev pub invariant-loop-source : goal.invariant-loop-source

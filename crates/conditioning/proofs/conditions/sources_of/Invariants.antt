@@ -1,5 +1,5 @@
 use Rattle.std.proofs.Common.{◌≡◌, take}
-use Rattle.conditioning_laws.specs.Guarded.{guard_sources}
+use Rattle.flat_laws.specs.Guarded.{guard_sources}
 use Rattle.conditioning.proofs.conditions.sources_of.Given as goal
 
 abbrev pub invariant-loop-guard : goal.invariant-loop-guard

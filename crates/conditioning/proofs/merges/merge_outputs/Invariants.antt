@@ -1,5 +1,5 @@
 use Rattle.std.proofs.Common.{◌≡◌}
-use Rattle.conditioning_laws.specs.Guarded.{merge_sources}
+use Rattle.flat_laws.specs.Guarded.{merge_sources}
 use Rattle.conditioning.proofs.merges.merge_outputs.Given as goal
 
 abbrev pub invariant-loop-output : goal.invariant-loop-output

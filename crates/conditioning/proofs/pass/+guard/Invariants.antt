@@ -1,6 +1,6 @@
 use Rattle.std.proofs.Common.{◌≡◌, ◌++◌, map, take, drop, length}
 use Rattle.algo_tree.specs.View.{view}
-use Rattle.conditioning_laws.specs.Guarded.{guarded}
+use Rattle.flat_laws.specs.Guarded.{guarded}
 use Rattle.conditioning.specs.Listed.{cases_listed}
 use Rattle.conditioning.proofs.pass.+guard.Given as goal
 

@@ -2,16 +2,16 @@ use Rattle.std.proofs.Common.{◌≡◌, [], ap, ◌∙◌, sym, subst}
 use Rattle.algo_tree.specs.Counted.{operations}
 use Rattle.algo_tree.specs.Valid.{IsTree}
 use Rattle.algo_tree.specs.View.{view}
-use Rattle.operation_paths.specs.Named.{HasNames}
-use Rattle.pass_laws.specs.SameMeaning.{KeepsMeaning}
-use Rattle.pass_laws.specs.NoRepeat.{HasNoRepeat}
-use Rattle.conditioning_laws.specs.Guarded.{guard as guarded_tree}
-use Rattle.conditioning_laws.specs.NoCase.{HasNoCase}
-use Rattle.conditioning_laws.proofs.Guard.{guard_main-keeps}
-use Rattle.conditioning_laws.proofs.Uncased.{no_case, no_repeat}
-use Rattle.conditioning_laws.proofs.Names.{names-guard}
-use Rattle.conditioning_laws.proofs.Counting.{counted-guarded}
-use Rattle.conditioning_laws.proofs.Trees.{tree-guard}
+use Rattle.algo_tree.specs.Named.{HasNames}
+use Rattle.algo_tree.specs.SameMeaning.{KeepsMeaning}
+use Rattle.algo_tree.specs.NoRepeat.{HasNoRepeat}
+use Rattle.flat_laws.specs.Guarded.{guard as guarded_tree}
+use Rattle.flat_laws.specs.NoCase.{HasNoCase}
+use Rattle.flat_laws.proofs.Guard.{guard_main-keeps}
+use Rattle.flat_laws.proofs.Uncased.{no_case, no_repeat}
+use Rattle.flat_laws.proofs.GuardedNames.{names-guard}
+use Rattle.flat_laws.proofs.GuardedCounting.{counted-guarded}
+use Rattle.flat_laws.proofs.GuardedTrees.{tree-guard}
 use Rattle.conditioning.proofs.pass.guard.Goals as goal
 
 pub new-requires : goal.new-requires

@@ -4,7 +4,7 @@ use Rattle.level_meaning.specs.declared.frontier.Give.{Give}
 use Rattle.level_meaning.specs.declared.frontier.Give.TheVariants.{Last, Join}
 use Rattle.algo_tree.specs.Tree.{Vertex}
 use Rattle.algo_tree.specs.View.{view}
-use Rattle.factorisation_laws.specs.Unrolled.{implode_of, implodes}
+use Rattle.flat_laws.specs.Unrolled.{implode_of, implodes}
 use Rattle.factorisation.proofs.frontier.add_implodes.Goals.{in-Join+in_ok-implode+in_ok-push, in_default}
 use Rattle.factorisation.proofs.frontier.add_implodes.Goals as goal
 

@@ -1,6 +1,6 @@
 use Rattle.std.proofs.Common.{◌≡◌, ◌++◌, map, drop}
 use Rattle.algo_tree.specs.View.{view}
-use Rattle.factorisation_laws.specs.Unrolled.{implodes as imploded}
+use Rattle.flat_laws.specs.Unrolled.{implodes as imploded}
 use Rattle.factorisation.proofs.frontier.add_implodes.Given as goal
 
 abbrev pub invariant-loop-give : goal.invariant-loop-give

@@ -1,5 +1,5 @@
 use Rattle.std.proofs.Common.{◌≡◌, ◌++◌, drop, map}
-use Rattle.factorisation_laws.specs.Unrolled.{copy_sources}
+use Rattle.flat_laws.specs.Unrolled.{copy_sources}
 use Rattle.factorisation.proofs.frontier.copy_ins.Given as goal
 
 abbrev pub invariant-loop-feed : goal.invariant-loop-feed

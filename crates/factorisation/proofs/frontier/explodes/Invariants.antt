@@ -1,6 +1,6 @@
 use Rattle.std.proofs.Common.{◌≡◌, ◌++◌, map, drop}
 use Rattle.algo_tree.specs.View.{view}
-use Rattle.factorisation_laws.specs.Unrolled.{explodes as exploded}
+use Rattle.flat_laws.specs.Unrolled.{explodes as exploded}
 use Rattle.factorisation.proofs.frontier.explodes.Given as goal
 
 abbrev pub invariant-loop-line : goal.invariant-loop-line

@@ -1,6 +1,6 @@
 use Rattle.std.proofs.Common.{◌≡◌, ◌+◌, ◌≤◌, ◌++◌, drop, length}
 use Rattle.algo_tree.specs.Well.{join_names}
-use Rattle.factorisation_laws.specs.Unrolled.{give_sources as sources_given}
+use Rattle.flat_laws.specs.Unrolled.{give_sources as sources_given}
 use Rattle.factorisation.proofs.frontier.give_sources.Given as goal
 
 abbrev pub invariant-loop-give : goal.invariant-loop-give

@@ -1,5 +1,5 @@
 use Rattle.std.proofs.Common.{◌≡◌, ◌-◌, ◌≤◌, ◌++◌, drop, length, map, take}
-use Rattle.factorisation_laws.specs.Lines.{put_line}
+use Rattle.flat_laws.specs.Lines.{put_line}
 use Rattle.factorisation.proofs.lines.place_for.Given as goal
 
 abbrev pub invariant-loop-place : goal.invariant-loop-place

@@ -1,6 +1,6 @@
 use Rattle.std.proofs.Common.{◌≡◌, ◌+◌, ◌≤◌, drop, length, map}
 use Rattle.algo_tree.specs.Well.{fork_names}
-use Rattle.factorisation_laws.specs.Lines.{fork_place}
+use Rattle.flat_laws.specs.Lines.{fork_place}
 use Rattle.factorisation.proofs.lines.place_of.Given as goal
 
 abbrev pub invariant-loop-line : goal.invariant-loop-line

@@ -1,5 +1,5 @@
 use Rattle.std.proofs.Common.{◌≡◌, ◌<◌, ◌≤◌, length, get_or, map, refl, ap, ◌∙◌, rules, arith}
-use Rattle.factorisation_laws.specs.Unrolled.{explodes}
+use Rattle.flat_laws.specs.Unrolled.{explodes}
 use Rattle.algo_tree.specs.View.{view}
 use Rattle.algo_tree.specs.Well.{IsWell}
 use Rattle.algo_tree.specs.declared.vertex.Vertex.{out-Vertex, the_lemmas}

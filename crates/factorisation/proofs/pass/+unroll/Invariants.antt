@@ -3,7 +3,7 @@ use Rattle.level_meaning.specs.Level.{numbers_below}
 use Rattle.algo_tree.specs.Meaning.{vertices_in}
 use Rattle.algo_tree.specs.Typed.{label_of}
 use Rattle.algo_tree.specs.View.{view}
-use Rattle.factorisation_laws.specs.Unrolled.{copy, unroll as unrolled}
+use Rattle.flat_laws.specs.Unrolled.{copy, unroll as unrolled}
 use Rattle.factorisation.proofs.pass.+unroll.Given as goal
 
 abbrev pub invariant-add_copies_of-loop-i : goal.invariant-add_copies_of-loop-i

@@ -3,15 +3,15 @@ use Rattle.std.proofs.lemmas.Bool.{ltb-false}
 use Rattle.algo_tree.specs.Counted.{operations}
 use Rattle.algo_tree.specs.Valid.{IsTree}
 use Rattle.algo_tree.specs.View.{view}
-use Rattle.operation_paths.specs.Named.{HasNames}
-use Rattle.pass_laws.specs.SameMeaning.{KeepsMeaning}
-use Rattle.pass_laws.specs.NoRepeat.{HasNoRepeat}
-use Rattle.factorisation_laws.specs.Unrolled.{unroll as unrolled}
-use Rattle.factorisation_laws.proofs.Unroll.{unroll_main-keeps}
-use Rattle.factorisation_laws.proofs.Unrepeated.{no-unroll}
-use Rattle.factorisation_laws.proofs.Names.{names-unroll}
-use Rattle.factorisation_laws.proofs.Counting.{counted-unroll}
-use Rattle.factorisation_laws.proofs.Trees.{tree-unroll}
+use Rattle.algo_tree.specs.Named.{HasNames}
+use Rattle.algo_tree.specs.SameMeaning.{KeepsMeaning}
+use Rattle.algo_tree.specs.NoRepeat.{HasNoRepeat}
+use Rattle.flat_laws.specs.Unrolled.{unroll as unrolled}
+use Rattle.flat_laws.proofs.Unroll.{unroll_main-keeps}
+use Rattle.flat_laws.proofs.Unrepeated.{no-unroll}
+use Rattle.flat_laws.proofs.UnrolledNames.{names-unroll}
+use Rattle.flat_laws.proofs.UnrolledCounting.{counted-unroll}
+use Rattle.flat_laws.proofs.UnrolledTrees.{tree-unroll}
 use Rattle.algo_tree.specs.Size.{is_large, size, vertices_made}
 use Rattle.factorisation.proofs.Sizes.{sized-unroll}
 use Rattle.factorisation.proofs.pass.unroll.Goals as goal

@@ -1,6 +1,6 @@
 use Rattle.std.proofs.Common.{◌≡◌, arith, ap, ◌∙◌, length, map}
 use Rattle.algo_tree.specs.Well.{fork_names}
-use Rattle.factorisation_laws.proofs.Lines.{many-lines}
+use Rattle.flat_laws.proofs.Lines.{many-lines}
 use Rattle.factorisation.proofs.vertices.as_copy.Goals as goal
 
 pub copy_ins-requires-clause-few : goal.copy_ins-requires-clause-few

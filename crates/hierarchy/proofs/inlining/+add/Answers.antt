@@ -8,11 +8,11 @@ use Rattle.algo_tree.specs.View.{view, vertices_view}
 use Rattle.algo_tree.specs.Well.{IsWell}
 use Rattle.algo_tree.specs.declared.vertex.Vertex.{the_lemmas, out-Vertex}
 use Rattle.algo_tree.specs.declared.vertex.Kind.TheVariants.{Delay}
-use Rattle.inlining_laws.specs.Inlined.{inlined, inlined_all}
-use Rattle.inlining_laws.specs.Plain.{IsPlain}
-use Rattle.operation_paths.specs.Named.{IsNamed}
+use Rattle.flat_laws.specs.Inlined.{inlined, inlined_all}
+use Rattle.flat_laws.specs.Plain.{IsPlain}
+use Rattle.algo_tree.specs.Named.{IsNamed}
 use Rattle.hierarchy.specs.Built.{graph_of}
-use Rattle.operation_table.specs.Linked.{AllLinked}
+use Rattle.flat_laws.specs.Linked.{AllLinked}
 use Rattle.hierarchy.specs.Texts.{Prefixes}
 use Rattle.hierarchy.specs.Wires.{led}
 use Rattle.hierarchy.proofs.Leading.{graph_well, well_at}

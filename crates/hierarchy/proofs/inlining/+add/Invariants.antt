@@ -2,9 +2,9 @@ use Rattle.std.proofs.Common.{◌≡◌, ◌+◌, drop, length}
 use Rattle.level_meaning.specs.Level.{Path}
 use Rattle.algo_tree.specs.Counted.{operations_in as count_all}
 use Rattle.algo_tree.specs.View.{vertices_view}
-use Rattle.inlining_laws.specs.Inlined.{inlined_all}
+use Rattle.flat_laws.specs.Inlined.{inlined_all}
 use Rattle.hierarchy.specs.Built.{graph_of}
-use Rattle.operation_table.specs.Linked.{AllLinked}
+use Rattle.flat_laws.specs.Linked.{AllLinked}
 use Rattle.hierarchy.specs.Texts.{Prefixes}
 use Rattle.hierarchy.specs.Wires.{led}
 use Rattle.hierarchy.proofs.Building.{AddsRest}

@@ -1,6 +1,6 @@
 use Rattle.std.proofs.Common.{[], length, ap, sym, subst}
 use Rattle.algo_tree.proofs.Views.{view_out}
-use Rattle.inlining_laws.specs.Inlined.{operations}
+use Rattle.flat_laws.specs.Inlined.{operations}
 use Rattle.flat_laws.specs.Stands.{Stands}
 use Rattle.hierarchy.specs.Built.{graph_of}
 use Rattle.hierarchy.proofs.Adding.{main_well, main_linked}

@@ -3,8 +3,8 @@ use Rattle.std.proofs.lemmas.List.{take_all}
 use Rattle.algo_tree.specs.View.{view, vertices_view}
 use Rattle.algo_tree.specs.Well.{IsWell}
 use Rattle.algo_tree.specs.declared.vertex.Vertex.{the_lemmas}
-use Rattle.level_order.specs.Order.{IsOrder, nodes_of}
-use Rattle.level_order.proofs.Nodes.{length-nodes_of}
+use Rattle.hierarchy.specs.Order.{IsOrder, nodes_of}
+use Rattle.hierarchy.proofs.Nodes.{length-nodes_of}
 use Rattle.hierarchy.specs.Numbers.{first_numbers}
 use Rattle.hierarchy.specs.Wires.{led, Leads}
 use Rattle.hierarchy.proofs.Leading.{AreLed, length-first_numbers, take_next, get_or_any, turn_there, one_led, all_led, none_led, graph_led, graph_well, well_at}

@@ -7,9 +7,9 @@ use Rattle.algo_tree.specs.Tree.{Label}
 use Rattle.algo_tree.specs.View.{label_view}
 use Rattle.algo_tree.specs.declared.vertex.Vertex.{out-Vertex}
 use Rattle.flat_graph.specs.Meaning.{level_source}
-use Rattle.inlining_laws.specs.Inlined.{stage_input, stages}
+use Rattle.flat_laws.specs.Inlined.{stage_input, stages}
 use Rattle.hierarchy.specs.Built.{Adds, graph_of, stage_pair}
-use Rattle.operation_table.specs.Linked.{AreFound, AllLinked}
+use Rattle.flat_laws.specs.Linked.{AreFound, AllLinked}
 use Rattle.hierarchy.specs.Wires.{led}
 use Rattle.hierarchy.proofs.Building.{input_is, stages_from, stage_added, stages_begin, stages_end}
 use Rattle.hierarchy.proofs.operation.add_delay.Goals as goal

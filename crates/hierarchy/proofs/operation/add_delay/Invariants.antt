@@ -2,10 +2,10 @@ use Rattle.std.proofs.Common.{◌≡◌, ◌+◌, ◌*◌, [], drop, length}
 use Rattle.level_meaning.specs.Level.{Path}
 use Rattle.algo_tree.specs.View.{label_view}
 use Rattle.algo_tree.specs.declared.vertex.Vertex.{out-Vertex}
-use Rattle.inlining_laws.specs.Inlined.{stages}
-use Rattle.operation_paths.specs.Texts.{path_text}
+use Rattle.flat_laws.specs.Inlined.{stages}
+use Rattle.algo_tree.specs.Texts.{path_text}
 use Rattle.hierarchy.specs.Built.{graph_of}
-use Rattle.operation_table.specs.Linked.{AllLinked}
+use Rattle.flat_laws.specs.Linked.{AllLinked}
 use Rattle.hierarchy.specs.Wires.{led}
 use Rattle.hierarchy.proofs.Building.{StagesRest}
 use Rattle.hierarchy.proofs.operation.add_delay.Given as goal

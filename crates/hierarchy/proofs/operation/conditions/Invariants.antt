@@ -1,6 +1,6 @@
 use Rattle.std.proofs.Common.{◌≡◌, map, take}
 use Rattle.flat_graph.specs.Meaning.{level_guard}
-use Rattle.inlining_laws.specs.Inlined.{wire_guard}
+use Rattle.flat_laws.specs.Inlined.{wire_guard}
 use Rattle.hierarchy.specs.Wires.{led}
 use Rattle.hierarchy.proofs.operation.conditions.Given as goal
 

@@ -1,13 +1,13 @@
 use Rattle.std.proofs.Common.{length, sym, ap, ◌∙◌, subst}
-use Rattle.conditioning_laws.specs.Guarded.{guard as guarded}
-use Rattle.inlining_laws.specs.Inlined.{operations}
-use Rattle.factorisation_laws.specs.Unrolled.{unroll as unrolled}
+use Rattle.flat_laws.specs.Guarded.{guard as guarded}
+use Rattle.flat_laws.specs.Inlined.{operations}
+use Rattle.flat_laws.specs.Unrolled.{unroll as unrolled}
 use Rattle.flat_laws.specs.EndLengths.{HasEndLengths}
 use Rattle.flat_laws.specs.Stands.{KeepsGraph}
 use Rattle.flat_laws.proofs.Exact.{exact}
 use Rattle.flat_laws.proofs.Flattened.{flattened-count, flattened-flat, flattened-keeps, flattened-lengths}
-use Rattle.operation_table.specs.Listed.{HasOperations}
-use Rattle.operation_table.proofs.Listing.{has-operations}
+use Rattle.flat_laws.specs.Listed.{HasOperations}
+use Rattle.flat_laws.proofs.Listing.{has-operations}
 use Rattle.hierarchy.specs.Built.{graph_of}
 use Rattle.hierarchy.proofs.pass.flatten.Goals as goal
 

@@ -1,8 +1,8 @@
 -- What stays as it is where cases are put under guards has none.
 use Rattle.std.proofs.Common.{ap, sym, subst, [], ◌∙◌}
-use Rattle.conditioning_laws.specs.Guarded.{guard}
-use Rattle.conditioning_laws.specs.NoCase.{HasNoCase}
-use Rattle.conditioning_laws.proofs.Uncased.{no_case}
+use Rattle.flat_laws.specs.Guarded.{guard}
+use Rattle.flat_laws.specs.NoCase.{HasNoCase}
+use Rattle.flat_laws.proofs.Uncased.{no_case}
 use Rattle.flat_laws.proofs.Plain.{plain}
 use Rattle.hierarchy.proofs.pass.inline_guarded.Goals as goal
 

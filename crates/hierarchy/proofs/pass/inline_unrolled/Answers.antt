@@ -1,8 +1,8 @@
 -- What stays as it is where repetitions are unrolled has none.
 use Rattle.std.proofs.Common.{ap, sym, subst, ◌∙◌}
-use Rattle.factorisation_laws.specs.Unrolled.{unroll}
-use Rattle.factorisation_laws.proofs.Unrepeated.{no-unroll}
-use Rattle.pass_laws.specs.NoRepeat.{HasNoRepeat}
+use Rattle.flat_laws.specs.Unrolled.{unroll}
+use Rattle.flat_laws.proofs.Unrepeated.{no-unroll}
+use Rattle.algo_tree.specs.NoRepeat.{HasNoRepeat}
 use Rattle.hierarchy.proofs.pass.inline_unrolled.Goals as goal
 
 pub inline_guarded-requires-clause-repeats : goal.inline_guarded-requires-clause-repeats

@@ -5,7 +5,7 @@ use Rattle.executive_program.specs.Places.{caller_of}
 use Rattle.program_tables.specs.declared.roles.Role.TheVariants.{Called}
 use Rattle.program_tables.specs.Marks.{lone}
 use Rattle.program_tables.proofs.Lone.{lone_is}
-use Rattle.value_check.specs.Calls.{called_at, is_before_twin}
+use Rattle.order_check.specs.Calls.{called_at, is_before_twin}
 use Rattle.macro_check.proofs.calling.is_called.Goals as goal
 
 pub returns : goal.returns

@@ -1,5 +1,5 @@
 use Rattle.std.proofs.Common.{◌≡◌, ◌+◌, ◌/◌, List, map, ap, arith, ◌∙◌}
-use Rattle.value_check.specs.declared.carrying.Origin.{Origin}
+use Rattle.order_check.specs.declared.carrying.Origin.{Origin}
 use Rattle.macro_check.specs.Carrying.{follow_all, further_in}
 use Rattle.macro_check.proofs.Follows.{even_is, odd_is}
 use Rattle.macro_check.proofs.Results.{if_ok}

@@ -4,7 +4,7 @@ use Rattle.std.proofs.lemmas.Option.{slice_get_within}
 use Rattle.executive_program.specs.declared.program.Instr.{Instr}
 use Rattle.executive_program.specs.Instructions.{turn}
 use Rattle.executive_program.specs.WellFormed.{Stands}
-use Rattle.value_check.specs.Carries.{origin_of}
+use Rattle.order_check.specs.Carries.{origin_of}
 use Rattle.macro_check.specs.Carrying.{from_transfer}
 use Rattle.macro_check.proofs.Sourced.{received_is}
 use Rattle.macro_check.proofs.carrying.origin_of.Goals as goal

@@ -2,7 +2,7 @@ use Rattle.std.proofs.Common.{◌≡◌, ℕ, drop}
 use Rattle.std.specs.Prelude.{slice_get}
 use Rattle.program_walks.specs.Walks.{all_at}
 use Rattle.flat_graph.specs.declared.vertex.Source.{Source}
-use Rattle.value_check.specs.Calls.{carries}
+use Rattle.order_check.specs.Calls.{carries}
 use Rattle.macro_check.proofs.fitting.carry_inputs.Given as goal
 
 -- the inputs that are left decide

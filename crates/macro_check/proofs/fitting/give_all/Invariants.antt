@@ -1,7 +1,7 @@
 use Rattle.std.proofs.Common.{◌≡◌, drop}
 use Rattle.std.specs.Prelude.{slice_get}
 use Rattle.program_walks.specs.Walks.{all_at}
-use Rattle.value_check.specs.Calls.{gives_at}
+use Rattle.order_check.specs.Calls.{gives_at}
 use Rattle.macro_check.proofs.fitting.give_all.Given as goal
 
 abbrev pub invariant-loop-port : goal.invariant-loop-port

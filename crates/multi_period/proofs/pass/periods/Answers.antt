@@ -1,7 +1,7 @@
 use Rattle.std.proofs.Common.{◌≡◌, ◌∙◌, sym, ap, subst, arith}
 use Rattle.std.specs.Prelude.{Ok}
-use Rattle.operation_paths.specs.Bounded.{HasBounds}
-use Rattle.operation_paths.specs.Named.{HasNames}
+use Rattle.algo_tree.specs.Bounded.{HasBounds}
+use Rattle.algo_tree.specs.Named.{HasNames}
 use Rattle.multi_period.specs.Within.{IsWithin}
 use Rattle.multi_period.proofs.Names.{names-keep, bounds-keep}
 use Rattle.multi_period.proofs.Passed.{gives_made, limit_is}

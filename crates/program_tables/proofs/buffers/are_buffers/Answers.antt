@@ -1,5 +1,5 @@
 use Rattle.std.proofs.Common.{◌≡◌, true, length, sym, ap, arith, ◌∙◌, below_more}
-use Rattle.buffer_check.specs.Buffers.{is_buffer}
+use Rattle.program_walks.specs.Buffers.{is_buffer}
 use Rattle.program_tables.proofs.Below.{one_fails, all_pass}
 use Rattle.program_tables.proofs.buffers.are_buffers.Goals as goal
 

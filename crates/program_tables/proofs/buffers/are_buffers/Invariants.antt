@@ -1,5 +1,5 @@
 use Rattle.std.proofs.Common.{◌≡◌, ℕ, ◌<◌, true}
-use Rattle.buffer_check.specs.Buffers.{is_buffer}
+use Rattle.program_walks.specs.Buffers.{is_buffer}
 use Rattle.program_tables.proofs.buffers.are_buffers.Given as goal
 
 abbrev pub invariant-loop-buffer : goal.invariant-loop-buffer

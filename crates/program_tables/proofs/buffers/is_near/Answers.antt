@@ -3,7 +3,7 @@ use Rattle.std.specs.Prelude.{◌&&◌, slice_get}
 use Rattle.std.specs.List.{list_all}
 use Rattle.program_tables.specs.declared.mark_table.Mark.{Mark}
 use Rattle.executive_program.specs.Instructions.{operator}
-use Rattle.buffer_check.specs.Buffers.{is_operator}
+use Rattle.program_walks.specs.Buffers.{is_operator}
 use Rattle.program_tables.proofs.Buffered.{near_is}
 use Rattle.program_tables.proofs.buffers.is_near.Goals as goal
 

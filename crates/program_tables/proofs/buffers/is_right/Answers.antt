@@ -1,5 +1,5 @@
 use Rattle.std.proofs.Common.{◌∙◌}
-use Rattle.buffer_check.specs.Buffers.{is_buffer_at}
+use Rattle.program_walks.specs.Buffers.{is_buffer_at}
 use Rattle.program_tables.proofs.buffers.is_right.Goals as goal
 
 pub returns : goal.returns

@@ -1,5 +1,5 @@
 use Rattle.std.proofs.Common.{◌∙◌}
-use Rattle.buffer_check.specs.Pairs.{is_written_between}
+use Rattle.program_walks.specs.Pairs.{is_written_between}
 use Rattle.program_tables.proofs.pairs.is_written_right.Goals as goal
 
 pub returns : goal.returns

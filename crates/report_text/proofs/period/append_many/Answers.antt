@@ -1,7 +1,7 @@
 use Rattle.std.proofs.Common.{◌∷◌, ◌++◌, List, map, ap, ◌∙◌}
 use Rattle.std.proofs.lemmas.Result.{on_ok_weaker}
 use Rattle.timing_chart.specs.Chart.{Line, text_of}
-use Rattle.latencies.specs.declared.latency.Latency.{Latency}
+use Rattle.self_timed.specs.declared.latency.Latency.{Latency}
 use Rattle.report_text.specs.Text.{busiest_line, latency_line, period_line}
 use Rattle.report_text.proofs.Joined.{then_lines}
 use Rattle.report_text.proofs.period.append_many.Goals as goal

@@ -1,7 +1,7 @@
 use Rattle.std.proofs.Common.{◌≡◌, [], ◌∷◌, ◌+◌, ◌++◌, Option, None, drop, get_or, ap, sym, append_assoc, ◌∙◌, arith}
 use Rattle.syn_base.specs.Bytes.{Bytes}
 use Rattle.timing_chart.specs.Chart.{text_of}
-use Rattle.schedule_report.specs.declared.alone.Alone.{Alone}
+use Rattle.lower_bound.specs.declared.alone.Alone.{Alone}
 use Rattle.report_text.specs.Text.{alone_lines}
 use Rattle.report_text.proofs.Lines.{alone_here, alone_past, begins}
 use Rattle.report_text.proofs.reaction.append_alone_lines.Goals.{then-number-list+in_ok-append_if_alone, else-number-list}

@@ -1,7 +1,7 @@
 use Rattle.std.proofs.Common.{◌≡◌, ◌∷◌, ◌+◌, ◌++◌, drop, get_or, ap, sym, append_assoc, ◌∙◌, arith, codes}
 use Rattle.syn_base.specs.Bytes.{Bytes}
 use Rattle.timing_chart.specs.Chart.{line_text, text_of}
-use Rattle.schedule_report.specs.declared.loads.Load.{Load}
+use Rattle.lower_bound.specs.declared.loads.Load.{Load}
 use Rattle.report_text.specs.Text.{load_line, load_lines}
 use Rattle.report_text.proofs.Lines.{begins, load_here, load_past}
 use Rattle.report_text.proofs.reaction.append_operators.Goals.{then-number-loads+in_ok-append_load, else-number-loads}

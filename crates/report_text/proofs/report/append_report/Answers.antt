@@ -1,7 +1,7 @@
 use Rattle.std.proofs.Common.{◌++◌, List, Option, ap, ◌∙◌}
 use Rattle.std.proofs.lemmas.Result.{on_ok_weaker}
 use Rattle.timing_chart.specs.Chart.{text_of}
-use Rattle.schedule_report.specs.declared.alone.Alone.{Alone}
+use Rattle.lower_bound.specs.declared.alone.Alone.{Alone}
 use Rattle.report_text.specs.Text.{beside_lines, bound_lines, period_lines, reaction_lines}
 use Rattle.report_text.proofs.Joined.{and_lines}
 use Rattle.report_text.proofs.report.append_report.Goals as goal

@@ -1,4 +1,4 @@
-use Rattle.algo_links.proofs.Fresh.{name_added}
+use Rattle.algo_check.proofs.Fresh.{name_added}
 use Rattle.text_lint.proofs.known.names_of.Goals as goal
 
 pub loop-def-preserved : goal.loop-def-preserved

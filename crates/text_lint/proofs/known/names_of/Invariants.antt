@@ -1,5 +1,5 @@
 use Rattle.std.proofs.Common.{◌≡◌, ◌++◌, drop}
-use Rattle.algo_links.specs.Placing.{names_of}
+use Rattle.algo_check.specs.Placing.{names_of}
 use Rattle.text_lint.proofs.known.names_of.Given as goal
 
 -- the names so far, with those that are left, are all

@@ -7,7 +7,7 @@ use Rattle.algo_reader.specs.Views.{function_view}
 use Rattle.algo_reader.proofs.PortLines.{fails, goes, taken_stops, result_follows, result_taken, result_free, formula_same, formula_fails}
 use Rattle.std.specs.Prelude.{map}
 use Rattle.algo_text.specs.Blocks.{and_then, with_result}
-use Rattle.algo_defs.specs.declared.definition.Output.{Output}
+use Rattle.algo_text.specs.declared.definition.Output.{Output}
 use Rattle.algo_reader.proofs.function.FunctionBlock.result_words.Goals as goal
 
 pub returns-in_err-port : goal.returns-in_err-port

@@ -1,5 +1,5 @@
 use Rattle.std.proofs.Common.{List, map, ap, ◌∙◌}
-use Rattle.algo_defs.specs.declared.definition.Edge.{Edge}
+use Rattle.algo_text.specs.declared.definition.Edge.{Edge}
 use Rattle.algo_rules.specs.Resolved.{sources_to}
 use Rattle.algo_resolve.specs.Parts.{of}
 use Rattle.algo_resolve.specs.Wiring.{source_among}

@@ -1,6 +1,6 @@
 use Rattle.std.proofs.Common.{ℕ, List, subst, sym, ap, ◌∙◌}
 use Rattle.std.specs.List.Sorted.{IsNonDecreasing}
-use Rattle.code_text.specs.Text.{is_among}
+use Rattle.macro_code.specs.ReadText.{is_among}
 use Rattle.code_lines.proofs.Ascending.{found}
 use Rattle.code_lines.proofs.numbers.Numbers.has.Goals as goal
 

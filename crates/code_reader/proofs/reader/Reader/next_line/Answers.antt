@@ -1,7 +1,7 @@
 use Rattle.std.proofs.Common.{[], ◌∷◌, Result, sym, subst}
-use Rattle.code_text.specs.declared.fault.CodeError.{CodeError}
-use Rattle.code_text.specs.Text.{Reading}
-use Rattle.code_text.specs.Given.{Steps}
+use Rattle.macro_code.specs.declared.fault.CodeError.{CodeError}
+use Rattle.macro_code.specs.ReadText.{Reading}
+use Rattle.macro_code.specs.Given.{Steps}
 use Rattle.code_reader.specs.Read.{reading}
 use Rattle.code_reader.proofs.NextLine.{clean_line, foreign_line}
 use Rattle.code_reader.proofs.reader.Reader.next_line.Goals as goal

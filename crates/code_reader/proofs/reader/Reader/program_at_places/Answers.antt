@@ -1,6 +1,6 @@
 use Rattle.std.proofs.Common.{List, ℕ, map, ap, ◌∙◌}
-use Rattle.code_text.specs.declared.numbered.Size.{Size}
-use Rattle.code_text.specs.Text.{at_place, no_size}
+use Rattle.macro_code.specs.declared.numbered.Size.{Size}
+use Rattle.macro_code.specs.ReadText.{at_place, no_size}
 use Rattle.code_reader.specs.Views.{code_of}
 use Rattle.code_reader.proofs.Wholes.{same_limited}
 use Rattle.code_reader.proofs.reader.Reader.program_at_places.Goals as goal

@@ -3,7 +3,7 @@ use Rattle.std.specs.Prelude.{Vec}
 use Rattle.std.proofs.lemmas.Result.{err_from_is_err_and}
 use Rattle.schedule.specs.Acts.{acts}
 use Rattle.self_timed.specs.Told.{HaveEntries, entries_of}
-use Rattle.self_timed_laws.specs.Entries.{AreWithin}
+use Rattle.self_timed.specs.Entries.{AreWithin}
 use Rattle.actual_defs.specs.declared.fault.ActualError.{ActualError}
 use Rattle.actual_durations.specs.Actual.{actual_of}
 use Rattle.actual_durations.specs.Answers as answers

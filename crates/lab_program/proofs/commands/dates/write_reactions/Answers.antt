@@ -1,7 +1,7 @@
 use Rattle.std.proofs.Common.{ℕ, List, subst, sym}
 use Rattle.schedule.specs.Acts.{acts}
 use Rattle.self_timed.specs.Told.{HaveEntries, entries_of}
-use Rattle.self_timed_laws.specs.Entries.{AreWithin}
+use Rattle.self_timed.specs.Entries.{AreWithin}
 use Rattle.lab_program.proofs.commands.dates.write_reactions.Goals as goal
 
 pub write_dates-requires-clause-valid : goal.write_dates-requires-clause-valid

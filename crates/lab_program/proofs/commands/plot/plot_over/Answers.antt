@@ -5,7 +5,7 @@ use Rattle.syn_base.specs.declared.limits.LimitFault.{LimitFault}
 use Rattle.algo_tree.specs.Ends.{actuator_lengths}
 use Rattle.act_text.specs.Names.{actuator_names}
 use Rattle.sync_meaning.specs.Simulated.{simulated}
-use Rattle.signal_plot.specs.Plot.{plot}
+use Rattle.svg_text.specs.Plot.{plot}
 use Rattle.command_plan.specs.Ending.{refused}
 use Rattle.command_plan.specs.Plan.{give}
 use Rattle.command_plan.specs.Run.{Makes, refuses}

@@ -1,5 +1,5 @@
 use Rattle.std.proofs.lemmas.Result.{err_from_is_err_and}
-use Rattle.algo_defs.specs.declared.definition.Defs.{Defs}
+use Rattle.algo_text.specs.declared.definition.Defs.{Defs}
 use Rattle.algo_tree.specs.Tree.{Vertex}
 use Rattle.command_status.specs.Status.{ending_of}
 use Rattle.top_plans.specs.Plans.{table_plan}

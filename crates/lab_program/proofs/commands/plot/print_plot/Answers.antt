@@ -6,7 +6,7 @@ use Rattle.algo_tree.specs.Ends.{actuator_lengths}
 use Rattle.act_text.specs.Names.{actuator_names}
 use Rattle.act_text.proofs.EndCounts.{as_many}
 use Rattle.sync_meaning.specs.Simulated.{simulated}
-use Rattle.signal_plot.specs.Plot.{plot}
+use Rattle.svg_text.specs.Plot.{plot}
 use Rattle.lab_program.proofs.commands.plot.print_plot.Goals as goal
 
 pub plot_rows-requires : goal.plot_rows-requires

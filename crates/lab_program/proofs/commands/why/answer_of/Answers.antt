@@ -1,7 +1,7 @@
 use Rattle.std.proofs.Common.{◌≡◌, Result, inl, refl, subst}
 use Rattle.std.specs.Prelude.{Ok}
 use Rattle.std.proofs.lemmas.Result.{err_from_is_err_and}
-use Rattle.code_text.specs.Text.{program_in}
+use Rattle.macro_code.specs.ReadText.{program_in}
 use Rattle.command_plan.proofs.Makes.{after_ok, gave}
 use Rattle.command_status.specs.Status.{of_code}
 use Rattle.command_status.specs.declared.status.Status.TheVariants.{OutOfMemory}

@@ -5,7 +5,7 @@ use Rattle.syn_base.specs.Bytes.{Bytes}
 use Rattle.executive_program.specs.declared.program.Program.{Program}
 use Rattle.schedule.specs.declared.decision.Schedule.{Schedule}
 use Rattle.schedule.specs.Acts.{acts}
-use Rattle.self_timed_laws.specs.Entries.{AreWithin}
+use Rattle.self_timed.specs.Entries.{AreWithin}
 use Rattle.self_timed.specs.Told.{HaveEntries, entries_of}
 use Rattle.actual_durations.specs.Actual.{actual_of}
 use Rattle.dates_text.specs.Listing.{dates_text}

@@ -1,0 +1,34 @@
+//! The refusal of a line that names a definition, which `links_of` returns.
+ghost use Rattle.algo_text.specs.declared.fault.AlgoCause.TheVariants.{UnknownName, Misplaced};
+ghost use Rattle.algo_rules.specs.Links.{fault};
+ghost use Rattle.algo_text.specs.Returned.{Tells};
+
+use algo_text::{AlgoCause, AlgoError, AlgoFault};
+use std::alloc::Global;
+use syn_base::{Items, Name};
+
+/// The refusal of a line whose name no definition has, or want of memory for the name.
+pub fn unknown(alloc: Global, line: u32, name: &[u8]) -> AlgoError
+    ensures { Tells result (fault line (UnknownName name.now)) }
+{
+    match Vec::from_slice(alloc, name) {
+        Ok(word) => AlgoError::Refused(AlgoFault {
+            line,
+            cause: AlgoCause::UnknownName(Items::new(word)),
+        }),
+        Err(_) => AlgoError::OutOfMemory,
+    }
+}
+
+/// The refusal of a line whose definition may not stand there, or want of memory for the name.
+pub fn misplaced(alloc: Global, line: u32, name: &Name) -> AlgoError
+    ensures { Tells result (fault line (Misplaced name.now)) }
+{
+    match name.copy(alloc) {
+        Ok(name) => AlgoError::Refused(AlgoFault {
+            line,
+            cause: AlgoCause::Misplaced(name),
+        }),
+        Err(_) => AlgoError::OutOfMemory,
+    }
+}

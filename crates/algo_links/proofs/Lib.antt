@@ -1,4 +1,0 @@
-pub mod Fresh
-pub mod Found
-pub mod Firsts
-pub mod Leading

@@ -1,8 +1,0 @@
-use Rattle.algo_links.proofs.Leading.{each_leads, all_lead}
-use Rattle.algo_links.proofs.laws.links_lead_to_definitions.Goals as goal
-
-pub returns-clause-each : goal.returns-clause-each
-returns-clause-each c = each_leads
-
-pub returns-clause-all : goal.returns-clause-all
-returns-clause-all c = all_lead

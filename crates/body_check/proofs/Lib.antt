@@ -1,0 +1,12 @@
+pub mod PortsFound
+pub mod Same
+pub mod Places
+pub mod Cases
+pub mod Named
+pub mod NamesFound
+pub mod Marked
+pub mod Steps
+pub mod LeftOpen
+pub mod Depends
+pub mod Inside
+pub mod InOrder

@@ -1,0 +1,5 @@
+pub mod Bounds
+pub mod Lines
+pub mod Parts
+pub mod Marks
+pub mod Cycles

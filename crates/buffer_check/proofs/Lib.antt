@@ -1,4 +1,0 @@
-pub mod Guarded
-pub mod Prologues
-mod Walked
-pub mod Written

@@ -1,4 +1,0 @@
-pub mod Counting
-pub mod Between
-pub mod Numbers
-pub mod Cuts

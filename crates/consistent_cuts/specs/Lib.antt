@@ -1,3 +1,0 @@
-pub mod Precedence
-pub mod Sites
-pub mod Laws

@@ -1,3 +1,0 @@
-pub mod Overlap
-pub mod Shown
-pub mod Told

@@ -1,0 +1,33 @@
+-- Accepted marks may stand in the tree that the definitions resolve to.
+use Rattle.std.specs.Prelude.{◌≡◌, ℕ, ◌≤◌, List, Option, Some, None, Ok, All}
+use Rattle.algo_tree.specs.Tree.{Vertex}
+use Rattle.algo_tree.specs.Meaning.{vertices_in}
+use Rattle.algo_text.specs.declared.definition.Def.{Def}
+use Rattle.algo_rules.specs.Resolved.{resolution_of}
+use Rattle.algo_rules.specs.WellRead.{AreWellRead}
+use Rattle.multi_period.specs.declared.mark.Mark.{Mark}
+use Rattle.multi_period.specs.Marks.{mark_at, MayHaveMarks}
+use Rattle.multi_period.specs.Named.{AreNamed}
+use Rattle.elaboration.specs.Marking.{references_of, marking_of}
+
+-- A mark is a number from 1 to 16.
+abbrev pub IsPeriod : Option ℕ → Type 0
+IsPeriod None = Unit {0}
+IsPeriod (Some n) = (1 ≤ n) × (n ≤ 16)
+
+-- Each mark in these definitions is a number from 1 to 16.
+abbrev pub HavePeriods : List Def → Type 0
+HavePeriods ds = All (λ d. All (λ r. IsPeriod r.every) (references_of d.body)) ds
+
+-- The marks are on references that may have them, whose outputs have names.
+pub record Stand (marks : List Mark) (main : Vertex) : Type 0 where
+  pub may : MayHaveMarks marks main
+  pub named : AreNamed (mark_at marks) (vertices_in main)
+
+-- If well-read definitions resolve to a tree and their marks, numbers from 1 to 16, are accepted,
+-- then the marks are on references of that tree that may have them and whose outputs have names.
+abbrev pub AcceptedMarksStand : Type 0
+AcceptedMarksStand =
+    (ds : List Def) (main : Vertex) (marks : List Mark) →
+    AreWellRead ds → HavePeriods ds → resolution_of ds ≡ Ok main → marking_of ds ≡ Ok marks →
+    Stand marks main

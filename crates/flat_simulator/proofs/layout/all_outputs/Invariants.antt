@@ -1,6 +1,0 @@
-use Rattle.std.proofs.Common.{◌≡◌, take, map}
-use Rattle.flat_simulator.specs.Store.{lengths}
-use Rattle.flat_simulator.proofs.layout.all_outputs.Given as goal
-
-abbrev pub invariant-loop-vertex : goal.invariant-loop-vertex
-invariant-loop-vertex l = map lengths l.table.items ≡ map (λ x. x.outs) (take l.vertex-index l.vertices)

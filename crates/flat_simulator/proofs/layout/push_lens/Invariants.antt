@@ -1,6 +1,0 @@
-use Rattle.std.proofs.Common.{◌≡◌, ◌++◌, take}
-use Rattle.flat_graph.specs.Graph.{lens_of}
-use Rattle.flat_simulator.proofs.layout.push_lens.Given as goal
-
-abbrev pub invariant-loop-source : goal.invariant-loop-source
-invariant-loop-source l = l.lens.items ≡ l.initial.lens.items ++ lens_of l.vertices (take l.source-index l.sources)

@@ -1,6 +1,0 @@
-use Rattle.std.proofs.Common.{◌≡◌, ◌++◌, drop}
-use Rattle.flat_simulator.specs.Ran.{taken_lens}
-use Rattle.flat_simulator.proofs.run.taken_lens.Given as goal
-
-abbrev pub invariant-loop-vertex : goal.invariant-loop-vertex
-invariant-loop-vertex l = l.lens.items ++ taken_lens l.vertices (drop l.vertex-index l.vertices) ≡ taken_lens l.vertices l.vertices

@@ -1,6 +1,0 @@
-use Rattle.std.proofs.Common.{◌≡◌, ◌+◌, drop}
-use Rattle.level_meaning.specs.Level.{selected}
-use Rattle.flat_simulator.proofs.values.selected.Given as goal
-
-abbrev pub invariant-loop-case : goal.invariant-loop-case
-invariant-loop-case l = l.case + selected (drop l.case l.values) l.vector ≡ selected l.values l.vector

@@ -1,5 +1,0 @@
-pub mod Order
-pub mod Begun
-pub mod Store
-pub mod Reaction
-pub mod Ran

@@ -1,4 +1,0 @@
-pub mod Found
-pub mod Same
-pub mod Places
-pub mod Cases

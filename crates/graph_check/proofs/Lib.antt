@@ -1,8 +1,0 @@
-pub mod Named
-pub mod Found
-pub mod Marked
-pub mod Steps
-pub mod LeftOpen
-pub mod Depends
-pub mod Inside
-pub mod InOrder

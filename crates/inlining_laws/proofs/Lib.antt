@@ -1,9 +1,0 @@
-pub mod Inlinable
-pub mod Long
-pub mod Wires
-pub mod Leads
-pub mod Cells
-pub mod Flatten
-pub mod Numbered
-pub mod Pairs
-pub mod Worked

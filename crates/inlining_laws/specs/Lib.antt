@@ -1,5 +1,0 @@
-pub mod Flat
-pub mod Inlined
-pub mod Plain
-pub mod SameMeaning
-pub mod Numbered

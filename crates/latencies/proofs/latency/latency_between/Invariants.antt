@@ -1,8 +1,0 @@
-use Rattle.std.proofs.Common.{◌≡◌, map, take}
-use Rattle.self_timed_laws.specs.Dates.{greatest}
-use Rattle.latencies.specs.Latency.{ticks_in}
-use Rattle.latencies.proofs.latency.latency_between.Given as goal
-
--- the greatest of the reactions before
-abbrev pub invariant-loop-reaction : goal.invariant-loop-reaction
-invariant-loop-reaction l = l.ticks ≡ greatest (map (ticks_in l.sensor l.actuator) (take l.reaction l.dates))

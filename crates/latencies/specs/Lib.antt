@@ -1,4 +1,0 @@
-pub mod Latency
-pub mod Turns
-pub mod Laws
-pub mod Stated

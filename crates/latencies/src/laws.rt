@@ -1,8 +1,0 @@
-//! What it means that an operation depends on another one.
-ghost use Rattle.latencies.specs.Laws.{LeadsAlongPaths};
-
-/// An operation depends on another one exactly where a path of sources goes from the other one to it, of
-/// whatever length.
-pub fn leads_along_paths()
-    ensures { LeadsAlongPaths }
-{}

@@ -1,7 +1,0 @@
-use Rattle.std.proofs.Common.{◌≡◌, drop}
-use Rattle.level_meaning.specs.Order.{sources_ready}
-use Rattle.level_order.specs.Order.{is_done}
-use Rattle.level_order.proofs.order.are_sources_ready.Given as goal
-
-abbrev pub invariant-loop-source : goal.invariant-loop-source
-invariant-loop-source l = sources_ready (is_done l.done) (drop l.source-index l.sources) ≡ sources_ready (is_done l.done) l.sources

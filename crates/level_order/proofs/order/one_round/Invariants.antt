@@ -1,6 +1,0 @@
-use Rattle.level_order.specs.Order.{nodes_of}
-use Rattle.level_order.proofs.Rounds.{AreTried}
-use Rattle.level_order.proofs.order.one_round.Given as goal
-
-abbrev pub invariant-loop-r : goal.invariant-loop-r
-invariant-loop-r l = AreTried (nodes_of l.vertices.items) l.r l.fn.begun l.begun

@@ -1,0 +1,7 @@
+use Rattle.std.proofs.Common.{◌≡◌, ◌+◌, drop, length}
+use Rattle.lower_bound.specs.Transfers.{transfers_in}
+use Rattle.lower_bound.proofs.transfers.count_all.Given as goal
+
+-- the transfers so far, with those of the decisions that are left, are all
+abbrev pub invariant-loop-decision : goal.invariant-loop-decision
+invariant-loop-decision l = l.count + length (transfers_in (drop l.decision-index l.decisions)) ≡ length (transfers_in l.decisions)

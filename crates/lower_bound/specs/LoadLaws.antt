@@ -1,0 +1,14 @@
+-- What holds of the loads of every valid schedule.
+use Rattle.std.specs.Prelude.{ℕ, ◌≤◌, IsTrue, Option}
+use Rattle.flat_graph.specs.Graph.{Graph}
+use Rattle.archi_graph.specs.Archi.{Architecture}
+use Rattle.schedule.specs.declared.decision.Schedule.{Schedule}
+use Rattle.schedule.specs.Acts.{acts, is_on, is_over, length_of}
+use Rattle.schedule.specs.Valid.{is_valid}
+use Rattle.lower_bound.specs.Numbers.{busy}
+
+-- no operator and no medium is busy for longer than the schedule lasts
+abbrev pub NoLineIsOverfull : Type 0
+NoLineIsOverfull = (g : Graph) (a : Architecture) (ticks : ℕ → ℕ → Option ℕ) (s : Schedule)
+    → IsTrue (is_valid g a ticks s) → (n : ℕ)
+    → (busy (is_on n) (acts s) ≤ length_of s) × (busy (is_over n) (acts s) ≤ length_of s)

@@ -1,4 +1,0 @@
-pub mod Origins
-pub mod Table
-pub mod Listed
-pub mod Linked

@@ -1,3 +1,0 @@
-pub mod SameMeaning
-pub mod NoRepeat
-pub mod Relabelled

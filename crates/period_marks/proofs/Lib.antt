@@ -1,5 +1,0 @@
-pub mod Outer
-pub mod Numbers
-pub mod Trees
-pub mod Walks
-pub mod Worked

@@ -1,8 +1,0 @@
-use Rattle.std.proofs.Common.{◌≡◌, drop}
-use Rattle.std.specs.Prelude.{codes}
-use Rattle.algo_rules.specs.Links.{definition}
-use Rattle.period_marks.specs.Marking.{marks_in}
-use Rattle.period_marks.proofs.marking.main_marks.Given as goal
-
-abbrev pub invariant-loop-def : goal.invariant-loop-def
-invariant-loop-def l = marks_in (definition l.defs (codes "main")) ≡ marks_in (definition (drop l.def-index l.defs) (codes "main"))

@@ -1,6 +1,0 @@
-use Rattle.std.proofs.Common.{◌≡◌, ◌++◌, drop}
-use Rattle.period_marks.specs.Marking.{marks_from}
-use Rattle.period_marks.proofs.marking.marks_on.Given as goal
-
-abbrev pub invariant-loop-place : goal.invariant-loop-place
-invariant-loop-place l = l.marks.items ++ marks_from l.place (drop l.place l.references) ≡ marks_from 0 l.references

@@ -1,6 +1,0 @@
-use Rattle.std.proofs.Common.{◌≡◌, drop}
-use Rattle.period_marks.specs.Walked.{bad_in}
-use Rattle.period_marks.proofs.standing.check_references.Given as goal
-
-abbrev pub invariant-loop-k : goal.invariant-loop-k
-invariant-loop-k l = bad_in l.defs l.owner l.references ≡ bad_in l.defs l.owner (drop l.k l.references)

@@ -1,5 +1,0 @@
-use Rattle.plain_names.proofs.Bytes.{name_is_plain}
-use Rattle.plain_names.proofs.names_need_no_escape.Goals as goal
-
-pub returns : goal.returns
-returns c = name_is_plain c.args.name.now c.as_bytes.ensures.name

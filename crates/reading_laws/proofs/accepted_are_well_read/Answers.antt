@@ -1,5 +1,0 @@
-use Rattle.reading_laws.proofs.Lines.{accepted_well}
-use Rattle.reading_laws.proofs.accepted_are_well_read.Goals as goal
-
-pub returns : goal.returns
-returns c = accepted_well

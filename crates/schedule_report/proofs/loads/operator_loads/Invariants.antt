@@ -1,8 +1,0 @@
-use Rattle.std.proofs.Common.{◌≡◌}
-use Rattle.schedule.specs.Acts.{is_on}
-use Rattle.schedule_report.specs.Numbers.{loads}
-use Rattle.schedule_report.proofs.loads.operator_loads.Given as goal
-
--- the loads of the operators before
-abbrev pub invariant-loop-operator : goal.invariant-loop-operator
-invariant-loop-operator l = l.loads.items ≡ loads is_on l.operator l.schedule

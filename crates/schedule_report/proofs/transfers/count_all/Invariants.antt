@@ -1,7 +1,0 @@
-use Rattle.std.proofs.Common.{◌≡◌, ◌+◌, drop, length}
-use Rattle.schedule_report.specs.Transfers.{transfers_in}
-use Rattle.schedule_report.proofs.transfers.count_all.Given as goal
-
--- the transfers so far, with those of the decisions that are left, are all
-abbrev pub invariant-loop-decision : goal.invariant-loop-decision
-invariant-loop-decision l = l.count + length (transfers_in (drop l.decision-index l.decisions)) ≡ length (transfers_in l.decisions)

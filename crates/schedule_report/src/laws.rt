@@ -1,7 +1,0 @@
-//! What holds of the loads of every valid schedule.
-ghost use Rattle.schedule_report.specs.Laws.{NoLineIsOverfull};
-
-/// No operator and no medium of a valid schedule is busy for longer than the schedule lasts.
-pub fn no_line_is_overfull()
-    ensures { NoLineIsOverfull }
-{}

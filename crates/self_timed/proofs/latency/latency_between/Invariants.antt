@@ -1,0 +1,8 @@
+use Rattle.std.proofs.Common.{◌≡◌, map, take}
+use Rattle.self_timed.specs.Dates.{greatest}
+use Rattle.self_timed.specs.Latency.{ticks_in}
+use Rattle.self_timed.proofs.latency.latency_between.Given as goal
+
+-- the greatest of the reactions before
+abbrev pub invariant-loop-reaction : goal.invariant-loop-reaction
+invariant-loop-reaction l = l.ticks ≡ greatest (map (ticks_in l.sensor l.actuator) (take l.reaction l.dates))

@@ -1,5 +1,0 @@
-use Rattle.self_timed_laws.proofs.buffers_have_depth.Goals as goal
-use Rattle.self_timed_laws.proofs.Whole as whole
-
-pub returns : goal.returns
-returns c = whole.buffers_have_depth

@@ -1,5 +1,0 @@
-use Rattle.self_timed_laws.proofs.dates_are_one.Goals as goal
-use Rattle.self_timed_laws.proofs.Whole as whole
-
-pub returns : goal.returns
-returns c = whole.dates_are_one

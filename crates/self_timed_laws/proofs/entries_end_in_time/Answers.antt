@@ -1,5 +1,0 @@
-use Rattle.self_timed_laws.proofs.entries_end_in_time.Goals as goal
-use Rattle.self_timed_laws.proofs.Whole as whole
-
-pub returns : goal.returns
-returns c = whole.entries_end_in_time

@@ -1,5 +1,0 @@
-use Rattle.self_timed_laws.proofs.first_reaction_is_stated.Goals as goal
-use Rattle.self_timed_laws.proofs.Whole as whole
-
-pub returns : goal.returns
-returns c = whole.first_reaction_is_stated

@@ -1,5 +1,0 @@
-use Rattle.self_timed_laws.proofs.lines_are_in_order.Goals as goal
-use Rattle.self_timed_laws.proofs.Whole as whole
-
-pub returns : goal.returns
-returns c = whole.lines_are_in_order

@@ -1,5 +1,0 @@
-use Rattle.self_timed_period.proofs.Alone.{one_operator}
-use Rattle.self_timed_period.proofs.laws.one_operator_has_its_length_as_period.Goals as goal
-
-pub returns : goal.returns
-returns c = one_operator

@@ -1,7 +1,0 @@
-use Rattle.std.proofs.Common.{◌≡◌, take}
-use Rattle.self_timed_period.specs.Period.{all_done}
-use Rattle.self_timed_period.proofs.period.done_by.Given as goal
-
--- the reactions so far are done
-abbrev pub invariant-loop-reaction : goal.invariant-loop-reaction
-invariant-loop-reaction l = l.done ≡ all_done (take l.reaction l.dates)

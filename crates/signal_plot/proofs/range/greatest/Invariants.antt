@@ -1,7 +1,0 @@
-use Rattle.std.proofs.Common.{◌≡◌, drop}
-use Rattle.signal_plot.specs.Level.{greatest}
-use Rattle.signal_plot.proofs.range.greatest.Given as goal
-
--- what is left decides
-abbrev pub invariant-loop-value : goal.invariant-loop-value
-invariant-loop-value l = greatest l.high (drop l.value-index l.values) ≡ greatest l.first l.values

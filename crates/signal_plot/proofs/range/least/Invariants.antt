@@ -1,7 +1,0 @@
-use Rattle.std.proofs.Common.{◌≡◌, drop}
-use Rattle.signal_plot.specs.Level.{least}
-use Rattle.signal_plot.proofs.range.least.Given as goal
-
--- what is left decides
-abbrev pub invariant-loop-value : goal.invariant-loop-value
-invariant-loop-value l = least l.low (drop l.value-index l.values) ≡ least l.first l.values

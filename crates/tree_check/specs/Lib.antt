@@ -1,5 +1,0 @@
-pub mod Acyclic
-pub mod Well
-pub mod Typed
-pub mod Ends
-pub mod Tree

@@ -1,3 +1,0 @@
-pub mod Calls
-pub mod Carries
-pub mod Transfers
