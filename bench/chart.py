@@ -1,5 +1,5 @@
 #!/usr/bin/env python3
-"""Times `syndex chart`, or with the word `code` `syndex code`, over 512, 1,024 and 2,048 operations on 1, 4 and 16
+"""Times `syndex chart`, or `syndex code`, over 512, 1,024 and 2,048 operations on 1, 4 and 16
 operators: a chain of functions, functions that all read one sensor, and functions that all read the same 32 values at 64
 inputs. The operators stand in a ring or at one bus. Then over four texts most of whose operations have something carried for them,
 on 16 operators, and `code` over one that has too many transfers and is refused. A plain program (`bench/plain/code.c`, built here by `cc -O2`) does the
@@ -8,13 +8,11 @@ ratio to the plain program's, and the ratio to those of half as many operations.
 import os
 import resource
 import subprocess
-import sys
 import tempfile
 
-from program import built_program, written, TOP
+from program import PLAIN, SYNDEX, built_program, compiled, parser, run, written
 from shapes import all_across, carrying
 
-PROGRAM = built_program()
 SIZES = (512, 1024, 2048)
 OPERATORS = (1, 4, 16)
 HEAD = "algorithm 1\nsensor Sense 1\n"
@@ -98,15 +96,8 @@ def seconds(words, runs=9):
     return best, done.returncode, done.stdout
 
 
-def built(room):
-    """The plain program."""
-    plain = os.path.join(room, "plain")
-    subprocess.run(["cc", "-O2", "-o", plain, os.path.join(TOP, "bench", "plain", "code.c")], check=True)
-    return plain
-
-
 def compared(plain, files, command, what, before):
-    took, status, said = seconds([PROGRAM, command, *files])
+    took, status, said = seconds([SYNDEX, command, *files])
     other, _, same = seconds([plain, command, *files])
     assert status or said == same, f"{what}: the plain program writes something else"
     growth = f", x{took / before:.1f}" if before else ""
@@ -114,10 +105,17 @@ def compared(plain, files, command, what, before):
     return took
 
 
+def options():
+    words = parser(__doc__)
+    words.add_argument("command", nargs="?", choices=["chart", "code"], default="chart", help="what is timed, chart if left out")
+    return words.parse_args()
+
+
 def main():
-    command = sys.argv[1] if len(sys.argv) > 1 else "chart"
+    command = options().command
+    built_program()
     with tempfile.TemporaryDirectory() as room:
-        plain = built(room)
+        plain = compiled(room, os.path.join(PLAIN, "code.c"))
         for shape, text_of in SHAPES.items():
             for operators in OPERATORS:
                 for ring in (True, False) if operators > 1 else (True,):
@@ -131,9 +129,9 @@ def main():
             compared(plain, [written(room, "a", algorithm), written(room, "h", archi)], command, what, None)
         algorithm, archi = all_across()
         for other in ("chart", "code"):
-            took, status, _ = seconds([PROGRAM, other, written(room, "a", algorithm), written(room, "h", archi)])
+            took, status, _ = seconds([SYNDEX, other, written(room, "a", algorithm), written(room, "h", archi)])
             print(f"{other}, 126,978 transfers over a bus: status {status}, {took:.3f} s", flush=True)
 
 
 if __name__ == "__main__":
-    main()
+    run(main)

@@ -12,9 +12,8 @@ import tempfile
 import time
 
 import shapes
-from program import built_program
+from program import SYNDEX, built_program, run, take_no_words
 
-PROGRAM = built_program()
 MIB = 1024 * 1024
 HEAD = "algorithm 1\n"
 TAIL = "graph main\nend\n"
@@ -47,9 +46,9 @@ def countless():
     return "".join(parts)
 
 
-def run(path):
+def checked(path):
     start = time.monotonic()
-    done = subprocess.run([PROGRAM, "check", path], capture_output=True)
+    done = subprocess.run([SYNDEX, "check", path], capture_output=True)
     return time.monotonic() - start, done.returncode, done.stderr.decode().strip()
 
 
@@ -59,7 +58,7 @@ def told(kind, path, texts):
     for text in texts:
         with open(path, "w", encoding="utf-8") as it:
             it.write(text)
-        took, status, line = min(run(path) for _ in range(2))
+        took, status, line = min(checked(path) for _ in range(2))
         times.append(took)
         sizes.append(len(text))
     ratios = "".join(
@@ -69,6 +68,8 @@ def told(kind, path, texts):
 
 
 def main():
+    take_no_words(__doc__)
+    built_program()
     with tempfile.TemporaryDirectory() as room:
         path = os.path.join(room, "text")
         for kind in KINDS:
@@ -76,7 +77,7 @@ def main():
             for mib in (1, 4, 16):
                 with open(path, "w", encoding="utf-8") as it:
                     it.write(text_of(kind, mib * MIB))
-                took, status, line = min(run(path) for _ in range(2))
+                took, status, line = min(checked(path) for _ in range(2))
                 times.append(took)
             ratios = ", ".join(f"{b / a:.2f}" for a, b in zip(times, times[1:]))
             print(f"{kind}: {', '.join(f'{t:.3f}' for t in times)} s, ratios {ratios}, status {status} {line}")
@@ -92,4 +93,4 @@ def main():
 
 
 if __name__ == "__main__":
-    main()
+    run(main)

@@ -10,23 +10,18 @@
 Reading is the second less the first, the check the third less the second. For the plain reader reading is likewise the second less the
 first; it has to refuse the same lines. Prints the ratio of reading to the plain reader's, and that of the check to reading: for the
 macro-code of 2,048 operations on 16 operators, and for texts of 1, 4 and 16 MiB, which are its lines again and again and are only read.
-The time of the whole is told beside that of `flat`. Times are those of the processor, the least of several runs.
-
-    bench/exec.py instructions   counts the instructions of reading in place of its time, by `valgrind --tool=callgrind`: the same
-                                 on a loaded machine"""
+The time of the whole is told beside that of `flat`. Times are those of the processor, the least of several runs."""
 import os
 import re
 import resource
 import subprocess
-import sys
 import tempfile
 
 import chart
-from program import built_program, written, TOP
+from program import PLAIN, SYNDEX, built_program, compiled, need_command, parser, run, written
 from run import load
 from shapes import lanes, operators_for
 
-PROGRAM = built_program()
 RUNS, SHORT = 5, 120
 MIB = 1024 * 1024
 WRONG = "nothing_\n"
@@ -62,16 +57,15 @@ class Reading:
     """The plain reader, and the texts of one algorithm."""
 
     def __init__(self, room):
-        self.room, self.plain = room, os.path.join(room, "plain")
-        subprocess.run(["cc", "-O2", "-o", self.plain, os.path.join(TOP, "bench", "plain", "read_code.c")], check=True)
+        self.room, self.plain = room, compiled(room, os.path.join(PLAIN, "read_code.c"))
         self.first = written(room, "first", WRONG)
 
     def take(self, algorithm, archi):
         self.files = [written(self.room, "a", algorithm), written(self.room, "h", archi)]
-        return subprocess.run([PROGRAM, "code", *self.files], check=True, stdout=subprocess.PIPE).stdout.decode("ascii")
+        return subprocess.run([SYNDEX, "code", *self.files], check=True, stdout=subprocess.PIPE).stdout.decode("ascii")
 
     def exec_of(self, code, runs):
-        return seconds([PROGRAM, "exec", *self.files, code, os.path.join(self.room, "absent")], runs)
+        return seconds([SYNDEX, "exec", *self.files, code, os.path.join(self.room, "absent")], runs)
 
     def read(self, text, runs):
         """The times of reading a text, by the program and by the plain reader."""
@@ -87,7 +81,7 @@ class Reading:
     def counted(self, what, text):
         """The instructions of reading."""
         last, absent = written(self.room, "last", text + WRONG), os.path.join(self.room, "absent")
-        ours, plain = [PROGRAM, "exec", *self.files], [self.plain, *self.files]
+        ours, plain = [SYNDEX, "exec", *self.files], [self.plain, *self.files]
         read = instructions([*ours, last, absent]) - instructions([*ours, self.first, absent])
         other = instructions([*plain, last]) - instructions([*plain, self.first])
         print(f"{what}, {len(text)} bytes: read by {read:,} instructions, {read / other:.2f} times the plain reader's {other:,}", flush=True)
@@ -97,7 +91,7 @@ class Reading:
         read, plain, before = self.read(text, SHORT)
         whole, status, line = self.exec_of(written(self.room, "right", text), SHORT)
         assert (status, line) == (3, "cannot read sensors\n"), line
-        flat, _, _ = seconds([PROGRAM, "flat", self.files[0]], SHORT)
+        flat, _, _ = seconds([SYNDEX, "flat", self.files[0]], SHORT)
         print(
             f"{what}, {len(text)} bytes: read in {read * 1e3:.2f} ms, {read / plain:.2f} times the plain reader's {plain * 1e3:.2f} ms;"
             f" checked in {(whole - before) * 1e3:.2f} ms, {(whole - before) / read:.2f} times the reading;"
@@ -118,13 +112,24 @@ class Reading:
             before = read
 
 
+def options():
+    words = parser(__doc__)
+    instructions = "count the instructions of reading in place of its time, by valgrind: the same on a loaded machine"
+    words.add_argument("instructions", nargs="?", choices=["instructions"], help=instructions)
+    return words.parse_args()
+
+
 def main():
+    given = options()
+    built_program()
+    if given.instructions:
+        need_command("valgrind", "it")
     print(load())
     with tempfile.TemporaryDirectory() as room:
         reading = Reading(room)
         for what, (algorithm, archi) in SHAPES.items():
             text = reading.take(algorithm, archi)
-            if sys.argv[1:] == ["instructions"]:
+            if given.instructions:
                 reading.counted(what, text)
                 continue
             reading.told(what, text)
@@ -133,4 +138,4 @@ def main():
 
 
 if __name__ == "__main__":
-    main()
+    run(main)

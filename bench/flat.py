@@ -10,9 +10,8 @@ import tempfile
 import time
 
 import shapes
-from program import built_program
+from program import SYNDEX, built_program, run, take_no_words
 
-PROGRAM = built_program()
 RUNS = 5
 OPERATIONS = [512, 1_024, 2_048]
 REACTIONS = [1_000, 10_000]
@@ -61,10 +60,12 @@ def listed(text, content):
     """Writes the text of an algorithm, and times its listing."""
     with open(text, "w", encoding="ascii") as it:
         it.write(content)
-    return seconds([PROGRAM, "flat", text])
+    return seconds([SYNDEX, "flat", text])
 
 
 def main():
+    take_no_words(__doc__)
+    built_program()
     with tempfile.TemporaryDirectory() as room:
         text, rows = os.path.join(room, "algorithm.txt"), os.path.join(room, "sensors.csv")
         for backwards in [False, True]:
@@ -73,14 +74,14 @@ def main():
             for operations in OPERATIONS:
                 with open(text, "w", encoding="ascii") as it:
                     it.write(algorithm(operations, backwards))
-                listing = subprocess.run([PROGRAM, "flat", text], check=True, capture_output=True).stdout
+                listing = subprocess.run([SYNDEX, "flat", text], check=True, capture_output=True).stdout
                 assert listing.count(b"\n") == operations
-                before = told(f"flat, {operations} operations {order}", seconds([PROGRAM, "flat", text]), before)
+                before = told(f"flat, {operations} operations {order}", seconds([SYNDEX, "flat", text]), before)
             before = None
             for reactions in REACTIONS:
                 with open(rows, "w", encoding="ascii") as it:
                     it.write("k,s.0\n" + "".join(f"{k},{k}\n" for k in range(reactions)))
-                before = told(f"sim, {reactions} reactions {order}", seconds([PROGRAM, "sim", text, rows]), before)
+                before = told(f"sim, {reactions} reactions {order}", seconds([SYNDEX, "sim", text, rows]), before)
 
         before = None
         for uses in [1, 8, 31]:
@@ -93,4 +94,4 @@ def main():
 
 
 if __name__ == "__main__":
-    main()
+    run(main)

@@ -2,13 +2,10 @@
 """Times `syndex_lab` beside `syndex chart` over the same texts of 2,048 operations on 1, 4 and 16 operators: what it writes of
 a schedule, and its findings; a report once more with 31 sensors and 31 actuators that all depend on each other, over 10, 100
 and 1,000 reactions, and a plot of 100, 1,000 and 10,000 reactions, each beside the line before. Prints the seconds of the processor, least of several runs, the bytes that are written, and the ratio."""
-import os
-import sys
 import tempfile
 
-from chart import PROGRAM, SHAPES, architecture, seconds
-from program import written
-from search import LAB
+from chart import SHAPES, architecture, seconds
+from program import LAB, SYNDEX, built_program, run, take_no_words, written
 from shapes import carrying, table
 
 RUNS = 5
@@ -40,7 +37,7 @@ def told(what, words, before=None):
 
 
 def beside_chart(what, files):
-    chart = told(f"syndex chart, {what}", [PROGRAM, "chart", *files])
+    chart = told(f"syndex chart, {what}", [SYNDEX, "chart", *files])
     for command in COMMANDS:
         told(f"syndex_lab {command}, {what}", [LAB, command, *files], chart)
 
@@ -51,8 +48,9 @@ def plotted():
 
 
 def main():
-    if not os.access(LAB, os.X_OK):
-        sys.exit("lab: syndex_lab is not built: run ./build first")
+    take_no_words(__doc__)
+    built_program()
+    built_program("syndex_lab")
     with tempfile.TemporaryDirectory() as room:
         for shape, text_of in SHAPES.items():
             for operators in (1, 4, 16):
@@ -71,4 +69,4 @@ def main():
 
 
 if __name__ == "__main__":
-    main()
+    run(main)

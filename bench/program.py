@@ -1,17 +1,16 @@
-"""The built program, which the scripts beside this file time and tests/refusals.py runs: not the script
-`syndex`, which first looks whether it is current. And the files that they give it."""
+"""What the scripts in this folder have in common: how they take their words and end, as all scripts of the repository do,
+the programs that they time, and the files that they give them."""
 import os
 import sys
 
-TOP = os.path.dirname(os.path.dirname(os.path.abspath(__file__)))
+sys.path.append(os.path.join(os.path.dirname(os.path.dirname(os.path.abspath(__file__))), "tools"))
+# Most of these are for the scripts.
+from command_line import built_program, compiled, need_command, parser, positive, run, stop, take_no_words
+from repository import TOP, Listing
 
-
-def built_program(named=None):
-    """The path of the program: the one that is named, or else the one that ./build makes."""
-    program = named or os.path.join(TOP, "crates", "syndex", "out", "syndex")
-    if not os.access(program, os.X_OK):
-        sys.exit("bench: the program is not built: run ./build first")
-    return program
+# The programs as ./build makes them. `built_program` says whether they are there.
+SYNDEX, LAB = (os.path.join(TOP, "crates", name, "out", name) for name in ("syndex", "syndex_lab"))
+PLAIN = os.path.join(TOP, "bench", "plain")
 
 
 def written(room, name, text):

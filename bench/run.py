@@ -21,10 +21,9 @@ import time
 
 import shapes
 from flat import algorithm as chain
-from program import built_program, written, TOP
+from program import PLAIN, SYNDEX, built_program, compiled, run, take_no_words, written
 from shapes import delays, first_of_many, lanes, operators_for, table
 
-PROGRAM = built_program()
 RUNS = 5
 REACTIONS = [250, 1_000, 4_000, 10_000]
 WORKERS = [1, 2, 3, 4, 16]
@@ -59,19 +58,18 @@ class Bench:
     """The plain executive, and the texts of one algorithm."""
 
     def __init__(self, room):
-        self.room, self.plain = room, os.path.join(room, "plain")
-        subprocess.run(["cc", "-O2", "-pthread", "-o", self.plain, os.path.join(TOP, "bench", "plain", "run.c")], check=True)
+        self.room, self.plain = room, compiled(room, os.path.join(PLAIN, "run.c"), "-pthread")
 
     def take(self, algorithm, archi, names, reactions):
         self.algorithm, self.archi = written(self.room, "a", algorithm), written(self.room, "h", archi)
         self.rows = written(self.room, "s", table(names, reactions))
-        said = subprocess.run([PROGRAM, "code", self.algorithm, self.archi], check=True, stdout=subprocess.PIPE).stdout
+        said = subprocess.run([SYNDEX, "code", self.algorithm, self.archi], check=True, stdout=subprocess.PIPE).stdout
         self.code = written(self.room, "c", said.decode("ascii"))
 
     def times(self, workers):
         """Of `run`, of `code`, and of the plain executive in one thread and in as many as there are workers, in turn."""
-        run = Times([PROGRAM, "run", self.algorithm, self.archi, self.rows, "--workers", str(workers)])
-        code = Times([PROGRAM, "code", self.algorithm, self.archi])
+        run = Times([SYNDEX, "run", self.algorithm, self.archi, self.rows, "--workers", str(workers)])
+        code = Times([SYNDEX, "code", self.algorithm, self.archi])
         plain = Times([self.plain, self.algorithm, self.archi, self.code, self.rows])
         threads = Times([*plain.words, str(workers)])
         for _ in range(RUNS):
@@ -111,7 +109,7 @@ class Bench:
         """With one worker and with more than have something to do, by the clock."""
         one = None
         for workers in IDLE:
-            run = Times([PROGRAM, "run", self.algorithm, self.archi, self.rows, "--workers", str(workers)])
+            run = Times([SYNDEX, "run", self.algorithm, self.archi, self.rows, "--workers", str(workers)])
             for _ in range(RUNS):
                 run.run(self.room)
             one = one or run.clock
@@ -123,6 +121,8 @@ def load():
 
 
 def main():
+    take_no_words(__doc__)
+    built_program()
     print(load())
     with tempfile.TemporaryDirectory() as room:
         bench = Bench(room)
@@ -154,4 +154,4 @@ def main():
 
 
 if __name__ == "__main__":
-    main()
+    run(main)

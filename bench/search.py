@@ -6,30 +6,20 @@ schedule, the length of the pressure run, of list schedules by upward ranks comp
 insertion), of what the search finds at each number of tries, and its seconds of the processor. At the end the geometric
 means of the ratios to the pressure run.
 
-    search.py [--program FILE] [--for length|period] [--tries N,N,..] [--most OPERATIONS] [--jobs N] [--dense]
-
-With `--jobs` as many designs are tried side by side: more of them than there are processors would not end sooner.
-
-With `--dense` it tells instead how long 1, 100 and 1,000 tries take over 2,048 operations that read up to 64 values each, and
-have most of them carried.
-
 With `--for period` the numbers are periods in thousandths of a tick, over the last 25 of 50 reactions, and there is no
 bound and no HEFT. A schedule that is longer, or slower, than the pressure run or than HEFT is marked."""
-import argparse
 import concurrent.futures
 import math
 import os
 import random
 import resource
 import subprocess
-import sys
 import tempfile
 
-from program import TOP, written
+from program import TOP, built_program, parser, positive, run, stop, written
 from shapes import carrying
 
 TRIES = (2_000, 20_000, 200_000)
-LAB = os.path.join(TOP, "crates", "syndex_lab", "out", "syndex_lab")
 
 
 class Design:
@@ -317,7 +307,7 @@ def report(options, files, tries):
     ran = subprocess.run(words, capture_output=True, text=True, check=False)
     after = resource.getrusage(resource.RUSAGE_CHILDREN)
     if ran.returncode:
-        sys.exit(f"search: {' '.join(words)}: status {ran.returncode}: {ran.stderr.strip()}")
+        stop(f"{' '.join(words)}: status {ran.returncode}: {ran.stderr.strip()}")
     rows = {line.split()[0]: line.split()[1] for line in ran.stdout.splitlines() if line.strip()}
     seconds = after.ru_utime - before.ru_utime
     if options.goal == "period":
@@ -378,17 +368,29 @@ def tell_dense(options):
                 print(f"{name}, {tries} tries: {found}, bound {bound}, {seconds:.2f} s of the processor", flush=True)
 
 
+def numbers(word):
+    """Numbers of tries, with commas between."""
+    return [positive(it) for it in word.split(",")]
+
+
+def given_options():
+    words = parser(__doc__)
+    words.add_argument("--program", metavar="FILE", help="the program, the one that ./build makes if left out")
+    words.add_argument("--for", dest="goal", choices=("length", "period"), default="length", help="what the search makes small")
+    tries = f"how many tries, {','.join(map(str, TRIES))} if left out"
+    words.add_argument("--tries", type=numbers, default=list(TRIES), metavar="N,N,..", help=tries)
+    words.add_argument("--most", type=positive, default=2048, metavar="N", help="leave out designs of more operations")
+    jobs = "how many designs are tried side by side: more of them than there are processors would not end sooner"
+    words.add_argument("--jobs", type=positive, default=1, metavar="N", help=jobs)
+    dense = "report instead how long 1, 100 and 1,000 tries take over 2,048 operations that read up to 64 values each, and" \
+        " have most of them carried"
+    words.add_argument("--dense", action="store_true", help=dense)
+    return words.parse_args()
+
+
 def main():
-    options = argparse.ArgumentParser(description=__doc__, formatter_class=argparse.RawDescriptionHelpFormatter)
-    options.add_argument("--program", default=LAB)
-    options.add_argument("--for", dest="goal", choices=("length", "period"), default="length")
-    options.add_argument("--tries", type=lambda text: [int(it) for it in text.split(",")], default=list(TRIES))
-    options.add_argument("--most", type=int, default=2048)
-    options.add_argument("--jobs", type=int, default=1)
-    options.add_argument("--dense", action="store_true")
-    options = options.parse_args()
-    if not os.access(options.program, os.X_OK):
-        sys.exit("search: syndex_lab is not built: run ./build first, or name a program")
+    options = given_options()
+    options.program = built_program("syndex_lab", options.program)
     if options.dense:
         tell_dense(options)
         return
@@ -396,10 +398,10 @@ def main():
     print(f"{'design':52}{'ops':>6}{'bound':>8}{'run':>8}{'HEFT':>8} {heads}")
     means = Means()
     examples = [it for it in sorted(os.listdir(f"{TOP}/examples")) if has_design(f"{TOP}/examples/{it}")]
-    numbers = range(len(list(designs(options.most))))
+    places = range(len(list(designs(options.most))))
     with concurrent.futures.ProcessPoolExecutor(options.jobs) as pool:
         rows = [pool.submit(example_row, options, it) for it in examples]
-        rows += [pool.submit(design_row, options, it) for it in numbers]
+        rows += [pool.submit(design_row, options, it) for it in places]
         for line, ratios in (it.result() for it in rows):
             print(line, flush=True)
             for column, ratio in ratios:
@@ -413,4 +415,4 @@ def has_design(folder):
 
 
 if __name__ == "__main__":
-    main()
+    run(main)

@@ -17,11 +17,10 @@ import subprocess
 import tempfile
 
 from flat import algorithm as chain
-from program import built_program, written, TOP
+from program import PLAIN, SYNDEX, built_program, compiled, run, take_no_words, written
 from shapes import table
 from shapes_sim import SHAPES
 
-PROGRAM = built_program()
 RUNS, LENGTH, REFERENCES = 5, 64, 3
 REACTIONS = [100, 1_000, 10_000]
 
@@ -60,7 +59,7 @@ def seconds(words):
 
 
 def told(what, plain, files, before=None):
-    took, said = seconds([PROGRAM, "sim", *files])
+    took, said = seconds([SYNDEX, "sim", *files])
     other, same = seconds([plain, *files])
     assert said == same, "the plain program says something else"
     ratio = "" if before is None else f", {took / before:.2f} times the line before"
@@ -82,14 +81,15 @@ def passing(room):
         text = written(room, "passing.txt", make())
         rows = written(room, "passing.csv", table(columns, 100))
         for words in [["check", text], ["flat", text], ["sim", text, rows]]:
-            took, _ = seconds([PROGRAM, *words])
-            print(f"{what}, {words[0]}: {took:.3f} s, {peak([PROGRAM, *words]):.0f} MB")
+            took, _ = seconds([SYNDEX, *words])
+            print(f"{what}, {words[0]}: {took:.3f} s, {peak([SYNDEX, *words]):.0f} MB")
 
 
 def main():
+    take_no_words(__doc__)
+    built_program()
     with tempfile.TemporaryDirectory() as room:
-        plain = os.path.join(room, "plain")
-        subprocess.run(["cc", "-O2", "-o", plain, os.path.join(TOP, "bench", "plain", "sim.c")], check=True)
+        plain = compiled(room, os.path.join(PLAIN, "sim.c"))
         passing(room)
         rows = written(room, "one.csv", table(["s.0"], REACTIONS[-1]))
         for backwards in [False, True]:
@@ -106,4 +106,4 @@ def main():
 
 
 if __name__ == "__main__":
-    main()
+    run(main)

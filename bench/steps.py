@@ -8,11 +8,9 @@ The copy takes over what earlier checks kept; in a new clone everything below is
 import os
 import shutil
 import subprocess
-import sys
 import tempfile
 
-sys.path.insert(0, os.path.join(os.path.dirname(os.path.dirname(os.path.abspath(__file__))), "tools"))
-from repository import TOP, Listing
+from program import TOP, Listing, need_command, run, stop, take_no_words
 
 CRATES = Listing().lowest_first(["worked_programs"])
 RUNS = 20
@@ -185,12 +183,14 @@ def copy(room):
 
 
 def main():
+    take_no_words(__doc__)
+    need_command("rt", "the kit")
     with tempfile.TemporaryDirectory() as room:
         ran = subprocess.run(["rt", "test"], cwd=copy(room), capture_output=True, text=True)
     words = [line.split() for line in ran.stdout.split("\n")]
     took = [line[1:5] for line in words if line[:1] == ["took"]]
     if not took:
-        raise SystemExit(ran.stdout[-2000:] + ran.stderr[-2000:])
+        stop(f"the test has not run: {ran.stdout[-2000:]}{ran.stderr[-2000:]}")
     steps, turns, on_words, made = (int(word) for word in took[0])
     assert made == STEPS, f"{made} micro-steps were made on words"
     print(f"{STEPS} micro-steps: {steps / 1e9:.3f} s, {STEPS / steps * 1e3:.1f} million a second")
@@ -199,4 +199,4 @@ def main():
 
 
 if __name__ == "__main__":
-    main()
+    run(main)

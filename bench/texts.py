@@ -11,11 +11,9 @@ import os
 import re
 import shutil
 import subprocess
-import sys
 import tempfile
 
-sys.path.insert(0, os.path.join(os.path.dirname(os.path.dirname(os.path.abspath(__file__))), "tools"))
-from repository import TOP, Listing
+from program import PLAIN, TOP, Listing, compiled, need_command, run, stop, take_no_words
 
 MIB = 1024 * 1024
 PROGRAM = """//! Reads a text and prints its canonical text, and tells how long both took.
@@ -123,9 +121,7 @@ MOST_NAMES = 100_000
 
 
 def colliding_names(room):
-    maker = os.path.join(room, "colliding")
-    source = os.path.join(TOP, "bench", "plain", "colliding.c")
-    subprocess.run(["cc", "-O2", "-o", maker, source], check=True)
+    maker = compiled(room, os.path.join(PLAIN, "colliding.c"))
     made = subprocess.run([maker, str(MOST_NAMES)], capture_output=True, text=True, check=True)
     return made.stdout.split()
 
@@ -156,12 +152,15 @@ def seconds(crate, text):
     ran = subprocess.run(["rt", "run"], cwd=crate, capture_output=True, text=True)
     took = [line.split()[1:] for line in ran.stdout.split("\n") if line.startswith("took")]
     if not took or took[0][2] != "true":
-        raise SystemExit(ran.stdout[-2000:] + ran.stderr[-2000:])
+        stop(f"the text was not read: {ran.stdout[-2000:]}{ran.stderr[-2000:]}")
     read, both = int(took[0][0]), int(took[0][1])
     return read / 1e9, (both - read) / 1e9
 
 
 def main():
+    take_no_words(__doc__)
+    need_command("rt", "the kit")
+    need_command("cc", "a C compiler")
     with tempfile.TemporaryDirectory() as room:
         crate = copy(room)
         for kind, (head, line) in KINDS.items():
@@ -177,4 +176,4 @@ def main():
 
 
 if __name__ == "__main__":
-    main()
+    run(main)

@@ -9,10 +9,7 @@ whose chart stands in the example: the same length, the same macro-code where th
 each of its lines, and what its lanes are busy; with tries it is no longer. The reports of both are what a plain program makes of
 their charts (`plain/report.py`). The pictures of the examples
 (`tools/draw.py`), and the answers to commands in documents, are what the program writes. The same words give the same
-bytes, words that are no command end with `usage`, and `help` lists what the script lists.
-
-    tests/lab.py [PROGRAM [TRIES]]      with the program that `./build --program syndex_lab` makes, and 200 tries
-"""
+bytes, words that are no command end with `usage`, and `help` lists what the script lists."""
 import collections
 import json
 import os
@@ -28,15 +25,15 @@ from plain import report as plainly
 from plain.algorithm import read
 from plain.architecture import Architecture
 from plain.flat import Flat
-from plain.pictures import Design
+from plain.pictures import Design, arranged, rows_of
 
-TOP = os.path.dirname(os.path.dirname(os.path.abspath(__file__)))
-sys.path.insert(0, f"{TOP}/tools")
+TOP = os.path.dirname(os.path.dirname(os.path.realpath(__file__)))
+sys.path.append(f"{TOP}/tools")
 import draw
 import played
+from command_line import built_program, parser, positive, run
 
 WORD = re.compile(r"op |(Suc|Pre)[01]_|send_|recv_|sync_|thread_|main_")
-PROGRAM = f"{TOP}/crates/syndex_lab/out/syndex_lab"
 USAGE = (
     ("chart", "A"), ("chart", "A", "H", "S"), ("charts", "A", "H"), ("chart", "A", "H", "--tries", "0"), ("chart", "A", "H", "--tries"),
     ("chart", "A", "H", "--tries", "1000001"), ("chart", "A", "H", "--tries", "5", "--tries", "5"), ("chart", "A", "H", "--seed", "x"),
@@ -147,32 +144,11 @@ def check_reports(lab, a, h, chart, tries):
     holds(lab.text("report", a, h, "--tries", tries).splitlines() == plainly.report(found, archi, 50, run), "the report of what was found")
 
 
-def arranged(text):
-    """The lines, in order of their text where they are arrows or events: those stand in the order of decisions, which no
-    chart shows."""
-    lines = text.replace(",\n", "\n").splitlines()
-    apart = [it.startswith(('<path class="arrow"', "{")) for it in lines]
-    return [it for it, move in zip(lines, apart) if not move], sorted(it for it, move in zip(lines, apart) if move)
-
-
 def check_pictures(lab, a, h, design):
     """What a plain program makes of the listing and the chart is what is written."""
     holds(arranged(lab.text("chart", a, h)) == arranged(pictures.chart(design)), "the picture of the chart")
     holds(arranged(lab.text("trace", a, h)) == arranged(pictures.trace(design)), "the trace")
     holds(lab.text("flat", a, h) == pictures.drawing(design), "the drawing of the operations")
-
-
-def rows_of(text):
-    """The names of the actuators, and in each reaction their vectors, of what `syndex sim` writes."""
-    names, rows = [], []
-    for line in text.splitlines():
-        k, name, *values = line.split(" ")
-        if int(k) == len(rows):
-            rows.append([])
-        if name not in names:
-            names.append(name)
-        rows[int(k)].append([int(it) for it in values])
-    return names, rows
 
 
 def check_why(lab, a, h, code):
@@ -261,17 +237,24 @@ def check_words(lab):
     holds(told.startswith(listed) and lab.text("--help") == listed, "the script lists other commands")
 
 
-def main(words):
-    lab = Lab(words[0] if words else PROGRAM)
-    tries = words[1] if len(words) > 1 else "200"
-    wrong = 0
+def options():
+    words = parser(__doc__)
+    program = "the program, the one that ./build --program syndex_lab makes if left out"
+    words.add_argument("program", nargs="?", metavar="PROGRAM", help=program)
+    words.add_argument("tries", nargs="?", type=positive, default=200, metavar="TRIES", help="how many tries, 200 if left out")
+    return words.parse_args()
+
+
+def main():
+    given, wrong = options(), 0
+    lab, tries = Lab(built_program("syndex_lab", given.program)), str(given.tries)
     for name in sorted(os.listdir(f"{TOP}/examples")):
         try:
             print(f"{name}: length {check_example(lab, f'{TOP}/examples/{name}', tries)}")
         except (Wrong, ValueError, ElementTree.ParseError) as why:
             print(f"{name}: WRONG: {why}")
             wrong += 1
-    for fault in draw.faults(os.path.abspath(lab.program)):
+    for fault in draw.faults(lab.program):
         print(f"pictures: WRONG: {fault}")
         wrong += 1
     try:
@@ -286,4 +269,4 @@ def main(words):
 
 
 if __name__ == "__main__":
-    sys.exit(main(sys.argv[1:]))
+    run(main)

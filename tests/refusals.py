@@ -2,9 +2,7 @@
 """Compares how `syndex exec` and a plain reader (`bench/plain/read_code.c`, built here by `cc -O2`), which was written by itself, refuse
 macro-code: the code of an example, with lines and bytes changed at random. Where the plain reader refuses a text both have to say
 the same; where it takes one, `exec` has to come to a limit, to the check of the program, or to the sensors, which are not there.
-Prints how often each cause came, and every text on which they differ; ends with status 1 where there is one.
-
-    tests/refusals.py [COUNT [SEED]]"""
+Prints how often each cause came, and every text on which they differ; ends with status 1 if there is one."""
 import collections
 import os
 import random
@@ -12,8 +10,8 @@ import subprocess
 import sys
 import tempfile
 
-sys.path.insert(0, os.path.join(os.path.dirname(os.path.dirname(os.path.abspath(__file__))), "bench"))
-from program import built_program, written, TOP
+sys.path.append(os.path.join(os.path.dirname(os.path.dirname(os.path.realpath(__file__))), "bench"))
+from program import PLAIN, built_program, compiled, parser, positive, run, written
 from shapes import lanes, operators_for
 
 BYTES = "(),;#_b \t\n0123456789-opaQ\x7f\x00é"
@@ -75,7 +73,7 @@ class Texts:
     def __init__(self, room):
         self.room = room
         for name in ("code", "read_code"):
-            subprocess.run(["cc", "-O2", "-o", os.path.join(room, name), os.path.join(TOP, "bench", "plain", f"{name}.c")], check=True)
+            compiled(room, os.path.join(PLAIN, f"{name}.c"))
         self.files = [written(room, "a", lanes(0)), written(room, "h", operators_for(4, True))]
         self.code = subprocess.run([os.path.join(room, "code"), "code", *self.files], check=True, stdout=subprocess.PIPE).stdout.decode("ascii")
 
@@ -103,13 +101,19 @@ def compare(reading, all_texts, program):
     return 1 if wrong else 0
 
 
-def main(words):
-    count, seed = int(words[0]) if words else 2_000, int(words[1]) if words[1:] else 1
-    program = built_program()
+def options():
+    words = parser(__doc__)
+    words.add_argument("count", nargs="?", type=positive, default=2_000, metavar="COUNT", help="how many texts, 2000 if left out")
+    words.add_argument("seed", nargs="?", type=int, default=1, metavar="SEED", help="the seed of their changes, 1 if left out")
+    return words.parse_args()
+
+
+def main():
+    given, program = options(), built_program()
     with tempfile.TemporaryDirectory() as room:
         reading = Texts(room)
-        return compare(reading, texts(reading.code, count, random.Random(seed)), program)
+        return compare(reading, texts(reading.code, given.count, random.Random(given.seed)), program)
 
 
 if __name__ == "__main__":
-    sys.exit(main(sys.argv[1:]))
+    run(main)

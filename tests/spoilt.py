@@ -2,11 +2,7 @@
 """Compares the built program with the plain readers of `plain/` over texts that are spoilt at random, of each of
 the five kinds: an algorithm by `check`, an architecture by `check`, macro-code by `exec`, a table by `sim`,
 durations by `dates`. The status, the line and the output have to be the same. Prints how often each cause
-came, and every text on which both differ; ends with status 1 where there is one.
-
-    tests/spoilt.py [COUNT [SEED [PROGRAM]]]     COUNT texts of each kind, 10,000 where nothing is said
-
-The program is the one that ./build makes, where no other one is named."""
+came, and every text on which both differ; ends with status 1 if there is one."""
 import collections
 import os
 import random
@@ -19,8 +15,8 @@ from plain.commands import Commands
 from plain.script import Script
 from rows import FOLDER, placed
 
-sys.path.insert(0, os.path.join(os.path.dirname(os.path.dirname(os.path.abspath(__file__))), "bench"))
-from program import built_program
+sys.path.append(os.path.join(os.path.dirname(os.path.dirname(os.path.realpath(__file__))), "tools"))
+from command_line import built_program, parser, positive, run
 
 BYTES = b"(),;#_b.= \t\r\n0123456789-opaQj[]\"\x01\x7f\x00\xe9"
 NUMBERS = b"-1 -0 0 00 1 2 3 16 17 64 65 9223372036854775807 9223372036854775808".split() + [b""]
@@ -68,8 +64,8 @@ def changed(text, rng):
 class Program:
     """The built program over files of a folder."""
 
-    def __init__(self, room, named=None):
-        self.program, self.room = built_program(named), room
+    def __init__(self, room, program):
+        self.program, self.room = program, room
 
     def answer(self, words, files):
         name, *rest = words
@@ -108,14 +104,24 @@ def compare(program, files, kind, count, rng):
     return wrong
 
 
-def main(words):
-    count, seed = int(words[0]) if words else 10_000, int(words[1]) if words[1:] else 1
-    named = words[2] if words[2:] else None
-    files = Script(FOLDER).files
+def options():
+    words = parser(__doc__)
+    count = "how many texts of each kind, 10000 if left out"
+    words.add_argument("count", nargs="?", type=positive, default=10_000, metavar="COUNT", help=count)
+    words.add_argument("seed", nargs="?", type=int, default=1, metavar="SEED", help="the seed of their changes, 1 if left out")
+    program = "the program, the one that ./build makes if left out"
+    words.add_argument("program", nargs="?", metavar="PROGRAM", help=program)
+    return words.parse_args()
+
+
+def main():
+    given = options()
+    built, files = built_program(named=given.program), Script(FOLDER).files
     with tempfile.TemporaryDirectory() as room:
-        program = Program(room, named)
-        return 1 if sum(compare(program, files, kind, count, random.Random(seed)) for kind in KINDS) else 0
+        program = Program(room, built)
+        wrong = [compare(program, files, kind, given.count, random.Random(given.seed)) for kind in KINDS]
+    return 1 if sum(wrong) else 0
 
 
 if __name__ == "__main__":
-    sys.exit(main(sys.argv[1:]))
+    run(main)

@@ -3,20 +3,14 @@
 over texts of the script of `crates/worked_rows`: the answer has to be the right one, or want of memory with
 nothing written; by `run` and `exec`, which write window by window, with the first windows of what is right.
 Then each start of a thread fails in turn, and then all of them: the answer has to be the right one, since the
-other threads drive all groups. Prints a line a command with the number of its calls; ends with status 1 where
-an answer is wrong, or where no call for memory or no start of a thread was seen.
+other threads drive all groups. Prints a line a command with the number of its calls; ends with status 1 if
+an answer is wrong, or if no call for memory or no start of a thread was seen.
 
-    tests/want_of_memory.py [PROGRAM] [--jobs N] [--only WORD]
-
-Of the runs N are made side by side, one where it is left out. With --only it tries the commands whose line has
-this word.
-
-The program is the one that ./build makes. A small library in C, compiled with `cc` and loaded before the C
+A small library in C, compiled with `cc` and loaded before the C
 library, lets the Nth call of a kind fail: `malloc`, `calloc`, `realloc`, `aligned_alloc`, `posix_memalign`
 and `mmap` ask for memory, `pthread_create` starts a thread. What the C library asks of itself is not seen. The
 unproved program of `./build --quick` has an allocator of its own: over it no call for memory is seen, and the
 script ends with status 1."""
-import argparse
 import concurrent.futures
 import os
 import subprocess
@@ -26,8 +20,12 @@ import threading
 
 from plain.script import Script
 
-TOP = os.path.dirname(os.path.dirname(os.path.abspath(__file__)))
-PROGRAM = f"{TOP}/crates/syndex/out/syndex"
+TOP = os.path.dirname(os.path.dirname(os.path.realpath(__file__)))
+sys.path.append(f"{TOP}/tools")
+from command_line import built_program, need_command, parser, positive, run
+
+# The program that is run, as `main` finds it.
+PROGRAM = None
 WANT = (9, b"out of memory\n")
 WINDOW = 256
 LIBRARY = r"""
@@ -271,17 +269,19 @@ def tried(runs, words):
 
 def options():
     """The program, how many runs are made side by side, and which commands are tried."""
-    made = argparse.ArgumentParser(description=__doc__, formatter_class=argparse.RawDescriptionHelpFormatter)
-    made.add_argument("program", nargs="?", default=PROGRAM)
-    made.add_argument("--jobs", type=int, default=1)
-    made.add_argument("--only", default="")
-    return made.parse_args()
+    words = parser(__doc__)
+    program = "the program, the one that ./build makes if left out"
+    words.add_argument("program", nargs="?", metavar="PROGRAM", help=program)
+    words.add_argument("--jobs", type=positive, default=1, metavar="N", help="how many runs are made side by side")
+    words.add_argument("--only", default="", metavar="WORD", help="try only the commands whose line has this word")
+    return words.parse_args()
 
 
 def main():
     global PROGRAM
     given = options()
-    PROGRAM = given.program
+    PROGRAM = built_program(named=given.program)
+    need_command("cc", "a C compiler")
     wrong = calls = threads = 0
     with tempfile.TemporaryDirectory() as room:
         runs = Runs(room, given.jobs)
@@ -293,4 +293,4 @@ def main():
 
 
 if __name__ == "__main__":
-    sys.exit(main())
+    run(main)

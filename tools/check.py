@@ -1,8 +1,7 @@
 #!/usr/bin/env python3
-"""What can be told of the repository without a proof, in seconds. `.ci/run` ends with it.
-
-    tools/check.py [CHECK..]   runs these checks, or all: a line for each fault, the line
-                               'N passed, M failed' of checks at the end, and status 1 if one failed
+"""What can be said of the repository without a proof, in seconds. `.ci/run` ends with it. Prints a line
+for each check and each fault, at the end `N passed, M failed` of the checks, and has status 1 if one
+failed.
 
 Each check is a call `faults` of the script of its name, which says what it looks at."""
 import filecmp
@@ -13,21 +12,26 @@ import time
 
 sys.dont_write_bytecode = True
 sys.path.insert(0, os.path.dirname(os.path.abspath(__file__)))
+from command_line import one_of, parser, run
 from repository import TOP
 
-# The checks, and what each is to find; `examples` stands below, the others are scripts.
+# The checks, and what each is to find; `examples` is in this file, the others are scripts.
 CHECKS = {
     "listing": "crates.txt has each crate once, in a room, after what it stands on",
     "needs": "crates.txt says what each crate stands on",
     "rooms": "the rooms in README and ARCHITECTURE are those of crates.txt",
     "claims": "each crate has its line in CLAIMS",
-    "definitions": "each definition that a clause of the top names has its row in DEFINITIONS",
+    "definitions": "DEFINITIONS lists what the contracts that THEOREM names rest on",
     "names": "what the documents name is there",
     "widths": "no line of a contract is too wide",
     "wrong_bodies": "each wrong body can be written, and those that CLAIMS names are there",
     "examples": "the worked rows run on the examples",
     "played": "the commands in documents are worked rows, with the same answers",
     "explain": "each message that the manual names has a row there",
+    "commands": "the manual, README and the code have the same commands",
+    "manual_pages": "each section of the manual pages has something from the manual",
+    "editors": "the syntax files for editors know each line of the examples",
+    "scripts": "each script is executable, has --help, and refuses unknown words",
 }
 
 
@@ -49,8 +53,8 @@ def examples(left=f"{TOP}/examples", right=f"{TOP}/crates/worked_rows/data"):
         yield from examples(f"{left}/{name}", f"{right}/{name}")
 
 
-def run(name):
-    """Tells the faults that one check finds, and answers how many."""
+def count_faults(name):
+    """Prints the faults that one check finds, and returns how many there are."""
     start = time.monotonic()
     found = list(examples() if name == "examples" else importlib.import_module(name).faults())
     took = f"{time.monotonic() - start:.1f} s"
@@ -60,15 +64,19 @@ def run(name):
     return len(found)
 
 
-def main(words):
-    if not all(it in CHECKS for it in words):
-        print(__doc__, f"\nThe checks are: {' '.join(CHECKS)}.", file=sys.stderr)
-        return 2
-    counts = [run(name) for name in words or CHECKS]
+def options():
+    words = parser(__doc__)
+    checks = f"one of {', '.join(CHECKS)}; all if left out"
+    words.add_argument("checks", nargs="*", type=one_of(CHECKS), metavar="CHECK", help=checks)
+    return words.parse_args()
+
+
+def main():
+    counts = [count_faults(name) for name in options().checks or CHECKS]
     failed = sum(map(bool, counts))
     print(f"{len(counts) - failed} passed, {failed} failed")
     return 1 if failed else 0
 
 
 if __name__ == "__main__":
-    sys.exit(main(sys.argv[1:]))
+    run(main)

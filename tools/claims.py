@@ -1,12 +1,11 @@
 #!/usr/bin/env python3
 """Whether docs/CLAIMS.md has a line for each crate: a row of a table whose first cell names it, in the
-section of its room, in the order of crates.txt. A row may name several crates, with commas.
-
-    tools/claims.py        a line for each crate without a row, or with one at another place
-    tools/claims.py sort   puts each row into the room of its first crate, in the order of crates.txt"""
+section of its room, in the order of crates.txt. A row may name several crates, with commas. Prints a line
+for each crate without a row, or with one at another place, and ends with status 1 if there is one."""
 import re
 import sys
 
+from command_line import parser, print_lines, run
 from repository import TOP, Listing, text_of
 
 PATH = "docs/CLAIMS.md"
@@ -72,11 +71,15 @@ def in_order(listing, text):
     return text[:first] + "".join(made) + (text[rest + 1 :] if rest >= 0 else "")
 
 
-def main(words):
-    if words not in ([], ["sort"]):
-        print(__doc__, file=sys.stderr)
-        return 2
-    if words:
+def options():
+    words = parser(__doc__)
+    sort = "first put each row into the room of its first crate, in the order of crates.txt"
+    words.add_argument("sort", nargs="?", choices=["sort"], help=sort)
+    return words.parse_args()
+
+
+def main():
+    if options().sort:
         text = text_of(f"{TOP}/{PATH}")
         made = in_order(Listing(), text)
         if made is None:
@@ -84,10 +87,8 @@ def main(words):
         else:
             with open(f"{TOP}/{PATH}", "w", encoding="utf-8") as it:
                 it.write(made)
-    wrong = list(faults())
-    print(*wrong, sep="\n", end="\n" if wrong else "")
-    return 1 if wrong else 0
+    return print_lines(faults())
 
 
 if __name__ == "__main__":
-    sys.exit(main(sys.argv[1:]))
+    run(main)

@@ -1,19 +1,15 @@
 #!/usr/bin/env python3
 """The pictures of the examples, as `syndex_lab` writes them: `chart.svg` in each folder that has an
-architecture, and those of the table below. No other file of examples/ ends in `.svg`.
-
-    tools/draw.py [PROGRAM]           writes them anew
-    tools/draw.py --check [PROGRAM]   tells which the program writes otherwise, with status 1
-
-PROGRAM is the one that `./build --program syndex_lab` makes, where no other one is named."""
+architecture, and those of the table in this script. No other file of examples/ ends in `.svg`. Writes
+them anew."""
 import glob
 import os
 import subprocess
-import sys
 
-TOP = os.path.dirname(os.path.dirname(os.path.abspath(__file__)))
+from command_line import built_program, parser, print_lines, run, stop
+from repository import TOP
+
 EXAMPLES = f"{TOP}/examples"
-PROGRAM = f"{TOP}/crates/syndex_lab/out/syndex_lab"
 CHART = "chart algorithm.txt architecture.txt"
 DATES = "dates algorithm.txt architecture.txt architecture.txt"
 PLOT = "plot algorithm.txt sensors.csv"
@@ -50,7 +46,7 @@ def drawn(program, path, words):
     return ran.stdout
 
 
-def faults(program=PROGRAM):
+def faults(program):
     """Pictures that the program writes otherwise, that are not there, or that nothing writes."""
     known = pictures()
     for path, words in known.items():
@@ -71,23 +67,34 @@ def faults(program=PROGRAM):
             yield f"{os.path.relpath(file, TOP)}: tools/draw.py does not write it"
 
 
-def main(words):
-    check = words[:1] == ["--check"]
-    given = words[1:] if check else words
-    if len(given) > 1 or given[:1] == ["--help"]:
-        print(__doc__, file=sys.stderr)
-        return 2
-    program = os.path.abspath(given[0]) if given else PROGRAM
-    if check:
-        wrong = list(faults(program))
-        print(*wrong, sep="\n", end="\n" if wrong else "")
-        return 1 if wrong else 0
-    for path, picture in pictures().items():
-        made = drawn(program, path, picture)
+def draw_all(program):
+    """Writes every picture."""
+    for path, words in pictures().items():
+        made = drawn(program, path, words)
         with open(f"{EXAMPLES}/{path}", "wb") as it:
             it.write(made)
+
+
+def options():
+    words = parser(__doc__)
+    check = "write nothing, and report which the program writes otherwise"
+    words.add_argument("--check", action="store_true", help=check)
+    program = "the program, the one that ./build --program syndex_lab makes if left out"
+    words.add_argument("program", nargs="?", metavar="PROGRAM", help=program)
+    return words.parse_args()
+
+
+def main():
+    given = options()
+    program = built_program("syndex_lab", given.program)
+    if given.check:
+        return print_lines(faults(program))
+    try:
+        draw_all(program)
+    except ValueError as why:
+        stop(why)
     return 0
 
 
 if __name__ == "__main__":
-    sys.exit(main(sys.argv[1:]))
+    run(main)

@@ -1,43 +1,24 @@
 #!/usr/bin/env python3
 """Says what a message of the program means, from the tables of docs/MANUAL.md, which are its only source.
 
-    tools/explain.py A7                  by the code of a message
-    tools/explain.py UnknownName         by its name
-    tools/explain.py limit words         by a limit
-    tools/explain.py cannot write        by the words of a message without a code
-    tools/explain.py LINE                a whole line, as it was printed
-    tools/explain.py                     all messages, a line each
-    tools/explain.py commands            the commands, a line each, with examples
+    A7                  by the code of a message
+    UnknownName         by its name
+    limit words         by a limit
+    cannot write        by the words of a message without a code
+    'algorithm line 7: A8 WrongLength a.i'
+                        a whole line, as it was printed
 
-`./syndex explain`, `./syndex_lab explain` and `./syndex help` call it."""
-import os
+`./syndex explain` and `./syndex_lab explain` call it."""
 import re
 import sys
 
+from command_line import parser, run
 from repository import TOP, text_of
 
 MANUAL = f"{TOP}/docs/MANUAL.md"
 CODE = re.compile(r"\b[ACEHKS][0-9]{1,2}\b")
 # Messages without a code, and what stands for them in the table of statuses.
 PLAIN = ("usage", "cannot read", "cannot write", "out of memory")
-COMMANDS = (
-    ("check ALGORITHM [ARCHITECTURE]", "the canonical texts, or the first thing that is wrong",
-     "check examples/speed_controller/algorithm.txt"),
-    ("flat ALGORITHM", "the operations of an algorithm", "flat examples/fir_filter/algorithm.txt"),
-    ("sim ALGORITHM SENSORS", "what the actuators take, by the meaning of the algorithm",
-     "sim examples/echo/algorithm.txt examples/echo/sensors.csv"),
-    ("chart ALGORITHM ARCHITECTURE", "when and where each operation and transfer happens",
-     "chart examples/relay/algorithm.txt examples/relay/architecture.txt"),
-    ("code ALGORITHM ARCHITECTURE", "the executive of each processor, as macro-code",
-     "code examples/echo/algorithm.txt examples/echo/architecture.txt"),
-    ("run ALGORITHM ARCHITECTURE SENSORS [--workers W]", "the macro-code, and what the actuators took on threads",
-     "run examples/echo/algorithm.txt examples/echo/architecture.txt examples/echo/sensors.csv"),
-    ("exec ALGORITHM ARCHITECTURE CODE SENSORS [--workers W]", "the same by macro-code of your own, once it is checked",
-     "exec examples/echo/algorithm.txt examples/echo/architecture.txt examples/echo/code.txt examples/echo/sensors.csv"),
-    ("dates ALGORITHM ARCHITECTURE DURATIONS N", "when everything happens in N reactions, under the actual durations",
-     "dates examples/radar/algorithm.txt examples/radar/architecture.txt examples/radar/architecture.txt 3"),
-    ("load N", "how many steps a generated algorithm of size N takes", "load 3"),
-)
 
 
 def tables(text):
@@ -100,12 +81,6 @@ def is_form(kind, form):
     return kind == "message" or kind == "status" and form.strip("`").startswith(PLAIN)
 
 
-def commands():
-    width = max(len(it[0]) for it in COMMANDS)
-    for words, what, example in COMMANDS:
-        print(f"  {words:{width}}  {what}\n      ./syndex {example}")
-
-
 def faults():
     """Messages of the status table's kinds that the manual does not explain, for tools/check.py."""
     for code in sorted(set(CODE.findall(text_of(MANUAL)))):
@@ -113,13 +88,18 @@ def faults():
             yield f"docs/MANUAL.md names {code}, and no table says when it comes"
 
 
-def main(words):
-    if words == ["commands"]:
-        commands()
-        return 0
+def options():
+    words = parser(__doc__)
+    words.prog = "explain"
+    words.add_argument("message", nargs="*", metavar="MESSAGE", help="the message; without it all messages are listed")
+    return words.parse_args()
+
+
+def main():
+    words = options().message
     said = explained(words) if words else dict.fromkeys(form for kind, form, _ in messages() if is_form(kind, form))
     if not said:
-        print("no message like this stands in docs/MANUAL.md; ask by its code (A7), by its name (UnknownName), by its"
+        print("explain: no message like this stands in docs/MANUAL.md; ask by its code (A7), by its name (UnknownName), by its"
               " limit (limit words) or by the whole line", file=sys.stderr)
         return 2
     print(*(it.replace("`", "") for it in said), sep="\n")
@@ -127,4 +107,4 @@ def main(words):
 
 
 if __name__ == "__main__":
-    sys.exit(main(sys.argv[1:]))
+    run(main)

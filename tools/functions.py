@@ -1,19 +1,18 @@
 #!/usr/bin/env python3
 """Where the time of a proof goes: the functions of a crate that took longest, by the times at which
-the prover wrote what it had checked.
-
-    tools/functions.py [CRATE] [--most N]   of a crate, or of all, whose `out/` keeps a check from
-                                            nothing with one job
+the prover wrote what it had checked. It reads what `out/` of a crate keeps of a check from nothing with one
+job.
 
 Times are by the clock, so of a machine that did little else. `walk` is the walk over a function's
 code, which grows with the paths on which large owned values are dropped; `search` is the search for
 its goals; `other` is what states and links them."""
-import argparse
 import collections
 import os
 import re
 
-TOP = os.path.dirname(os.path.dirname(os.path.abspath(__file__)))
+from command_line import parser, positive, run
+from repository import TOP, Listing
+
 # What a checked module of a function is, by the end of its name.
 PHASES = {"Lts": "walk", "Proof": "search"}
 PARTS = r"\.(Lts|Proof|Tie|Code|Named|Met|Statement|TheLinks?|Symbol|Kinds)\b.*$"
@@ -44,11 +43,15 @@ def booked(crate, table):
         before = written
 
 
+def options():
+    words = parser(__doc__)
+    words.add_argument("crate", nargs="?", choices=Listing().rows, metavar="CRATE", help="this crate; all if left out")
+    words.add_argument("--most", type=positive, default=30, metavar="N", help="how many functions, 30 if left out")
+    return words.parse_args()
+
+
 def main():
-    words = argparse.ArgumentParser(description=__doc__, formatter_class=argparse.RawDescriptionHelpFormatter)
-    words.add_argument("crate", nargs="?")
-    words.add_argument("--most", type=int, default=30)
-    given = words.parse_args()
+    given = options()
     table = collections.defaultdict(collections.Counter)
     for crate in [given.crate] if given.crate else sorted(os.listdir(f"{TOP}/crates")):
         booked(crate, table)
@@ -64,4 +67,4 @@ def main():
 
 
 if __name__ == "__main__":
-    main()
+    run(main)

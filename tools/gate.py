@@ -1,22 +1,8 @@
 #!/usr/bin/env python3
 """The processor time of the gate, crate by crate: for its proof, the code of a program, its tests and
-its wrong bodies. It is for runs by hand: `.ci/run` does not call it.
-
-    tools/gate.py ci               runs `rt ci` and measures it: while it runs, the time of each process
-                                   of the prover is looked at every half second, and booked on the crate
-                                   and the kind of work that its words name. A process's last half
-                                   second is not seen. Each proof has one processor: left to itself,
-                                   rt gives a proof those that are idle, which takes more of them in
-                                   all, and starts it only where its estimate of memory fits, which is
-                                   two to five times what a proof takes. RT_JOBS, where it is set,
-                                   says how many proofs run side by side.
-    tools/gate.py parts [NAME..]   measures the parts themselves, one crate at a time, in a copy of the
-                                   repository: the tests from nothing, the proof from nothing, the edits
-                                   that stand in the gate. Crates below those named are proved first,
-                                   unmeasured. What earlier checks kept is not used for those named.
-
-Both print a line a crate in minutes of a processor, the greatest first, and the sums. The log of
-`rt ci` has no times itself."""
+its wrong bodies. It is for runs by hand: `.ci/run` does not call it. Prints a line for each crate in
+minutes of a processor, the greatest first, and the sums. The log of `rt ci` has no times itself."""
+import argparse
 import os
 import shutil
 import subprocess
@@ -24,8 +10,17 @@ import sys
 import tempfile
 import time
 
+from command_line import need_command, one_of, parser, run
 from repository import TOP, Listing, files, text_of
 
+CI = """Runs `rt ci` and measures it: while it runs, the time of each process of the prover is looked at
+every half second, and booked on the crate and the kind of work that its words name. A process's last
+half second is not seen. Each proof has one processor: left to itself, rt gives a proof those that are
+idle, which takes more of them in all, and starts it only if its estimate of memory fits, which is two
+to five times what a proof takes. RT_JOBS, if it is set, says how many proofs run side by side."""
+MEASURED = """Measures the parts themselves, one crate at a time, in a copy of the repository: the tests from
+nothing, the proof from nothing, and the wrong bodies. Crates below those named are proved first,
+unmeasured. What earlier checks kept is not used for those named."""
 TICK = os.sysconf("SC_CLK_TCK")
 KINDS = ("proof", "code", "tests", "edits")
 # Memory for each proof that runs beside others, in bytes: the largest takes 5 GB, most take 1 to 2.
@@ -179,15 +174,26 @@ def measure(table, name, folder, top):
             print(f"{name}: {' '.join(words)} ended with status {status}", file=sys.stderr)
 
 
-def main(words):
-    part, names = words[:1], words[1:]
-    if words == ["ci"]:
-        return measure_ci()
-    if part == ["parts"] and all(it in Listing().rows for it in names):
-        return measure_parts(names)
-    print(__doc__, file=sys.stderr)
-    return 2
+def add_part(parts, name, text, line):
+    """A part of the script with its own help, which this line names in the list of the parts."""
+    how = {"description": text, "formatter_class": argparse.RawDescriptionHelpFormatter, "allow_abbrev": False}
+    return parts.add_parser(name, help=line, **how)
+
+
+def options():
+    words = parser(__doc__)
+    parts = words.add_subparsers(dest="part", required=True)
+    add_part(parts, "ci", CI, "measure a whole run of rt ci")
+    names = add_part(parts, "parts", MEASURED, "measure the parts of some crates, or of all")
+    names.add_argument("names", nargs="*", type=one_of(Listing().rows), metavar="NAME", help="a crate; all if left out")
+    return words.parse_args()
+
+
+def main():
+    given = options()
+    need_command("rt", "the kit")
+    return measure_ci() if given.part == "ci" else measure_parts(given.names)
 
 
 if __name__ == "__main__":
-    sys.exit(main(sys.argv[1:]))
+    run(main)

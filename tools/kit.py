@@ -1,7 +1,6 @@
 #!/usr/bin/env python3
-"""A contributor's `rt`, for work in a clone in which the gate has run. Neither the gate nor `./build` calls it.
-
-    tools/kit.py [--as-built] WORDS ..   `rt WORDS ..` with four calls of it changed while it runs
+"""A contributor's `rt`, for work in a clone in which the gate has run: `rt WORDS ..` with four calls of it
+changed while it runs. Neither the gate nor `./build` calls it.
 
 What it changes: the quick pass over all sources before the first proof is left out, which over many crates
 that are not built takes a quarter of an hour and 15 GB; a crate beside which hardly another one can be proved
@@ -11,7 +10,8 @@ which there are millions; and with --as-built the libraries of the repository ar
 their sources say now, for whoever has just built them by a run of the gate. What it says is no verdict: the
 gate alone gives one.
 
-Where a call that is changed here is no longer as it was, it says so and runs nothing."""
+If a call that is changed here is no longer as it was, it says so and runs nothing."""
+import argparse
 import importlib.machinery
 import importlib.util
 import inspect
@@ -19,6 +19,8 @@ import os
 import shutil
 import sys
 import threading
+
+from command_line import parser, run
 
 # The calls of rt that are changed or made here, by their path, each with its parameters.
 CALLS = {
@@ -137,15 +139,24 @@ def with_flags(usual, flags_of):
     return lambda it, flags, *more, **named: usual(it, flags_of(it, flags), *more, **named)
 
 
-def main(words):
+def options():
+    words = parser(__doc__)
+    as_built = "take the libraries of the repository as they are built, without a look at their sources"
+    words.add_argument("--as-built", action="store_true", help=as_built)
+    rest = "what rt is to do; without a word it prints its help"
+    words.add_argument("words", nargs=argparse.REMAINDER, metavar="WORDS", help=rest)
+    return words.parse_args()
+
+
+def main():
+    given = options()
     wrong = list(faults())
     if wrong:
         print(*wrong, sep="\n", file=sys.stderr)
         return 2
-    as_built = words[:1] == ["--as-built"]
-    words, made = words[as_built:], rt()
+    words, made = given.words, rt()
     crate = made.rtlib.Crate
-    change(crate, as_built)
+    change(crate, given.as_built)
     # Where all are proved, a crate that is proved alone anyway is not told to take one processor.
     alone = names_alone(made.rtlib.crates_below(os.getcwd())) if words[:1] == ["all"] else set()
     flags_of = lambda it, flags: [] if it.name in alone else flags
@@ -157,4 +168,4 @@ def main(words):
 
 
 if __name__ == "__main__":
-    sys.exit(main(sys.argv[1:]))
+    run(main)

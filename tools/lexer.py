@@ -1,15 +1,15 @@
 """Code, comments and literals of a text of Rattle (`.rt`) or of its logic (`.antt`), told apart."""
 import re
 
+# What is no code in a text of Rattle, and in one of its logic.
 RUST = re.compile(
     r"""(?P<line>//[^\n]*)|(?P<block>/\*)"""
-    r"""|(?P<literal>[bc]?r(?P<hashes>#*)".*?"(?P=hashes)|[bc]?"(?:[^"\\]|\\.)*"|b?'(?:[^'\\\n]|\\[^\n][^'\n]*)')"""
-    r"""|(?P<code>\w+|.)""",
+    r"""|(?P<literal>[bc]?r(?P<hashes>#*)".*?"(?P=hashes)|[bc]?"(?:[^"\\]|\\.)*"|b?'(?:[^'\\\n]|\\[^\n][^'\n]*)')""",
     re.S,
 )
 # In the logic two hyphens begin a comment only where no name goes on with them.
 LOGIC = re.compile(
-    r"""(?P<block>\{-)|(?P<line>(?<![^\s(){}.;,@"»])--[^\n]*)|(?P<literal>"(?:[^"\\\n]|\\[^\n])*")|(?P<code>[^-{}"]+|.)""",
+    r"""(?P<block>\{-)|(?P<line>(?<![^\s(){}.;,@"»])--[^\n]*)|(?P<literal>"(?:[^"\\\n]|\\[^\n])*")""",
     re.S,
 )
 
@@ -26,23 +26,22 @@ def end_of_block(text, at, opens, closes):
 
 def pieces(text, is_logic):
     """The pieces of a text, each with its kind: code, comment or literal. Together they are the text."""
-    at, tokens = 0, LOGIC if is_logic else RUST
-    while at < len(text):
-        found = tokens.match(text, at)
-        end, kind = found.end(), found.lastgroup
+    at, marks = 0, LOGIC if is_logic else RUST
+    while found := marks.search(text, at):
+        start, end = found.span()
         if found["block"]:
-            end = end_of_block(text, at, *(("{-", "-}") if is_logic else ("/*", "*/")))
-        is_comment = found["block"] or found["line"]
-        kind = "comment" if is_comment else "literal" if found["literal"] else "code"
-        yield kind, text[at:end]
+            end = end_of_block(text, start, *(("{-", "-}") if is_logic else ("/*", "*/")))
+        yield "code", text[at:start]
+        yield "literal" if found["literal"] else "comment", text[start:end]
         at = end
+    yield "code", text[at:]
 
 
-def blanked(text, is_logic=False):
-    """The text with blanks in the place of comments and literals, so that every place stays."""
+def blanked(text, is_logic=False, kinds=("comment", "literal")):
+    """The text with blanks in the place of pieces of these kinds, so that every place stays."""
     parts = []
     for kind, piece in pieces(text, is_logic):
-        parts.append(piece if kind == "code" else re.sub(r"[^\n]", " ", piece))
+        parts.append(re.sub(r"[^\n]", " ", piece) if kind in kinds else piece)
     return "".join(parts)
 
 
@@ -62,3 +61,28 @@ def bare(text, is_logic=False):
         code = re.sub(r"\s*\n\s*(?=[.?])", "", code)
     code = re.sub(r"\s*([()\[\]{},;])\s*", r"\1", code)
     return "\0".join([re.sub(r"\s+", " ", code).strip(), *literals])
+
+
+def words_of_comment(lines, mark):
+    """The words of these lines of a comment, up to the first line without any."""
+    said = []
+    for line in lines:
+        words = line.strip().removeprefix(mark).strip()
+        if not words:
+            break
+        said.append(words)
+    return " ".join(said)
+
+
+def comment_above(lines, end, mark):
+    """The words of the comment that ends right above line `end` of these, counted from 0."""
+    start = end
+    while start and lines[start - 1].strip().startswith(mark):
+        start -= 1
+    return words_of_comment(lines[start:end], mark)
+
+
+def comment_from(lines, mark):
+    """The words of the first paragraph of the comment with which a text begins."""
+    end = next((n for n, line in enumerate(lines) if not line.startswith(mark)), len(lines))
+    return words_of_comment(lines[:end], mark)

@@ -1,8 +1,10 @@
+#!/usr/bin/env python3
 """What is wrong with crates.txt as a list: rooms without a sentence or a crate, crates that are not
-listed, and crates that stand before one on which they stand."""
+listed, and crates that come before one that they name. Prints a line for each fault, and ends with
+status 1 if there is one."""
 import os
-import sys
 
+from command_line import print_lines, run, take_no_words
 from repository import Listing
 
 
@@ -50,7 +52,10 @@ def faults():
         yield from of(listing)
 
 
+def main():
+    take_no_words(__doc__)
+    return print_lines(faults())
+
+
 if __name__ == "__main__":
-    found = list(faults())
-    print(*found, sep="\n", end="\n" if found else "")
-    sys.exit(1 if found else 0)
+    run(main)

@@ -11,13 +11,13 @@
 - in a row or list item that begins with the crates that it is about, any word: one of these, another
   crate that is named there, or one on which these stand has it.
 
-    tools/names.py   a line for each name that is not there"""
+Prints a line for each name that is not there, and ends with status 1 if there is one."""
 import functools
 import glob
 import os
 import re
-import sys
 
+from command_line import print_lines, run, take_no_words
 from repository import TOP, Listing, files, text_of
 
 TOKEN = re.compile(r"`([^`\n]+)`")
@@ -25,8 +25,8 @@ RUST_PATH = re.compile(r"[A-Za-z_]\w*(?:::[A-Za-z_]\w*)+")
 FILE_NAME = re.compile(r"([A-Z]\w+)\.([^\W\d][\w'-]*)")
 IN_CRATE = re.compile(r"(\w+)/(specs|proofs|src)((?:/[\w.-]+)*)/?")
 FROM_TOP = re.compile(r"(?:docs|tools|tests|bench|examples|crates)/[\w./-]*")
-# How a page says what the forms are.
-FORMS = {"File.name"}
+# How a page says what the forms are: names of texts are in capitals there.
+FORM = re.compile(r"File\.name|[A-Z]+\.[A-Z]+")
 WORD = re.compile(r"[^\W\d]\w*")
 # A word that is a name of the code and no word of a language.
 CODED = re.compile(r"\w*(?:[^\W_]_[^\W_]|[a-z][A-Z])\w*")
@@ -131,7 +131,7 @@ def of_folder(names, token):
 
 def of_token(names, crate, token, known):
     """Why a token is not there, or None. Crate is that with which it stands."""
-    if token in FORMS:
+    if FORM.fullmatch(token):
         return None
     if RUST_PATH.fullmatch(token):
         return of_rust_path(names, token)
@@ -210,7 +210,10 @@ def faults():
                 yield f"{shown}:{number}: `{token}`: {why}"
 
 
+def main():
+    take_no_words(__doc__)
+    return print_lines(faults())
+
+
 if __name__ == "__main__":
-    wrong = list(faults())
-    print(*wrong, sep="\n", end="\n" if wrong else "")
-    sys.exit(1 if wrong else 0)
+    run(main)

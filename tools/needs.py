@@ -1,12 +1,12 @@
 #!/usr/bin/env python3
-"""Whether crates.txt says what each crate stands on: tells the libraries that no file of a crate names,
-and those that a file names and the line of the crate does not have.
+"""Whether crates.txt says what each crate stands on: reports the libraries that no file of a crate names,
+and those that a file names and the line of the crate does not have. Ends with status 1 if there are any.
 
-    tools/needs.py   ends with status 1 where there are any; lists besides, without effect on the
-                     status, the libraries that tests alone name, and the longest chain of crates"""
+It also lists, without effect on the status, the libraries that only tests name, and the longest chain of
+crates."""
 import re
-import sys
 
+from command_line import print_lines, run, take_no_words
 from repository import Listing, files, text_of
 
 # A library that a file names: in a path of Rust, or in an import of definitions and proofs.
@@ -68,16 +68,15 @@ def chain(listing):
 
 
 def main():
+    take_no_words(__doc__)
     listing = Listing()
     for name, _, _, alone in told(listing):
         if alone:
-            print(f"{name} names in tests alone: {' '.join(alone)}")
+            print(f"{name} names only in tests: {' '.join(alone)}")
     found = chain(listing)
     print(f"the longest chain has {len(found)} crates: {' '.join(found)}")
-    wrong = list(faults())
-    print(*wrong, sep="\n", end="\n" if wrong else "")
-    return 1 if wrong else 0
+    return print_lines(faults())
 
 
 if __name__ == "__main__":
-    sys.exit(main())
+    run(main)

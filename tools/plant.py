@@ -1,11 +1,7 @@
 #!/usr/bin/env python3
-"""A contributor's `rt plant`, with time for large crates. Neither the gate nor `./build` calls it. In a crate's folder,
-
-    ../../tools/plant.py [SECONDS] [LOG] [--as-built] WORDS ..
-
-changes how many wrong bodies rt plant tries at once and for how long, and runs `rt plant WORDS ..`, of which each batch of wrong bodies gets that many seconds, 1,500 if left
-out. LOG is what an earlier run over the same sources told on standard error: what it judged is not
-tried again.
+"""A contributor's `rt plant`, with time for large crates. Neither the gate nor `./build` calls it. In a
+crate's folder, `../../tools/plant.py WORDS ..` runs `rt plant WORDS ..` with other numbers: how many wrong
+bodies are tried at once, and for how long.
 
 rt gives a batch of forty bodies four minutes, and then halves it, so that of a crate whose functions
 take minutes hardly a body is judged. Here a batch has twelve. What each body came to is told on
@@ -14,6 +10,7 @@ something. The libraries below the crate have to stand built, as `tools/kit.py a
 rt plant knows nothing of what other checkouts built. With --as-built they are taken as they stand, as
 a run of `.ci/run` over the same sources leaves them: these hold the statements and not the proofs of
 what is below, so that a batch takes a fraction of the time."""
+import argparse
 import importlib.machinery
 import os
 import re
@@ -24,6 +21,7 @@ import types
 sys.dont_write_bytecode = True
 sys.path.insert(0, os.path.dirname(os.path.abspath(__file__)))
 import kit
+from command_line import parser, positive, run
 
 # What of rt-plant is changed or made here: calls with their parameters, and what their code has to say.
 CALLS = {"main": ["words"], "read": ["plants", "said"], "Copy.judge": ["self", "plants"]}
@@ -65,13 +63,23 @@ def judged(log):
     return found
 
 
-def main(words):
-    made, begun = loaded(), time.monotonic()
-    kit.change(made.rt.Crate, "--as-built" in words)
-    words = [it for it in words if it != "--as-built"]
-    made.SECONDS = int(words.pop(0)) if words[:1] and words[0].isdigit() else 1500
-    made.BATCH = 12
-    known = judged(words.pop(0)) if words[:1] and os.path.isfile(words[0]) else {}
+def options():
+    words = parser(__doc__)
+    seconds = "how long a batch gets, 1500 if left out"
+    words.add_argument("--seconds", type=positive, default=1500, metavar="N", help=seconds)
+    log = "what an earlier run over the same sources wrote on standard error: what it judged is not tried again"
+    words.add_argument("--log", help=log)
+    words.add_argument("--as-built", action="store_true", help="take the libraries below as they are built")
+    rest = "the words of rt plant, after -- if they begin with an option"
+    words.add_argument("words", nargs=argparse.REMAINDER, metavar="WORDS", help=rest)
+    return words.parse_args()
+
+
+def main():
+    given, made, begun = options(), loaded(), time.monotonic()
+    kit.change(made.rt.Crate, given.as_built)
+    made.SECONDS, made.BATCH = given.seconds, 12
+    known = judged(given.log) if given.log else {}
     usual, judge = made.read, made.Copy.judge
 
     def what_is_left(copy, plants):
@@ -88,8 +96,9 @@ def main(words):
             print(f"{time.monotonic() - begun:6.0f} s  {it.kind:<10}  {shown(it)}{why}", file=sys.stderr, flush=True)
 
     made.read = read
+    words = given.words[1:] if given.words[:1] == ["--"] else given.words
     return made.main(*words)
 
 
 if __name__ == "__main__":
-    sys.exit(main(sys.argv[1:]))
+    run(main)

@@ -5,12 +5,12 @@ indented part of a document has to be a call of `crates/worked_rows`, and the li
 A line `(FILE)` there says that the output is that file, `(among others the lines of FILE)` that its lines are in
 the output in this order, and `! LINE` is the line on the error stream. What follows an empty line belongs to no
 command. `tools/check.py played` runs it; it runs no program, since the gate compares the transcript with the
-program."""
+program. Prints a line for each command that differs, and ends with status 1 if there is one."""
 import glob
 import os
 import re
-import sys
 
+from command_line import print_lines, run, take_no_words
 from repository import TOP, text_of
 
 DOCUMENTS = ["README.md", *(f"docs/{it}.md" for it in ("MANUAL", "TUTORIAL", "CALLING")), "examples/*/README.md"]
@@ -72,7 +72,10 @@ def faults():
                 yield f"{where}: the worked row of {words} has another answer"
 
 
+def main():
+    take_no_words(__doc__)
+    return print_lines(faults())
+
+
 if __name__ == "__main__":
-    wrong = list(faults())
-    print(*wrong, sep="\n", end="\n" if wrong else "")
-    sys.exit(1 if wrong else 0)
+    run(main)

@@ -1,5 +1,7 @@
 # What ./syndex and ./syndex_lab have in common: which program there is, how one is made, and how it is run. They set
-# `top`, the repository, and `name`, the program, and read this file.
+# `top`, the repository, `name`, the program, and `build`, what proves it, read this file, say in `show_help` what their
+# help is, and call `start`.
+export PYTHONDONTWRITEBYTECODE=1
 proved=$top/crates/$name/out/$name
 unproved=$proved-unproved
 
@@ -32,8 +34,8 @@ is_made() {
     is_newer_than "$unproved" '*.rt'
 }
 
-# Tells which program the next command will run.
-tell_program() {
+# Reports which program the next command will run.
+report_program() {
     if is_proved; then
         echo "The program is proved and built: $proved"
     elif is_made; then
@@ -45,7 +47,7 @@ tell_program() {
     fi
 }
 
-# Runs the program with the words given, after an unproved one was made where there is none.
+# Runs the program with the words given. If there is none, an unproved one is made first.
 run_program() {
     if is_proved; then
         exec "$proved" "$@"
@@ -56,4 +58,17 @@ run_program() {
     fi
     echo "$name: this is an unproved program; $build proves and builds it" >&2
     exec "$unproved" "$@"
+}
+
+# What a script does with its words: its own ones are help and explain, the others are the program's.
+start() {
+    case ${1-} in
+    '') show_help >&2; exit 2 ;;
+    help | --help | -h) show_help; exit 0 ;;
+    explain) shift; exec python3 "$top/tools/explain.py" "$@" ;;
+    esac
+    case ${2-} in
+    --help | -h) show_help; exit 0 ;;
+    esac
+    run_program "$@"
 }

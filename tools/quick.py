@@ -1,13 +1,12 @@
 #!/usr/bin/env python3
-"""Makes a native program of the sources without any proof, for whoever wants to try it at once.
-
-    tools/quick.py [PROGRAM]      `./build --quick` calls it, and `./PROGRAM` where no program is there
+"""Makes a native program of the sources without any proof, for whoever wants to try it at once. `./build --quick`
+calls it, and so do `./syndex`, `./syndex_lab` and `tools/row.py` if no program is built.
 
 The kit has no call for this. Its `rt try` makes a native program on its way, with checks that stop it at a
 fault, runs it once and removes it; this script gives the file a second name while it is there. The program is
-named `PROGRAM-unproved`, as `syndex-unproved`, and `./PROGRAM` takes it where there is no proved one and no source
-is newer. Nothing is done where it is newer than all its sources. Where no program is made, the last lines of what
-rt says are told. A stop (Ctrl-C) ends what was started and leaves nothing behind."""
+named `PROGRAM-unproved`, as `syndex-unproved`, and `./PROGRAM` takes it if there is no proved one and no source
+is newer. Nothing is done if it is newer than all its sources. If no program is made, the last lines of what
+rt says are printed. A stop (Ctrl-C) ends what was started and leaves nothing behind."""
 import os
 import shutil
 import signal
@@ -16,8 +15,11 @@ import sys
 import tempfile
 import time
 
-from repository import TOP, Listing, files
+from command_line import need_command, parser, run
+from repository import TOP, Listing, files, root_of
 
+# The program that is made if no name is given.
+USUAL = "syndex"
 # A program of such a crate is larger than any other file that is made on the way and could be run.
 LEAST = 1 << 20
 ELF = b"\x7fELF"
@@ -27,8 +29,13 @@ TOLD = 20
 BEAT, TAKES = 10, 90
 
 
+def unproved(name):
+    """The path of the unproved program of this crate."""
+    return f"{TOP}/crates/{name}/out/{name}-unproved"
+
+
 def is_made(name, program):
-    """Whether the unproved program is there and no source of the crates below it is newer."""
+    """Whether a program is there and no source of the crates below it is newer."""
     if not os.path.exists(program):
         return False
     listing = Listing()
@@ -91,7 +98,7 @@ def end(tool):
 
 
 def make(name, program, said):
-    """Makes the program of this name, and answers whether it is there. What rt says goes into a file."""
+    """Makes the program of this name, and returns whether it is there. What rt says goes into a file."""
     folder = f"{TOP}/crates/{name}"
     os.makedirs(f"{folder}/out", exist_ok=True)
     if os.path.exists(program):
@@ -116,12 +123,30 @@ def stop(_number, _frame):
     raise KeyboardInterrupt
 
 
-def main(words):
-    name = words[0] if words else "syndex"
-    program = f"{TOP}/crates/{name}/out/{name}-unproved"
+def hint(name):
+    """How the program is run, if a script of its name runs it."""
+    return f"; ./{name} runs it" if os.path.isfile(f"{TOP}/{name}") else ""
+
+
+def programs_of_crates():
+    """The crates that are programs."""
+    return [it for it in Listing().rows if (root_of(f"{TOP}/crates/{it}") or "").endswith("/main.rt")]
+
+
+def options():
+    words = parser(__doc__)
+    words.add_argument("name", nargs="?", default=USUAL, choices=programs_of_crates(), metavar="PROGRAM",
+                       help=f"one of {', '.join(programs_of_crates())}; {USUAL} if left out")
+    return words.parse_args()
+
+
+def main():
+    name = options().name
+    program = unproved(name)
     if is_made(name, program):
-        print(f"build: the unproved program is newer than its sources; ./{name} runs it")
+        print(f"build: the unproved program is newer than its sources{hint(name)}")
         return 0
+    need_command("rt", "the kit, as README.md says")
     signal.signal(signal.SIGTERM, stop)
     print("build: makes an unproved program of the sources; stop it with Ctrl-C", flush=True)
     try:
@@ -135,9 +160,9 @@ def main(words):
     except KeyboardInterrupt:
         print("\nbuild: stopped; nothing was kept, and ./build --quick begins anew", file=sys.stderr)
         return 130
-    print(f"build: done; ./{name} runs the unproved program until a source changes or a proved one is built")
+    print(f"build: done; the unproved program is used until a source changes or a proved one is built{hint(name)}")
     return 0
 
 
 if __name__ == "__main__":
-    sys.exit(main(sys.argv[1:]))
+    run(main)

@@ -3,13 +3,11 @@
 
 Rooms, parts and their sentences come from crates.txt, in its order; what a crate is comes from the
 first paragraph of the file that it begins with. So each sentence about a crate has one source.
-
-    tools/rooms.py           rewrites both
-    tools/rooms.py --check   tells which is not as it would be written, and which heading of the pages
-                             that go by rooms is none of them, with status 1"""
-import sys
+Reports, with status 1, which of the two could not be written, and which heading of the pages that go by
+rooms is the name of no room."""
 import textwrap
 
+from command_line import parser, print_lines, run
 from repository import Listing, root_of, text_of
 
 BEGIN, END = "<!-- rooms: made by tools/rooms.py -->", "<!-- rooms: end -->"
@@ -65,7 +63,7 @@ def room_table(listing):
 
 MADE = {"README.md": room_table, "docs/ARCHITECTURE.md": room_list}
 # Pages that are written by hand in the order of the rooms, which are their headings.
-BY_ROOM = ("docs/DEFINITIONS.md", "docs/PROOFS_BY_CRATE.md")
+BY_ROOM = ("docs/PROOFS_BY_CRATE.md",)
 
 
 def written(listing, path, make):
@@ -107,21 +105,23 @@ def faults():
         yield from of_headings(listing, path)
 
 
-def main(words):
-    if words not in ([], ["--check"]):
-        print(__doc__, file=sys.stderr)
-        return 2
-    listing = Listing()
-    for path, make in MADE.items() if not words else ():
+def options():
+    words = parser(__doc__)
+    check = "write nothing, and report which of the two is not as it would be written"
+    words.add_argument("--check", action="store_true", help=check)
+    return words.parse_args()
+
+
+def main():
+    given, listing = options(), Listing()
+    for path, make in () if given.check else MADE.items():
         text, made = written(listing, path, make)
         if made not in (None, text):
             with open(f"{listing.top}/{path}", "w", encoding="utf-8") as it:
                 it.write(made)
             print(f"{path}: its rooms are written anew")
-    wrong = list(faults())
-    print(*wrong, sep="\n", end="\n" if wrong else "")
-    return 1 if wrong else 0
+    return print_lines(faults())
 
 
 if __name__ == "__main__":
-    sys.exit(main(sys.argv[1:]))
+    run(main)

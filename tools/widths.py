@@ -1,13 +1,12 @@
 #!/usr/bin/env python3
 """Lines of contracts that are too wide to be read: over 120 columns, in a file of definitions, or in a
-clause of the code (`requires`, `ensures`, and the lines on which they go on).
-
-    tools/widths.py [--list]   a line for each such line; with --list their number in each crate"""
+clause of the code (`requires`, `ensures`, and the lines on which they go on). Prints a line for each, and
+ends with status 1 if there is one."""
 import collections
 import os
 import re
-import sys
 
+from command_line import parser, print_lines, run
 from lexer import blanked
 from repository import Listing, files, text_of
 
@@ -59,17 +58,24 @@ def faults():
         yield f"{path}:{line}: {width} columns, where {WIDEST} may be"
 
 
-def main(words):
-    if words == ["--list"]:
-        counts = collections.Counter((name, path.split("/")[2]) for name, path, _, _ in found())
-        for name in sorted({name for name, _ in counts}):
-            print(f"{name:24}{counts[name, 'specs']:6} in specs{counts[name, 'src']:6} in clauses")
-        print(f"{'all':24}{sum(counts.values()):6}")
-        return 0
-    wrong = list(faults())
-    print(*wrong, sep="\n", end="\n" if wrong else "")
-    return 1 if wrong else 0
+def show_counts():
+    """Prints how many such lines each crate has."""
+    counts = collections.Counter((name, path.split("/")[2]) for name, path, _, _ in found())
+    for name in sorted({name for name, _ in counts}):
+        print(f"{name:24}{counts[name, 'specs']:6} in specs{counts[name, 'src']:6} in clauses")
+    print(f"{'all':24}{sum(counts.values()):6}")
+    return 0
+
+
+def options():
+    words = parser(__doc__)
+    words.add_argument("--list", action="store_true", help="print only how many there are in each crate")
+    return words.parse_args()
+
+
+def main():
+    return show_counts() if options().list else print_lines(faults())
 
 
 if __name__ == "__main__":
-    sys.exit(main(sys.argv[1:]))
+    run(main)

@@ -1,17 +1,15 @@
 #!/usr/bin/env python3
 """Whether each wrong body, crates/NAME/must-fail/*.edit, can be written, and whether the table of them in
-docs/CLAIMS.md names bodies that are there.
-
-    tools/wrong_bodies.py         a line for each that is wrong
-    tools/wrong_bodies.py count   how many there are in each crate
+docs/CLAIMS.md names bodies that are there. Prints a line for each that is wrong, and ends with status 1 if
+there is one.
 
 `rt ci` lets an edit pass that it cannot apply, and says so: such an edit shows nothing. It is told here
 before the gate runs. An edit turns a function, so it names files of src/ alone: one that turns a
 definition or a proof shows nothing of a contract either."""
 import os
 import re
-import sys
 
+from command_line import parser, print_lines, run
 from repository import TOP, Listing, text_of
 
 FOLDER = "must-fail"
@@ -95,16 +93,15 @@ def show_counts():
     return 0
 
 
-def main(words):
-    if words == ["count"]:
-        return show_counts()
-    if words:
-        print(__doc__, file=sys.stderr)
-        return 2
-    wrong = list(faults())
-    print(*wrong, sep="\n", end="\n" if wrong else "")
-    return 1 if wrong else 0
+def options():
+    words = parser(__doc__)
+    words.add_argument("count", nargs="?", choices=["count"], help="print only how many there are in each crate")
+    return words.parse_args()
+
+
+def main():
+    return show_counts() if options().count else print_lines(faults())
 
 
 if __name__ == "__main__":
-    sys.exit(main(sys.argv[1:]))
+    run(main)

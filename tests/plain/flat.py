@@ -2,11 +2,21 @@
 
 
 class Operation:
-    """A source is (operation, output) by number; those of the guards stand before those of the inputs."""
+    """A source is (operation, output) by number; those of the guards come before those of the inputs. `cases` has the
+    number of the case that each guard selects."""
 
-    def __init__(self, name, unit, kind, takers, lengths):
-        self.name, self.unit, self.kind, self.takers, self.lengths = name, unit, kind, takers, lengths
+    def __init__(self, name, unit, kind, guards, takers, lengths):
+        self.name, self.unit, self.kind, self.lengths = name, unit, kind, lengths
+        self.cases, self.takers = [case for _, case in guards], [take for take, _ in guards] + takers
         self.sources = []
+
+    def line(self, number):
+        """Its line in the listing."""
+        count = len(self.cases)
+        guards = [f"{v}.{p}?{case}" for (v, p), case in zip(self.sources, self.cases)]
+        inputs = [f"{v}.{p}" for v, p in self.sources[count:]]
+        lists = [",".join(it) or "-" for it in (guards, inputs, map(str, self.lengths))]
+        return f"{number} {self.name} {self.kind}:{self.unit} {' '.join(lists)}\n"
 
 
 class Flat:
@@ -17,9 +27,13 @@ class Flat:
             it.sources = [take() for take in it.takers]
         self.number = {it.name: number for number, it in enumerate(self.all)}
 
+    def listing(self):
+        """What `flat` writes."""
+        return "".join(it.line(number) for number, it in enumerate(self.all))
+
     def add(self, name, unit, kind, guards, takers, lengths):
-        """The number of a new operation."""
-        self.all.append(Operation(name, unit, kind, guards + takers, lengths))
+        """The number of a new operation; a guard is what gives its source, and the number of a case."""
+        self.all.append(Operation(name, unit, kind, guards, takers, lengths))
         return len(self.all) - 1
 
     def unit(self, name, path, take, guards):
@@ -59,7 +73,7 @@ class Flat:
     def a_switch(self, it, path, take, guards):
         on, cases = (lambda: take(it.on)), []
         for place, (_, name, _) in enumerate(it.cases):
-            cases.append(self.unit(name, f"{path}.{place}", take, guards + [on]))
+            cases.append(self.unit(name, f"{path}.{place}", take, guards + [(on, place)]))
         merges = {}
         for port, length in it.outs:
             takers = [on] + [lambda case=case, port=port: case(port) for case in cases]

@@ -283,6 +283,27 @@ def curve(scale, low, high, name, number, values):
     return key + begin + f'{steps}H{scale.width}"><title>{name}[{number}]</title></path>\n'
 
 
+def rows_of(text):
+    """The names of the actuators, and in each reaction their vectors, of what `syndex sim` writes."""
+    names, rows = [], []
+    for line in text.splitlines():
+        k, name, *values = line.split(" ")
+        if int(k) == len(rows):
+            rows.append([])
+        if name not in names:
+            names.append(name)
+        rows[int(k)].append([int(it) for it in values])
+    return names, rows
+
+
+def arranged(text):
+    """The lines, in order of their text if they are arrows or events: those come in the order of decisions, which no
+    chart shows."""
+    lines = text.replace(",\n", "\n").splitlines()
+    apart = [it.startswith(('<path class="arrow"', "{")) for it in lines]
+    return [it for it, move in zip(lines, apart) if not move], sorted(it for it, move in zip(lines, apart) if move)
+
+
 def plot(names, rows):
     """The picture of rows of vectors, one by actuator, in a reaction each; at least one row."""
     scale = Scale(0, len(rows))
