@@ -27,9 +27,9 @@ def steps_of(calls):
     yield Step(
         "What the actuators take",
         "What the text of an algorithm says, what a sensor table says, which values each actuator takes in\n"
-        "each reaction, and the text of these values (`Meaning.SimulatesTrue` of `top_plans`). What the\n"
-        "headline says of values rests on nothing else.",
-        "top_plans.Meaning.SimulatesTrue",
+        "each reaction, and the text of these values: what the clause `values` of `syndex` names\n"
+        "(`Values.WritesValues` of `top_plans`). What it says rests on nothing else.",
+        "top_plans.Values.WritesValues",
     )
     yield Step(
         "Every interleaving",

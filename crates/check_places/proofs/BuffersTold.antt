@@ -1,34 +1,40 @@
--- Where single buffers are wrong: a place is told exactly where a buffer is not written once as it is to be.
-use Rattle.std.proofs.Common.{◌≡◌, ℕ, Bool, true, false, ◌&&◌, nat_eq, List, [], ◌∷◌, length, refl, sym, ap, subst, eq-eqb, arith, ◌∙◌}
+-- Single buffers: what is wrong where a test of one fails, and that it is right where none does.
+use Rattle.std.proofs.Common.{◌≡◌, ℕ, zero, suc, ◌+◌, ◌<◌, ◌≤◌, ◌⊎◌, Bool, true, false, cond, ◌&&◌, ◌||◌, nat_eq, List, [], ◌∷◌, length, refl, sym, ap, subst, eq-eqb, arith, inl, inr, ◌∙◌}
 use Rattle.std.specs.Prelude.{Option, Some, None, nat_lt, slice_get}
 use Rattle.std.specs.List.{list_all, list_any, position_or_len}
 use Rattle.std.specs.Cmp.Derive.{both_true}
-use Rattle.std.proofs.lemmas.Bool.{and_parts, eqb-true, false≢true}
-use Rattle.std.proofs.lemmas.Option.{slice_get_past}
+use Rattle.std.proofs.lemmas.Bool.{and_parts, eqb-true, false≢true, le-leb, ltb-false, ltb-true}
+use Rattle.std.proofs.lemmas.Option.{same_Some}
 use Rattle.executive_program.specs.declared.program.Instr.{Instr}
 use Rattle.executive_program.specs.declared.program.Instr.TheVariants.{Suc0, Suc1, Pre0, Pre1, Call, Send, Recv, Sync}
+use Rattle.executive_program.specs.declared.program.Buffer as declared_buffer
 use Rattle.executive_program.specs.declared.program.SeqCode.{SeqCode}
 use Rattle.executive_program.specs.declared.program.Program.{Program}
-use Rattle.executive_program.specs.Instructions.{turn, turn_of, writes}
-use Rattle.executive_program.specs.Places.{output_at, places, sequence_where, written_at, writer_of, writing}
-use Rattle.executive_program.specs.WellFormed.{IsBuffer}
+use Rattle.executive_program.specs.Instructions.{depth_of, is_guarded, operator, turn, turn_of, writes}
+use Rattle.executive_program.specs.Places.{output_at, sequence_where, written_at, writer_of, writing}
+use Rattle.executive_program.specs.WellFormed.{operator_is}
+use Rattle.executive_program.proofs.Reading.{of_writes}
 use Rattle.program_walks.specs.Walks.{implies, names as names_it}
 use Rattle.program_tables.specs.declared.mark_table.Mark.{Mark}
 use Rattle.program_tables.specs.declared.roles.Role.TheVariants.{Read, Written}
 use Rattle.program_tables.specs.Marks.{marks_of, names}
 use Rattle.program_tables.proofs.Buffered.{near_is, once_is, reads_in_is}
-use Rattle.program_tables.proofs.Found.{at_is, no_sequence, output_is, port_is, sequence_is}
+use Rattle.program_tables.proofs.Found.{at_is, output_is, port_is, sequence_is}
 use Rattle.program_tables.proofs.Lone.{names_are}
 use Rattle.program_tables.proofs.Naming.{IsFirst, first_is, port_in}
-use Rattle.program_walks.specs.Buffers.{has_places, is_buffer, is_near, is_written_first, is_written_once, writes_at}
-use Rattle.program_walks.proofs.Written.{of_buffer}
-use Rattle.check_laws.specs.Items.{IsWrittenOnce}
-use Rattle.check_places.specs.declared.place.Rule.TheVariants.{ReadTooEarly, TouchedElsewhere}
-use Rattle.check_places.specs.declared.place.Subject.TheVariants.{Buffer}
+use Rattle.program_walks.specs.Buffers.{has_places, is_buffer, is_operator, writes_at}
+use Rattle.program_walks.proofs.ListTests.{all_here, implied}
+use Rattle.program_walks.proofs.Readings.{or_left, or_right}
+use Rattle.program_walks.proofs.Written.{buffer_of}
+use Rattle.check_laws.specs.Items.{IsWrittenOnce, is_made}
+use Rattle.check_places.specs.Ahead.{AreNear, AreReadAfter, HasOneWrite, IsFirstFar, IsFirstRead, IsNear, IsRight, IsSecond}
 use Rattle.check_places.specs.Buffers.{buffer_place, buffer_place_by, is_near_at, is_not_before}
-use Rattle.check_places.proofs.Places.{all_pass, holds_of, no_mark, none_fails, none_parts, of_holds, of_no_mark, parts_none}
-use Rattle.check_places.proofs.Rising.{second_differs}
-use Rattle.check_places.proofs.TransfersTold.{first_there, within_first}
+use Rattle.check_places.specs.First.{first_failing}
+use Rattle.check_places.specs.Wrong.{HasWrongPlaces, IsEarlier, IsNotWritten, IsReadTooEarly, IsTouchedElsewhere, IsWrittenAgain, Reads, Writes, WritesAs}
+use Rattle.check_places.proofs.Marked.{found, has, later, names_in, names_of, none_named, passes_before, reads_there, there_reads, there_writes, writes_there as written_as}
+use Rattle.check_places.proofs.Places.{all_pass, failing, holds_of, no_mark, none_parts}
+use Rattle.check_places.proofs.Rising.{IsFrom, not_earlier, not_lower, passed_or_later, rising}
+use Rattle.check_places.proofs.TransfersTold.{first_there, implies_false, within_first}
 
 -- what writes a buffer writes it as the output at which it is found
 writes_there : (b : ℕ) (x : Instr) → writes b x ≡ true → writes_at b (output_at b (Some x)) (Some x) ≡ true
@@ -104,62 +110,173 @@ module _ (p : Program) (b : ℕ) where
       by (m ∷ []) e h = right_by m e h
       by (m ∷ u ∷ ms) e h = absurd cc
 
-  -- where none writes it, it is not written
-  unwritten : [] ≡ marks_of p Written b → writes_at b (writing p b).port (slice_get (turn p w) a) ≡ false
-  unwritten e =
-      let past : turn p w ≡ [] = ap (λ (s : ℕ). turn p s) (sym (no_sequence p Written b [] e refl)) ∙ ap turn_of (slice_get_past p.seqs (length p.seqs) (omega arith)) in
-      ap (λ (xs : List Instr). writes_at b (writing p b).port (slice_get xs a)) past
+  -- of itself it is right
+  pub right : buffer_place p b ≡ None → IsRight p b
+  right h = buffer_of p [] b (buffer_right h)
 
-  -- the parts of the test
-  record Parts : Type 0 where
-    written : writes_at b (writing p b).port (slice_get (turn p w) a) ≡ true
-    once : is_written_once p b w a (writing p b).port ≡ true
-    near : is_near p b ≡ true
-    first : is_written_first p b w a ≡ true
-    deep : has_places p b ≡ true
+  -- with what it comes from, all of it is
+  pub written_once : IsRight p b → is_made p (length p.buffers) b ≡ true → IsWrittenOnce p b
+  written_once it made = record {
+    instr = it.instr;
+    stands = it.stands;
+    writes = it.writes;
+    only = it.only;
+    near = it.near;
+    own_reads = it.own_reads;
+    some_place = it.some_place;
+    few_places = it.few_places;
+    one_place = it.one_place;
+    made = made;
+  }
 
-  parts_of : is_buffer p b ≡ true → Parts
-  parts_of h =
-      let deep = and_parts _ (has_places p b) h in
-      let first = and_parts _ (is_written_first p b w a) deep.0 in
-      let near = and_parts _ (is_near p b) first.0 in
-      let once = and_parts (writes_at b (writing p b).port (slice_get (turn p w) a)) (is_written_once p b w a (writing p b).port) near.0 in
-      record { written = once.0; once = once.1; near = near.1; first = first.1; deep = deep.1 }
+  -- what is wrong where it is not
+  pub not_written : marks_of p Written b ≡ [] → IsNotWritten p b
+  not_written e s c h = none_named p Written b e s c h.1.0 h.1.1 (of_writes b h.0 h.1.0 h.1.2)
 
-  -- each place that writes it is the first one
-  all_first : Parts → (ms : List Mark) → ms ≡ marks_of p Written b
-      → list_all (λ (u : Mark). nat_eq u.sequence w && nat_eq u.at a && nat_eq u.port (writing p b).port) ms ≡ true
-  all_first r ms e =
-      ap (list_all (λ (u : Mark). nat_eq u.sequence w && nat_eq u.at a && nat_eq u.port (writing p b).port)) e
-      ∙ (once_is p b w a (writing p b).port ∙ r.once)
+  module _ (m : Mark) (ms : List Mark) (e : marks_of p Written b ≡ m ∷ ms) where
+    writes_as : WritesAs p b m.sequence m.at m.port
+    writes_as = written_as p b m.sequence m.at m.port (names_in p Written b (m ∷ ms) e 0 m refl)
 
-  -- where the test passes, there is one place, and nothing is wrong with it
-  none_by : (ms : List Mark) → ms ≡ marks_of p Written b → Parts → buffer_place_by p b ms reads ≡ None
-  none_by [] e r = absurd (false≢true (sym (unwritten e) ∙ r.written))
-  none_by (m ∷ u ∷ ms) e r =
-      let all = and_parts _ (list_all (λ (u : Mark). nat_eq u.sequence w && nat_eq u.at a && nat_eq u.port (writing p b).port) (u ∷ ms)) (all_first r (m ∷ u ∷ ms) e) in
-      let second = (and_parts _ (list_all (λ (u : Mark). nat_eq u.sequence w && nat_eq u.at a && nat_eq u.port (writing p b).port) ms) all.1).0 in
-      let one = and_parts (nat_eq m.sequence w && nat_eq m.at a) (nat_eq m.port (writing p b).port) all.0 in
-      let other = and_parts (nat_eq u.sequence w && nat_eq u.at a) (nat_eq u.port (writing p b).port) second in
-      let here = and_parts (nat_eq m.sequence w) (nat_eq m.at a) one.0 in
-      let there = and_parts (nat_eq u.sequence w) (nat_eq u.at a) other.0 in
-      absurd (second_differs p Written b m u ms (sym e)
-      (eqb-true m.sequence w here.0 ∙ sym (eqb-true u.sequence w there.0))
-      (eqb-true m.at a here.1 ∙ sym (eqb-true u.at a there.1))
-      (eqb-true m.port (writing p b).port one.1 ∙ sym (eqb-true u.port (writing p b).port other.1)))
-  none_by (m ∷ []) e r =
-      let s : m.sequence ≡ w = sequence_is p Written b (m ∷ []) m e refl in
-      let at : m.at ≡ a = at_is p Written b (m ∷ []) m e refl in
-      let near = and_parts (list_all (is_near_at p b) (marks_of p Written b)) (list_all (is_near_at p b) reads) (near_is p b ∙ r.near) in
-      let here = and_parts (is_near_at p b m) true (ap (list_all (is_near_at p b)) e ∙ near.0) in
-      let after : list_all (is_not_before m) reads ≡ true =
-      (λ i. list_all (λ (u : Mark). implies (nat_eq u.sequence (s i)) (nat_lt (at i) u.at)) reads)
-      ∙ (reads_in_is p b (λ (c : ℕ). nat_lt a c) w ∙ r.first) in
-      parts_none _ _ (of_no_mark TouchedElsewhere (Buffer b) _ (none_fails (is_near_at p b) (m ∷ reads) (both_true here.0 near.1)))
-      (parts_none _ _ (of_no_mark ReadTooEarly (Buffer b) _ (none_fails (is_not_before m) reads after))
-      (of_holds (has_places p b) _ r.deep))
+    writes_it : Writes p b m.sequence m.at
+    writes_it = (m.port, writes_as)
 
-  pub not_told : IsWrittenOnce p b → buffer_place p b ≡ None
-  not_told h =
-      let it : IsBuffer p [] (places p) b = record { instr = h.instr; stands = h.stands; writes = h.writes; only = h.only; near = h.near; own_reads = h.own_reads; some_place = h.some_place; few_places = h.few_places; one_place = h.one_place } in
-      none_by (marks_of p Written b) refl (parts_of (of_buffer p [] b it))
+    order : (u : Mark) → IsFrom m.sequence m.at (m.port + 1) u
+        → IsEarlier m.sequence m.at u.sequence u.at ⊎ ((m.sequence ≡ u.sequence) × (m.at ≡ u.at) × (m.port < u.port))
+    order u (inl l) = inl (inl l)
+    order u (inr (same, inl l)) = inl (inr (same, l))
+    order u (inr (same, inr (at, l))) = inr (same, at, omega arith)
+
+    pub written_again : (u : Mark) (us : List Mark) → ms ≡ u ∷ us → IsWrittenAgain p b u.sequence u.at
+    written_again u us f =
+        let there : slice_get ms 0 ≡ Some u = ap (λ (xs : List Mark). slice_get xs 0) f in (
+          u.port,
+          m.sequence,
+          m.at,
+          m.port,
+          written_as p b u.sequence u.at u.port (names_in p Written b (m ∷ ms) e 1 u there),
+          writes_as,
+          order u (later p Written b m u ms e 0 there),
+        )
+
+    told_operator : (o : Option declared_buffer.Buffer) (n : ℕ) → operator_is p o n → is_operator o n ≡ true
+    told_operator None n h = absurd h
+    told_operator (Some x) n h = eq-eqb x.operator n h
+
+    touches : (u : Mark) (i : ℕ) → slice_get (m ∷ reads) i ≡ Some u → Writes p b u.sequence u.at ⊎ Reads p b u.sequence u.at
+    touches u zero f = inl (subst (λ (z : Mark). Writes p b z.sequence z.at) (same_Some m u f) writes_it)
+    touches u (suc i) f = inr (reads_there p b u.sequence u.at u.port (names_of p Read b i u f))
+
+    -- an earlier write than the second one is the first
+    at_first : (u : Mark) (us : List Mark) → ms ≡ u ∷ us → (t c : ℕ) → Writes p b t c → IsEarlier t c u.sequence u.at → (t ≡ m.sequence) × (c ≡ m.at)
+    at_first u us f t c h l =
+        let r = found p Written b m ms e t c h.0 (there_writes p b t c h.0 h.1) in
+        elim (passes_before p Written b m ms e (λ z. false) u (ap (first_failing (λ z. false)) f) t c h.0 r l) [
+          | inl same ↦ (sym r.sequence ∙ sym (ap (λ (z : Mark). z.sequence) same), sym r.instr ∙ sym (ap (λ (z : Mark). z.at) same))
+          | inr test ↦ absurd (false≢true test)
+        ]
+
+    pub second : (u : Mark) (us : List Mark) → ms ≡ u ∷ us → IsSecond (Writes p b) u.sequence u.at
+    second u us f t c s d x y l k =
+        let r = at_first u us f t c x l in
+        let q = at_first u us f s d y k in
+        (r.0 ∙ sym q.0, r.1 ∙ sym q.1)
+
+    -- the only write
+    module _ (none : ms ≡ []) where
+      only_here : (t c j : ℕ) → WritesAs p b t c j → (t ≡ m.sequence) × (c ≡ m.at) × (j ≡ m.port)
+      only_here t c j h =
+          let r = found p Written b m ms e t c j (there_writes p b t c j h) in
+          elim r.is [
+            | inl same ↦ (
+              sym r.sequence ∙ sym (ap (λ (z : Mark). z.sequence) same),
+              sym r.instr ∙ sym (ap (λ (z : Mark). z.at) same),
+              sym r.port ∙ sym (ap (λ (z : Mark). z.port) same),
+            )
+            | inr (i, f) ↦ (let gone : slice_get [] i ≡ Some r.place = sym (ap (λ (us : List Mark). slice_get us i) none) ∙ f in absurd cc)
+          ]
+
+      pub one_write : HasOneWrite p b
+      one_write = (m.sequence, m.at, m.port, (writes_as, only_here))
+
+      operator_told : (o : Option declared_buffer.Buffer) (n : ℕ) → is_operator o n ≡ true → operator_is p o n
+      operator_told None n h = absurd (false≢true h)
+      operator_told (Some x) n h = eqb-true x.operator n h
+
+      near_write : is_near_at p b m ≡ true → (t c : ℕ) → Writes p b t c → IsNear p b t
+      near_write h t c w =
+          subst (λ (s : ℕ). IsNear p b s) (sym (only_here t c w.0 w.1).0) (operator_told (slice_get p.buffers b) (operator p m.sequence) h)
+
+      near_read : (t c : ℕ) (r : Reads p b t c) → is_near_at p b (has p Read b t c r.0 (there_reads p b t c r)).place ≡ true → IsNear p b t
+      near_read t c r h =
+          let q = has p Read b t c r.0 (there_reads p b t c r) in
+          subst (λ (s : ℕ). IsNear p b s) q.sequence (operator_told (slice_get p.buffers b) (operator p q.place.sequence) h)
+
+      pub first_far : (u : Mark) → first_failing (is_near_at p b) (m ∷ reads) ≡ Some u → IsFirstFar p b u.sequence u.at
+      first_far u h no_write t c x = by (is_near_at p b m) refl h
+        where
+          by : (y : Bool) → is_near_at p b m ≡ y → cond y (first_failing (is_near_at p b) reads) (Some m) ≡ Some u → IsNear p b t
+          by false q f = absurd (no_write (subst (λ (z : Mark). Writes p b z.sequence z.at) (same_Some m u f) writes_it))
+          by true q f = elim x [
+            | inl w ↦ near_write q t c w
+            | inr (r, l) ↦ (
+                let k = has p Read b t c r.0 (there_reads p b t c r) in
+                elim (passed_or_later (is_near_at p b) 0 0 0 reads u (rising p Read b) f k.at k.place k.there) [
+                  | inl near ↦ near_read t c r near
+                  | inr later ↦ absurd (not_earlier u k.place u.port later (subst (λ (s : ℕ). IsEarlier s k.place.at u.sequence u.at) (sym k.sequence) (subst (λ (d : ℕ). IsEarlier t d u.sequence u.at) (sym k.instr) l)))
+                ])
+          ]
+
+      pub all_near : first_failing (is_near_at p b) (m ∷ reads) ≡ None → AreNear p b
+      all_near n t c x =
+          let close = all_pass (is_near_at p b) (m ∷ reads) n in
+          let each = and_parts (is_near_at p b m) (list_all (is_near_at p b) reads) close in
+          elim x [
+            | inl w ↦ near_write each.0 t c w
+            | inr r ↦ (let k = has p Read b t c r.0 (there_reads p b t c r) in near_read t c r (all_here (is_near_at p b) reads each.1 k.at k.place k.there))
+          ]
+
+    after_write : (s c : ℕ) (r : Reads p b s c) → s ≡ m.sequence → is_not_before m (has p Read b s c r.0 (there_reads p b s c r)).place ≡ true → m.at < c
+    after_write s c r same h =
+        let q = has p Read b s c r.0 (there_reads p b s c r) in
+        subst (λ (d : ℕ). m.at < d) q.instr
+        (ltb-true m.at q.place.at (implied (nat_eq q.place.sequence m.sequence) (nat_lt m.at q.place.at) h (eq-eqb q.place.sequence m.sequence (q.sequence ∙ same))))
+
+    pub first_early : (u : Mark) → first_failing (is_not_before m) reads ≡ Some u → IsFirstRead p b u.sequence u.at
+    first_early u h c r =
+        let f = failing (is_not_before m) reads u h in
+        let parts = implies_false (nat_eq u.sequence m.sequence) (nat_lt m.at u.at) f.fails in
+        let early : u.at ≤ m.at = ltb-false m.at u.at parts.1 in
+        let q = has p Read b u.sequence c r.0 (there_reads p b u.sequence c r) in
+        elim (passed_or_later (is_not_before m) 0 0 0 reads u (rising p Read b) h q.at q.place q.there) [
+          | inl t ↦ (let late : m.at < c = after_write u.sequence c r (eqb-true u.sequence m.sequence parts.0) t in omega arith)
+          | inr later ↦ subst (λ (d : ℕ). u.at ≤ d) q.instr (not_lower u q.place u.port later q.sequence)
+        ]
+
+    pub read_after : first_failing (is_not_before m) reads ≡ None → AreReadAfter p b m.sequence m.at
+    read_after n c r =
+        let q = has p Read b m.sequence c r.0 (there_reads p b m.sequence c r) in
+        after_write m.sequence c r refl (all_here (is_not_before m) reads (all_pass (is_not_before m) reads n) q.at q.place q.there)
+
+    pub touched_elsewhere : (u : Mark) → first_failing (is_near_at p b) (m ∷ reads) ≡ Some u → IsTouchedElsewhere p b u.sequence u.at
+    touched_elsewhere u h =
+        let f = failing (is_near_at p b) (m ∷ reads) u h in
+        (touches u f.at f.there, λ on. false≢true (sym f.fails ∙ told_operator (slice_get p.buffers b) (operator p u.sequence) on))
+
+    pub read_too_early : (u : Mark) → first_failing (is_not_before m) reads ≡ Some u → IsReadTooEarly p b u.sequence u.at
+    read_too_early u h =
+        let f = failing (is_not_before m) reads u h in
+        let parts = implies_false (nat_eq u.sequence m.sequence) (nat_lt m.at u.at) f.fails in (
+          reads_there p b u.sequence u.at u.port (names_of p Read b f.at u f.there),
+          (m.at, subst (λ (s : ℕ). Writes p b s m.at) (sym (eqb-true u.sequence m.sequence parts.0)) writes_it, ltb-false m.at u.at parts.1),
+        )
+
+    -- a buffer that no other sequence reads has one place
+    shallow : (guarded : Bool) → is_guarded p b ≡ guarded → (is_guarded p b ≡ false → depth_of p b ≡ 1) → (nat_eq (depth_of p b) 1 || is_guarded p b) ≡ true
+    shallow true is one = or_right (nat_eq (depth_of p b) 1) (is_guarded p b) is
+    shallow false is one = or_left (nat_eq (depth_of p b) 1) (is_guarded p b) (eq-eqb (depth_of p b) 1 (one is))
+
+    pub wrong_places : has_places p b ≡ false → HasWrongPlaces p b m.sequence m.at
+    wrong_places f = (
+      writes_it,
+      λ r. false≢true (sym f ∙ both_true (both_true (le-leb 1 (depth_of p b) r.0) (le-leb (depth_of p b) 4 r.1)) (shallow (is_guarded p b) refl r.2)),
+    )

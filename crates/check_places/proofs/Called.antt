@@ -1,7 +1,8 @@
--- An operation has no place exactly where it is called once.
+-- An operation that has no place is called once.
 use Rattle.std.proofs.Common.{◌≡◌, ℕ, true, List, [], ◌∷◌, refl, sym, subst, ◌∙◌}
 use Rattle.std.specs.Prelude.{None, is_none}
 use Rattle.std.specs.Cmp.Derive.{both_true}
+use Rattle.std.proofs.lemmas.Bool.{and_parts}
 use Rattle.flat_graph.specs.declared.vertex.Vertex.{Vertex}
 use Rattle.executive_program.specs.declared.program.Program.{Program}
 use Rattle.executive_program.specs.Instructions.{medium}
@@ -13,6 +14,8 @@ use Rattle.program_tables.specs.Marks.{lone, marks_of}
 use Rattle.program_tables.proofs.Found.{at_is, sequence_is}
 use Rattle.program_tables.proofs.Lone.{lone_is}
 use Rattle.order_check.specs.Calls.{called_at, is_before_twin}
+use Rattle.order_check.proofs.Called.{call_alone, only_call, twins_of}
+use Rattle.check_laws.specs.Items.{IsCalledOnce}
 use Rattle.check_laws.specs.Tests.{is_called}
 use Rattle.check_places.specs.Calls.{call_place, call_place_by, is_same}
 use Rattle.check_places.proofs.Places.{all_pass, holds_of, no_mark, none_parts}
@@ -36,3 +39,18 @@ module _ (p : Program) (v : ℕ) (x : Vertex) where
 
   pub called_once : call_place p v x ≡ None → is_called p v x ≡ true
   called_once h = by_marks (marks_of p Called v) refl h
+
+  -- so it is called once
+  pub once : call_place p v x ≡ None → IsCalledOnce p v x
+  once h =
+      let s = caller_of p v in
+      let a = called_at p v in
+      let twin = and_parts _ (is_before_twin p s a x.kind x.twin) (called_once h) in
+      let alone = call_alone p v s a twin.0 in
+      let only = only_call p v s a alone.0 in
+      record {
+        stands = only.0;
+        only = only.1;
+        computes = alone.1;
+        twins = twins_of p s a x.kind x.twin twin.1;
+      }

@@ -6,7 +6,7 @@ use Rattle.archi_graph.specs.declared.medium.Seq.{Seq}
 use Rattle.executive_program.specs.declared.program.Program.{Program}
 use Rattle.check_laws.specs.Laws.{IsCause}
 use Rattle.check_laws.specs.Run.{Place as RunPlace}
-use Rattle.check_laws.specs.Tests.{Cause, sequences_differ, calls_wrong, transfers_wrong, buffers_wrong, pairs_wrong, prologue_wrong, stuck_at, cause}
+use Rattle.check_laws.specs.Tests.{Cause, sequences_differ, calls_wrong, transfers_wrong, buffers_wrong, pairs_wrong, prologue_wrong, stuck_at}
 use Rattle.check_laws.proofs.Causes.{exact}
 use Rattle.check_places.specs.declared.place.Place.{Place}
 use Rattle.check_places.specs.declared.place.Why.{Why}
@@ -15,7 +15,7 @@ use Rattle.check_places.specs.Buffers.{buffers_place}
 use Rattle.check_places.specs.Calls.{calls_place}
 use Rattle.check_places.specs.Names.{names_place}
 use Rattle.check_places.specs.Pairs.{pairs_place, prologue_place}
-use Rattle.check_places.specs.Shown.{AreWaiting, Explains, Shows, WhyExplains, cause_of}
+use Rattle.check_places.specs.Shown.{AreWaiting, Explains, IsFirst, Shows, WhyExplains, cause_of}
 use Rattle.check_places.specs.Transfers.{transfers_place}
 use Rattle.check_places.specs.Waits.{waitings}
 use Rattle.check_places.specs.Why.{breaks, why_by, why_of}
@@ -32,7 +32,7 @@ module _ (p : Program) (g : Graph) (seqs : List Seq) (operators media : ℕ) whe
   Reason c o = (w : Why) × (o ≡ Some w) × Explains p g seqs operators media c w
 
   -- the first place is a reason
-  reason : (c : Cause) (o : Option Place) → (o ≡ None → ⊥) → ((y : Place) → o ≡ Some y → (cause_of y.rule ≡ c) × Shows p g seqs operators media y) → Reason c (breaks o)
+  reason : (c : Cause) (o : Option Place) → (o ≡ None → ⊥) → ((y : Place) → o ≡ Some y → (cause_of y.rule ≡ c) × Shows p g seqs operators media y × IsFirst p g seqs operators media y) → Reason c (breaks o)
   reason c None some told = absurd (some refl)
   reason c (Some y) some told = (Breaks y, refl, told y refl)
 
@@ -40,8 +40,8 @@ module _ (p : Program) (g : Graph) (seqs : List Seq) (operators media : ℕ) whe
   explained sequences_differ h = reason sequences_differ (names_place p (length g.vertices) operators seqs) (λ e. h (named p g seqs operators media e)) (names_told p g seqs operators media)
   explained calls_wrong h = reason calls_wrong (calls_place p g.vertices) (λ e. h.1 (called p g seqs operators media e)) (calls_told p g seqs operators media)
   explained transfers_wrong h = reason transfers_wrong (transfers_place p media) (λ e. h.2 (transferred p g seqs operators media e)) (transfers_told p g seqs operators media)
-  explained buffers_wrong h = reason buffers_wrong (buffers_place p g.vertices media) (λ e. h.3 (written p g seqs operators media h.1 e)) (buffers_told p g seqs operators media)
-  explained pairs_wrong h = reason pairs_wrong (pairs_place p) (λ e. h.4 (all_guarded p g seqs operators media e)) (pairs_told p g seqs operators media)
+  explained buffers_wrong h = reason buffers_wrong (buffers_place p g.vertices media) (λ e. h.3 (written p g seqs operators media h.1 e)) (buffers_told p g seqs operators media h.1 h.2)
+  explained pairs_wrong h = reason pairs_wrong (pairs_place p) (λ e. h.4 (all_guarded p g seqs operators media e)) (pairs_told p g seqs operators media h.3)
   explained prologue_wrong h = reason prologue_wrong (prologue_place p) (λ e. h.5 (all_opened p g seqs operators media e)) (prologue_told p g seqs operators media)
   explained (stuck_at places) h = (
     Stuck (waitings p places),

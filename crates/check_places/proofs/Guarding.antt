@@ -1,4 +1,4 @@
--- The pair of a reader has no place exactly where it guards its buffer for it.
+-- The pair of a reader that has no place guards its buffer for it.
 use Rattle.std.proofs.Common.{◌≡◌, ℕ, Bool, true, false, ◌&&◌, nat_eq, List, [], ◌∷◌, refl, sym, ◌∙◌}
 use Rattle.std.specs.Prelude.{None, length, nat_lt, slice_get}
 use Rattle.std.specs.List.{list_all}

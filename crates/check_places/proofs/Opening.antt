@@ -1,9 +1,8 @@
--- A prologue has no place exactly where it is the one that its sequence has.
+-- A prologue that has no place is the one that its sequence has.
 use Rattle.std.proofs.Common.{◌≡◌, ℕ, zero, suc, ◌+◌, Bool, true, false, cond, List, [], ◌∷◌, ◌++◌, map, length, refl, ap, ◌∙◌}
 use Rattle.std.specs.Prelude.{None}
 use Rattle.std.proofs.lemmas.Bool.{false≢true, eqb-true}
 use Rattle.std.proofs.lemmas.List.{map-append}
-use Rattle.program_walks.proofs.Readings.{same_numbers}
 use Rattle.executive_program.specs.declared.program.Instr.{Instr}
 use Rattle.executive_program.specs.declared.program.Instr.TheVariants.{Suc0, Suc1, Pre0, Pre1, Call, Send, Recv, Sync}
 use Rattle.executive_program.specs.declared.program.Program.{Program}
@@ -20,7 +19,7 @@ abbrev pub signal : ℕ → Instr
 signal q = Pre0 q
 
 -- an instruction that signals the empty semaphore of pair q
-is_signal : (q : ℕ) (x : Instr) → signals_empty q x ≡ true → x ≡ Pre0 q
+pub is_signal : (q : ℕ) (x : Instr) → signals_empty q x ≡ true → x ≡ Pre0 q
 is_signal q (Pre0 r) e = ap (λ n. Pre0 n) (eqb-true r q e)
 is_signal q (Suc0 r) e = absurd (false≢true e)
 is_signal q (Suc1 r) e = absurd (false≢true e)
@@ -40,10 +39,6 @@ signals_are s a (x ∷ xs) (q ∷ qs) e = by (signals_empty q x) refl e (λ f. s
         → (signal_place s (a + 1) xs qs ≡ None → xs ≡ map signal qs) → x ∷ xs ≡ map signal (q ∷ qs)
     by true h e more = let rest = more e in λ i. is_signal q x h i ∷ rest i
     by false h e more = absurd cc
-
-pub of_signals : (s a : ℕ) (qs : List ℕ) → signal_place s a (map signal qs) qs ≡ None
-of_signals s a [] = refl
-of_signals s a (q ∷ qs) = rw (same_numbers q) (of_signals s (a + 1) qs)
 
 repeated_signals : (q n : ℕ) → map signal (repeated q n) ≡ repeated (Pre0 q) n
 repeated_signals q zero = refl

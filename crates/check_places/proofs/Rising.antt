@@ -1,5 +1,7 @@
 -- The places of a number ascend: no two of them are the same.
-use Rattle.std.proofs.Common.{◌≡◌, ℕ, ◌+◌, ◌<◌, ◌≤◌, ◌⊎◌, Bool, true, false, cond, List, [], ◌∷◌, ◌++◌, refl, sym, subst, inl, inr, arith, append_assoc, ◌∙◌}
+use Rattle.std.proofs.Common.{◌≡◌, ℕ, zero, suc, ◌+◌, ◌<◌, ◌≤◌, ◌⊎◌, Bool, true, false, cond, List, [], ◌∷◌, ◌++◌, refl, sym, subst, inl, inr, arith, append_assoc, ◌∙◌}
+use Rattle.std.specs.Prelude.{Some, slice_get}
+use Rattle.std.proofs.lemmas.Option.{same_Some}
 use Rattle.std.specs.List.{filter}
 use Rattle.executive_program.specs.declared.program.Instr.{Instr}
 use Rattle.executive_program.specs.declared.program.SeqCode.{SeqCode}
@@ -8,12 +10,14 @@ use Rattle.program_tables.specs.declared.mark_table.Mark.{Mark}
 use Rattle.program_tables.specs.declared.roles.Role.{Role}
 use Rattle.program_tables.specs.Marks.{marks_at, marks_in, marks_from, marks_of, named}
 use Rattle.program_tables.proofs.Naming.{of_number}
+use Rattle.check_places.specs.First.{first_failing}
+use Rattle.check_places.specs.Wrong.{IsEarlier}
 
 -- a place at port k of instruction a of s, or after it
-abbrev IsFrom : ℕ → ℕ → ℕ → Mark → Type 0
+abbrev pub IsFrom : ℕ → ℕ → ℕ → Mark → Type 0
 IsFrom s a k u = (s < u.sequence) ⊎ ((s ≡ u.sequence) × ((a < u.at) ⊎ ((a ≡ u.at) × (k ≤ u.port))))
 
-abbrev Rising : ℕ → ℕ → ℕ → List Mark → Type 0
+abbrev pub Rising : ℕ → ℕ → ℕ → List Mark → Type 0
 Rising s a k [] = Unit {0}
 Rising s a k (u ∷ us) = IsFrom s a k u × Rising u.sequence u.at (u.port + 1) us
 
@@ -65,20 +69,52 @@ rising_from : (role : Role) (s : ℕ) (qs : List SeqCode) → Rising s 0 0 (mark
 rising_from role s [] = tt
 rising_from role s (q ∷ qs) = rising_in role s 0 q.turn (marks_from role (s + 1) qs) (rising_from role (s + 1) qs)
 
-rest_of : (s a k : ℕ) (m : Mark) (ms : List Mark) → Rising s a k (m ∷ ms) → Rising m.sequence m.at (m.port + 1) ms
-rest_of s a k m ms h = h.1
+-- the places of a number ascend
+pub rising : (p : Program) (role : Role) (n : ℕ) → Rising 0 0 0 (marks_of p role n)
+rising p role n = filtered (of_number n) 0 0 0 (marks_from role 0 p.seqs) (rising_from role 0 p.seqs)
 
-first_of : (s a k : ℕ) (m : Mark) (ms : List Mark) → Rising s a k (m ∷ ms) → IsFrom s a k m
-first_of s a k m ms h = h.0
+-- each of them comes after the first
+pub each_after : (s a k : ℕ) (ms : List Mark) → Rising s a k ms → (i : ℕ) (u : Mark) → slice_get ms i ≡ Some u → IsFrom s a k u
+each_after s a k [] h i u e = absurd cc
+each_after s a k (m ∷ ms) h zero u e = subst (λ (v : Mark). IsFrom s a k v) (same_Some m u e) h.0
+each_after s a k (m ∷ ms) h (suc i) u e =
+    each_after s a k ms (earlier s a k m.sequence m.at (m.port + 1) ms (next_of s a k m h.0) h.1) i u e
 
--- the second place of a number is another one than the first
-pub second_differs : (p : Program) (role : Role) (n : ℕ) (m u : Mark) (ms : List Mark) → marks_of p role n ≡ m ∷ u ∷ ms
-    → m.sequence ≡ u.sequence → m.at ≡ u.at → m.port ≡ u.port → ⊥
-second_differs p role n m u ms e s a k =
-    let rising : Rising 0 0 0 (m ∷ u ∷ ms) = subst (λ (ms : List Mark). Rising 0 0 0 ms) e (filtered (of_number n) 0 0 0 (marks_from role 0 p.seqs) (rising_from role 0 p.seqs)) in
-    apart (first_of m.sequence m.at (m.port + 1) u ms (rest_of 0 0 0 m (u ∷ ms) rising))
+weaker : (s a k : ℕ) (u : Mark) → IsFrom s a (k + 1) u → IsFrom s a k u
+weaker s a k u (inl l) = inl l
+weaker s a k u (inr (e, inl l)) = inr (e, inl l)
+weaker s a k u (inr (e, inr (f, l))) = inr (e, inr (f, omega arith))
+
+-- those before the first that fails pass, and the others do not come before it
+pub passed_or_later : (test : Mark → Bool) (s a k : ℕ) (ms : List Mark) (m : Mark) → Rising s a k ms → first_failing test ms ≡ Some m
+    → (i : ℕ) (u : Mark) → slice_get ms i ≡ Some u → (test u ≡ true) ⊎ IsFrom m.sequence m.at m.port u
+passed_or_later test s a k [] m h f i u e = absurd cc
+passed_or_later test s a k (v ∷ vs) m h f i u e = by (test v) refl f i e (λ j d c. passed_or_later test v.sequence v.at (v.port + 1) vs m h.1 d j u c)
   where
-    apart : IsFrom m.sequence m.at (m.port + 1) u → ⊥
-    apart (inl l) = omega arith
-    apart (inr (e, inl l)) = omega arith
-    apart (inr (e, inr (f, l))) = omega arith
+    itself : IsFrom v.sequence v.at v.port v
+    itself = inr (refl, inr (refl, omega arith))
+
+    by : (b : Bool) → test v ≡ b → cond b (first_failing test vs) (Some v) ≡ Some m → (i : ℕ) → slice_get (v ∷ vs) i ≡ Some u
+        → ((j : ℕ) → first_failing test vs ≡ Some m → slice_get vs j ≡ Some u → (test u ≡ true) ⊎ IsFrom m.sequence m.at m.port u)
+        → (test u ≡ true) ⊎ IsFrom m.sequence m.at m.port u
+    by true q f zero e more = inl (subst (λ (z : Mark). test z ≡ true) (same_Some v u e) q)
+    by true q f (suc i) e more = more i f e
+    by false q f zero e more = inr (subst (λ (z : Mark). IsFrom z.sequence z.at z.port u) (same_Some v m f) (subst (λ (z : Mark). IsFrom v.sequence v.at v.port z) (same_Some v u e) itself))
+    by false q f (suc i) e more =
+        inr (subst (λ (z : Mark). IsFrom z.sequence z.at z.port u) (same_Some v m f)
+        (weaker v.sequence v.at v.port u (each_after v.sequence v.at (v.port + 1) vs h.1 i u e)))
+
+-- what does not come before a place is no earlier instruction
+pub not_earlier : (m u : Mark) (k : ℕ) → IsFrom m.sequence m.at k u → IsEarlier u.sequence u.at m.sequence m.at → ⊥
+not_earlier m u k (inl l) (inl n) = omega arith
+not_earlier m u k (inl l) (inr (e, n)) = omega arith
+not_earlier m u k (inr (f, inl l)) (inl n) = omega arith
+not_earlier m u k (inr (f, inl l)) (inr (e, n)) = omega arith
+not_earlier m u k (inr (f, inr (g, l))) (inl n) = omega arith
+not_earlier m u k (inr (f, inr (g, l))) (inr (e, n)) = omega arith
+
+-- in one sequence it is not at a lower place
+pub not_lower : (m u : Mark) (k : ℕ) → IsFrom m.sequence m.at k u → u.sequence ≡ m.sequence → m.at ≤ u.at
+not_lower m u k (inl l) same = absurd (omega arith)
+not_lower m u k (inr (e, inl l)) same = omega arith
+not_lower m u k (inr (e, inr (at, l))) same = omega arith

@@ -1,4 +1,4 @@
--- Sequences have no place exactly where they are those of the architecture.
+-- Sequences that have no place are those of the architecture.
 use Rattle.std.proofs.Common.{◌≡◌, ℕ, ◌+◌, Bool, true, false, cond, List, [], ◌∷◌, map, refl}
 use Rattle.std.specs.Prelude.{Option, Some, None}
 use Rattle.std.specs.Cmp.Derive.{both_true}
@@ -22,7 +22,7 @@ same_media : (m : Option ℕ) → same_medium m m ≡ true
 same_media None = refl
 same_media (Some m) = same_numbers m
 
-seq_is : (q : SeqCode) (x : Seq) → is_of (Some q) x ≡ true → q.seq ≡ x
+pub seq_is : (q : SeqCode) (x : Seq) → is_of (Some q) x ≡ true → q.seq ≡ x
 seq_is q x e =
     let both = and_parts _ (same_medium q.seq.medium x.medium) e in
     λ i. record { operator = eqb-true q.seq.operator x.operator both.0 i; medium = medium_is q.seq.medium x.medium both.1 i }
@@ -40,7 +40,3 @@ sequences_are s (q ∷ qs) (x ∷ xs) e = by (is_of (Some q) x) refl e (λ f. se
         → (sequence_place (s + 1) qs xs ≡ None → map (λ (q : SeqCode). q.seq) qs ≡ xs) → map (λ (q : SeqCode). q.seq) (q ∷ qs) ≡ x ∷ xs
     by true h e more = let rest = more e in λ i. seq_is q x h i ∷ rest i
     by false h e more = absurd cc
-
-pub of_sequences : (s : ℕ) (qs : List SeqCode) → sequence_place s qs (map (λ (q : SeqCode). q.seq) qs) ≡ None
-of_sequences s [] = refl
-of_sequences s (q ∷ qs) = rw (is_code q) (of_sequences (s + 1) qs)

@@ -6,4 +6,6 @@ pub mod Pairs
 pub mod Names
 pub mod Waits
 pub mod Why
+pub mod Wrong
+pub mod Ahead
 pub mod Shown

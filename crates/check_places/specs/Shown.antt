@@ -1,15 +1,13 @@
--- What a place shows: that something which is asked of the program does not hold of its subject.
+-- What a place shows: what is wrong of its subject and of its instruction, and that it is the
+-- first.
 use Rattle.std.specs.Prelude.{
   ◌≡◌,
   ◌↔◌,
   ℕ,
   ◌<◌,
   ◌≤◌,
-  true,
   IsTrue,
   List,
-  [],
-  ◌++◌,
   map,
   length,
   Option,
@@ -17,19 +15,17 @@ use Rattle.std.specs.Prelude.{
   None,
   slice_get,
 }
-use Rattle.std.specs.List.{count_by}
 use Rattle.flat_graph.specs.declared.vertex.Vertex.{Vertex}
 use Rattle.flat_graph.specs.Graph.{Graph}
 use Rattle.archi_graph.specs.Archi.{Architecture, is_archi}
 use Rattle.archi_graph.specs.Sequences.{sequences}
 use Rattle.archi_graph.specs.declared.medium.Seq.{Seq}
-use Rattle.executive_program.specs.declared.program.Instr.{Instr}
 use Rattle.executive_program.specs.declared.program.Program.{Program}
-use Rattle.executive_program.specs.Instructions.{is_communication, len_of, medium, prologue, readers, turn}
+use Rattle.executive_program.specs.Instructions.{Reader, len_of, medium, readers}
 use Rattle.executive_program.specs.MicroSteps.{transfers}
-use Rattle.executive_program.specs.Places.{calling, carried, opening_of, places, transfer}
-use Rattle.executive_program.specs.WellFormed.{CarryInOrder, CarryOutputs, IsWellFormed, Stands, operator_of}
-use Rattle.check_laws.specs.Items.{IsCalledOnce, IsGuarded, IsTransferred, IsWrittenOnce, NamesThere}
+use Rattle.executive_program.specs.Places.{transfer}
+use Rattle.executive_program.specs.WellFormed.{IsWellFormed}
+use Rattle.check_laws.specs.Items.{IsTransferred, IsWrittenOnce}
 use Rattle.check_laws.specs.Run.{made, run, stuck}
 use Rattle.check_laws.specs.Tests.{
   Cause,
@@ -42,7 +38,6 @@ use Rattle.check_laws.specs.Tests.{
   stuck_at,
   cause,
 }
-use Rattle.check_places.specs.declared.place.Part.{Part}
 use Rattle.check_places.specs.declared.place.Part.TheVariants.{Loop, Prologue}
 use Rattle.check_places.specs.declared.place.Place.{Place}
 use Rattle.check_places.specs.declared.place.Rule.{Rule}
@@ -62,9 +57,85 @@ use Rattle.check_places.specs.declared.place.Subject.TheVariants.{
 use Rattle.check_places.specs.declared.place.Waiting.{Waiting}
 use Rattle.check_places.specs.declared.place.Why.{Why}
 use Rattle.check_places.specs.declared.place.Why.TheVariants.{Breaks, Stuck}
+use Rattle.check_places.specs.Ahead.{
+  AreCalledBefore,
+  AreNear,
+  AreNamedAhead,
+  AreReadAfter,
+  AreRight,
+  AreSameBefore,
+  CarryBelow,
+  FitBefore,
+  GiveBelow,
+  HasAllInputs,
+  HasAllOutputs,
+  HasOneWrite,
+  HoldsBelow,
+  HoldsEarlier,
+  IsAlone,
+  IsAtMedium,
+  IsAttached,
+  IsAwaitedBefore,
+  IsCounted,
+  IsDeclared,
+  IsEmptyTaken,
+  IsFirstFar,
+  IsFirstRead,
+  IsFullTaken,
+  IsOpened,
+  IsPaired,
+  IsReceived,
+  IsReceivedThere,
+  IsRight,
+  IsSecond,
+  IsSent,
+  IsSentThere,
+  IsWrittenBetween,
+  Keeps,
+  Takes,
+}
 use Rattle.check_places.specs.Why.{why}
+use Rattle.check_places.specs.Wrong.{
+  Calls,
+  HasOtherInput,
+  HasOtherOutput,
+  HasOtherValue,
+  HasUnequalInputs,
+  HasUnequalLengths,
+  HasUnequalOutputs,
+  HasWrongPlaces,
+  IsAtNoMedium,
+  IsCalledAgain,
+  IsCalledInThread,
+  IsEmptyNotSignalled,
+  IsEmptyNotTaken,
+  IsFullNotSignalled,
+  IsFullNotTaken,
+  IsFurtherLine,
+  IsFurtherPair,
+  IsMiscounted,
+  IsMissingPair,
+  IsMissingSignal,
+  IsNotAwaited,
+  IsNotBeforeSet,
+  IsNotCalled,
+  IsNotMade,
+  IsNotReceived,
+  IsNotSent,
+  IsNotWritten,
+  IsOther,
+  IsOutsideThread,
+  IsPairElsewhere,
+  IsReadTooEarly,
+  IsReceivedElsewhere,
+  IsSentElsewhere,
+  IsTouchedElsewhere,
+  IsWrittenAgain,
+  NamesMore,
+  Writes,
+}
 
--- the cause that a rule belongs to
+-- The cause that a rule belongs to.
 abbrev pub cause_of : Rule → Cause
 cause_of rule.OtherSequence = sequences_differ
 cause_of rule.MissingName = sequences_differ
@@ -102,118 +173,170 @@ cause_of rule.FurtherPair = pairs_wrong
 cause_of rule.MissingSignal = prologue_wrong
 cause_of rule.FurtherLine = prologue_wrong
 
--- the instructions of a part
-abbrev pub instructions : Program → Part → ℕ → List Instr
-instructions p Prologue s = prologue p s
-instructions p Loop s = turn p s
+-- The place is an instruction of a loop, of which this holds.
+abbrev pub IsInLoop : Option Spot → (ℕ → ℕ → Type 0) → Type 0
+IsInLoop None Holds = ⊥
+IsInLoop (Some y) Holds = (y.part ≡ Loop) × Holds y.sequence y.at
+
+-- The place is an instruction of a prologue or the end of one, of which this holds.
+abbrev pub IsInPrologue : Option Spot → (ℕ → ℕ → Type 0) → Type 0
+IsInPrologue None Holds = ⊥
+IsInPrologue (Some y) Holds = (y.part ≡ Prologue) × Holds y.sequence y.at
 
 module _ (p : Program) (g : Graph) (seqs : List Seq) (operators media : ℕ) where
-  -- sequence s is another one than the architecture has there
-  abbrev pub IsOther : ℕ → Type 0
-  IsOther s = slice_get (map (λ q. q.seq) p.seqs) s ≡ slice_get seqs s → ⊥
+  -- This holds of operation v.
+  abbrev pub OfOperation : ℕ → (Vertex → Type 0) → Type 0
+  OfOperation v Holds = (x : Vertex) × (slice_get g.vertices v ≡ Some x) × Holds x
 
-  -- the instruction names what is not there
-  abbrev pub NamesMore : Spot → Type 0
-  NamesMore y =
-      (x : Instr) × (slice_get (instructions p y.part y.sequence) y.at ≡ Some x) ×
-      (NamesThere p (length g.vertices) operators x → ⊥)
+  -- There is a transfer t on medium m, of which this holds.
+  abbrev pub OfTransfer : ℕ → ℕ → Type 0 → Type 0
+  OfTransfer m t Holds = (m < media) × (t < transfers p m) × Holds
 
-  -- operation v is not called once as it is to be
-  abbrev pub IsMiscalled : ℕ → Type 0
-  IsMiscalled v = (x : Vertex) × (slice_get g.vertices v ≡ Some x) × (IsCalledOnce p v x → ⊥)
+  -- There is a buffer b, of which this holds.
+  abbrev pub OfBuffer : ℕ → Type 0 → Type 0
+  OfBuffer b Holds = (b < length p.buffers) × Holds
 
-  -- Communications of s stand in a thread of a medium that is there, as many as there are transfers on it.
-  pub record Communicates (s : ℕ) : Type 0 where
-    pub communicators : (a : ℕ) (x : Instr) → Stands p s a x → is_communication x ≡ true →
-        (m : ℕ) × (medium p s ≡ Some m)
-    pub on_media : (m : ℕ) → medium p s ≡ Some m → m < media
-    pub counts : (m : ℕ) → medium p s ≡ Some m → count_by is_communication (turn p s) ≡ transfers p m
+  -- This holds of the buffer and the sequence for which pair q is needed.
+  abbrev pub OfReader : ℕ → (Reader → Type 0) → Type 0
+  OfReader q Holds = (r : Reader) × (slice_get (readers p) q ≡ Some r) × Holds r
 
-  -- Sequence s has a communication and is no thread, or it is at a medium that is not there, or it
-  -- has more or fewer communications than its medium has transfers.
-  abbrev pub IsMiscommunicating : ℕ → Type 0
-  IsMiscommunicating s = Communicates s → ⊥
-
-  -- there is a transfer t on medium m, of which this does not hold
-  abbrev pub IsMistransferred : ℕ → ℕ → Type 0 → Type 0
-  IsMistransferred m t Right = (m < media) × (t < transfers p m) × (Right → ⊥)
-
-  -- Buffer b is there, but it is not written once, touched on its own operator only, read by its
-  -- writer after the write only, as deep as it may be, and made by a call in the end.
-  abbrev pub IsMiswritten : ℕ → Type 0
-  IsMiswritten b = (b < length p.buffers) × (IsWrittenOnce p b → ⊥)
-
-  -- the buffers of its call carry what operation v takes and gives
-  abbrev pub Fits : ℕ → Vertex → Type 0
-  Fits v x =
-      CarryInOrder p [] (places p) (carried p) g (calling p v).ins (map (λ d. d.source) x.guards ++ x.ins) ×
-      CarryOutputs p [] (places p) (carried p) g v 0 (calling p v).outs x.outs
-
-  -- Operation v is there, but the buffers of its call do not carry what it takes and gives.
-  abbrev pub IsMisfitting : ℕ → Type 0
-  IsMisfitting v = (x : Vertex) × (slice_get g.vertices v ≡ Some x) × (Fits v x → ⊥)
-
-  -- what transfer t of medium m receives is as long as what it sends, and carries the same
-  abbrev pub Keeps : ℕ → ℕ → Type 0
-  Keeps m t =
-      (len_of p (transfer p m t).received ≡ len_of p (transfer p m t).sent) ×
-      (carried p (transfer p m t).received ≡ carried p (transfer p m t).sent)
-
-  -- pair q is on the operator of the buffer that has this number among those that other sequences read, and guards it
-  abbrev pub IsPaired : ℕ → Type 0
-  IsPaired q =
-      (slice_get (map (λ o. Some o) p.pairs) q ≡ slice_get (map (λ r. operator_of p r.buffer) (readers p)) q) ×
-      IsGuarded p q
-
-  -- Pair q is not right: it is missing or one too many, is on another operator than its buffer, or
-  -- does not guard it. A number beyond all pairs is not right either.
-  abbrev pub IsMisguarded : ℕ → Type 0
-  IsMisguarded q = IsPaired q → ⊥
-
-  -- the prologue of s is not the one that it has
-  abbrev pub IsMisopened : ℕ → Type 0
-  IsMisopened s = (s < length p.seqs) × (prologue p s ≡ opening_of p s → ⊥)
-
-  -- what a place shows, by its cause, its subject and its instruction
-  abbrev pub ShowsBy : Cause → Subject → Option Spot → Type 0
-  ShowsBy sequences_differ (Expected s) y = IsOther s
-  ShowsBy sequences_differ (Sequence s) (Some y) = NamesMore y
-  ShowsBy calls_wrong (Operation v) y = IsMiscalled v
-  ShowsBy transfers_wrong (Sequence s) y = IsMiscommunicating s
-  ShowsBy transfers_wrong (Transfer m t) y = IsMistransferred m t (IsTransferred p m t)
-  ShowsBy buffers_wrong (Buffer b) y = IsMiswritten b
-  ShowsBy buffers_wrong (Operation v) y = IsMisfitting v
-  ShowsBy buffers_wrong (Input v k) y = IsMisfitting v
-  ShowsBy buffers_wrong (Output v k) y = IsMisfitting v
-  ShowsBy buffers_wrong (Transfer m t) y = IsMistransferred m t (Keeps m t)
-  ShowsBy pairs_wrong (Pair q) y = IsMisguarded q
-  ShowsBy prologue_wrong x (Some y) = IsMisopened y.sequence
+  -- What is wrong of a subject where a rule is broken, and what its instruction is, if one shows
+  -- it.
+  abbrev pub ShowsBy : Rule → Subject → Option Spot → Type 0
+  ShowsBy rule.OtherSequence (Expected s) None = IsOther p seqs s
+  ShowsBy rule.MissingName (Sequence s) (Some y) =
+      (y.sequence ≡ s) × NamesMore p (length g.vertices) operators y.part y.sequence y.at
+  ShowsBy rule.NotCalled (Operation v) None = OfOperation v (λ x. IsNotCalled p v)
+  ShowsBy rule.CalledAgain (Operation v) y = OfOperation v (λ x. IsInLoop y (IsCalledAgain p v))
+  ShowsBy rule.CalledInThread (Operation v) y = OfOperation v (λ x. IsInLoop y (IsCalledInThread p v))
+  ShowsBy rule.GetNotBeforeSet (Operation v) y = OfOperation v (λ x. IsInLoop y (IsNotBeforeSet p v x))
+  ShowsBy rule.OutsideThread (Sequence s) y = IsInLoop y (λ t a. (t ≡ s) × IsOutsideThread p t a)
+  ShowsBy rule.UnknownMedium (Sequence s) None = IsAtNoMedium p media s
+  ShowsBy rule.UnequalTransfers (Sequence s) None = IsMiscounted p s
+  ShowsBy rule.NotSent (Transfer m t) None = OfTransfer m t (IsNotSent p m t)
+  ShowsBy rule.NotReceived (Transfer m t) None = OfTransfer m t (IsNotReceived p m t)
+  ShowsBy rule.SentElsewhere (Transfer m t) y = OfTransfer m t (IsInLoop y (IsSentElsewhere p m t))
+  ShowsBy rule.ReceivedElsewhere (Transfer m t) y = OfTransfer m t (IsInLoop y (IsReceivedElsewhere p m t))
+  ShowsBy rule.NotAwaited (Transfer m t) y = OfTransfer m t (IsInLoop y (IsNotAwaited p m t))
+  ShowsBy rule.NotWritten (Buffer b) None = OfBuffer b (IsNotWritten p b)
+  ShowsBy rule.WrittenAgain (Buffer b) y = OfBuffer b (IsInLoop y (IsWrittenAgain p b))
+  ShowsBy rule.TouchedElsewhere (Buffer b) y = OfBuffer b (IsInLoop y (IsTouchedElsewhere p b))
+  ShowsBy rule.ReadTooEarly (Buffer b) y = OfBuffer b (IsInLoop y (IsReadTooEarly p b))
+  ShowsBy rule.WrongPlaces (Buffer b) y = OfBuffer b (IsInLoop y (HasWrongPlaces p b))
+  ShowsBy rule.NotMade (Buffer b) y = OfBuffer b (IsInLoop y (IsNotMade p b))
+  ShowsBy rule.UnequalInputs (Operation v) y = OfOperation v (λ x. IsInLoop y (HasUnequalInputs p v x))
+  ShowsBy rule.OtherInput (Input v k) y = OfOperation v (λ x. IsInLoop y (HasOtherInput p g v k x))
+  ShowsBy rule.UnequalOutputs (Operation v) y = OfOperation v (λ x. IsInLoop y (HasUnequalOutputs p v x))
+  ShowsBy rule.OtherOutput (Output v k) y = OfOperation v (λ x. IsInLoop y (HasOtherOutput p v k x))
+  ShowsBy rule.UnequalLengths (Transfer m t) y = OfTransfer m t (IsInLoop y (HasUnequalLengths p m t))
+  ShowsBy rule.OtherValue (Transfer m t) y = OfTransfer m t (IsInLoop y (HasOtherValue p m t))
+  ShowsBy rule.MissingPair (Pair q) y = OfReader q (λ r. IsInLoop y (IsMissingPair p q r))
+  ShowsBy rule.PairElsewhere (Pair q) y = OfReader q (λ r. IsInLoop y (IsPairElsewhere p q r))
+  ShowsBy rule.EmptyNotTaken (Pair q) y = OfReader q (λ r. IsInLoop y (IsEmptyNotTaken p q r))
+  ShowsBy rule.FullNotSignalled (Pair q) y = OfReader q (λ r. IsInLoop y (IsFullNotSignalled p q r))
+  ShowsBy rule.FullNotTaken (Pair q) y = OfReader q (λ r. IsInLoop y (IsFullNotTaken p q r))
+  ShowsBy rule.EmptyNotSignalled (Pair q) y = OfReader q (λ r. IsInLoop y (IsEmptyNotSignalled p q r))
+  ShowsBy rule.FurtherPair (Pair q) None = IsFurtherPair p q
+  ShowsBy rule.MissingSignal (Pair q) y = IsInPrologue y (λ s a. (s < length p.seqs) × IsMissingSignal p q s a)
+  ShowsBy rule.FurtherLine (Sequence s) y = IsInPrologue y (λ t a. (t ≡ s) × IsFurtherLine p t a)
   ShowsBy _ _ _ = ⊥
 
-  -- The place shows its cause: what the cause asks of the program does not hold of the subject of
-  -- the place, or of its instruction.
-  abbrev pub Shows : Place → Type 0
-  Shows x = ShowsBy (cause_of x.rule) x.subject x.spot
+  -- What is right before single transfers before transfer t of medium m are looked at, and of these.
+  abbrev pub AreMovedBefore : ℕ → ℕ → Type 0
+  AreMovedBefore m t =
+      ((s : ℕ) → IsAttached p s) × ((s : ℕ) → IsAtMedium p media s) × ((s : ℕ) → IsCounted p s) ×
+      HoldsEarlier p (IsTransferred p) m t
 
-  -- each waits for an instruction that the run has not made
+  -- All buffers are right, all operations fit, and each transfer before transfer t of medium m keeps
+  -- length and value.
+  abbrev pub AreKeptBefore : ℕ → ℕ → Type 0
+  AreKeptBefore m t = AreRight p × FitBefore p g (length g.vertices) × HoldsEarlier p (Keeps p) m t
+
+  -- What is right of all that is looked at before the place. Its cause looks at one kind of subject
+  -- after the other, at those of a kind by number, and at those of one subject in the order of the
+  -- rules. Transfers come by medium and then by number, and names in all loops before those in all
+  -- prologues, by sequence and then by instruction.
+  abbrev pub IsFirstBy : Rule → Subject → Option Spot → Type 0
+  IsFirstBy rule.OtherSequence (Expected s) y = AreSameBefore p seqs s
+  IsFirstBy rule.MissingName (Sequence s) (Some y) =
+      (map (λ q. q.seq) p.seqs ≡ seqs) × AreNamedAhead p (length g.vertices) operators y.part y.sequence y.at
+  IsFirstBy rule.NotCalled (Operation v) y = AreCalledBefore p g v
+  IsFirstBy rule.CalledAgain (Operation v) y = AreCalledBefore p g v × IsInLoop y (IsSecond (Calls p v))
+  IsFirstBy rule.CalledInThread (Operation v) y = AreCalledBefore p g v × IsInLoop y (IsAlone (Calls p v))
+  IsFirstBy rule.GetNotBeforeSet (Operation v) y =
+      AreCalledBefore p g v × IsInLoop y (λ s a. IsAlone (Calls p v) s a × (medium p s ≡ None))
+  IsFirstBy rule.OutsideThread (Sequence s) y = HoldsBelow (IsAttached p) s
+  IsFirstBy rule.UnknownMedium (Sequence s) y = ((t : ℕ) → IsAttached p t) × HoldsBelow (IsAtMedium p media) s
+  IsFirstBy rule.UnequalTransfers (Sequence s) y =
+      ((t : ℕ) → IsAttached p t) × ((t : ℕ) → IsAtMedium p media t) × HoldsBelow (IsCounted p) s
+  IsFirstBy rule.NotSent (Transfer m t) y = AreMovedBefore m t
+  IsFirstBy rule.NotReceived (Transfer m t) y = AreMovedBefore m t × IsSent p m t
+  IsFirstBy rule.SentElsewhere (Transfer m t) y = AreMovedBefore m t × IsReceived p m t
+  IsFirstBy rule.ReceivedElsewhere (Transfer m t) y = AreMovedBefore m t × IsSentThere p m t
+  IsFirstBy rule.NotAwaited (Transfer m t) y =
+      AreMovedBefore m t × IsSentThere p m t × IsReceivedThere p m t × IsInLoop y (λ s a. IsAwaitedBefore p m t s)
+  IsFirstBy rule.NotWritten (Buffer b) y = HoldsBelow (IsRight p) b
+  IsFirstBy rule.WrittenAgain (Buffer b) y = HoldsBelow (IsRight p) b × IsInLoop y (IsSecond (Writes p b))
+  IsFirstBy rule.TouchedElsewhere (Buffer b) y =
+      HoldsBelow (IsRight p) b × HasOneWrite p b × IsInLoop y (IsFirstFar p b)
+  IsFirstBy rule.ReadTooEarly (Buffer b) y =
+      HoldsBelow (IsRight p) b × HasOneWrite p b × AreNear p b × IsInLoop y (IsFirstRead p b)
+  IsFirstBy rule.WrongPlaces (Buffer b) y =
+      HoldsBelow (IsRight p) b × HasOneWrite p b × AreNear p b × IsInLoop y (AreReadAfter p b)
+  IsFirstBy rule.NotMade (Buffer b) y =
+      HoldsBelow (IsRight p) (length p.buffers) × HoldsBelow (IsWrittenOnce p) b
+  IsFirstBy rule.UnequalInputs (Operation v) y = AreRight p × FitBefore p g v
+  IsFirstBy rule.OtherInput (Input v k) y =
+      AreRight p × FitBefore p g v × OfOperation v (λ x. HasAllInputs p v x × CarryBelow p g v x k)
+  IsFirstBy rule.UnequalOutputs (Operation v) y = AreRight p × FitBefore p g v × OfOperation v (Takes p g v)
+  IsFirstBy rule.OtherOutput (Output v k) y =
+      AreRight p × FitBefore p g v ×
+      OfOperation v (λ x. Takes p g v x × HasAllOutputs p v x × GiveBelow p v x k)
+  IsFirstBy rule.UnequalLengths (Transfer m t) y = AreKeptBefore m t
+  IsFirstBy rule.OtherValue (Transfer m t) y =
+      AreKeptBefore m t × (len_of p (transfer p m t).received ≡ len_of p (transfer p m t).sent)
+  IsFirstBy rule.MissingPair (Pair q) y = HoldsBelow (IsPaired p) q
+  IsFirstBy rule.PairElsewhere (Pair q) y = HoldsBelow (IsPaired p) q
+  IsFirstBy rule.EmptyNotTaken (Pair q) y = HoldsBelow (IsPaired p) q × OfReader q (IsDeclared p q)
+  IsFirstBy rule.FullNotSignalled (Pair q) y =
+      HoldsBelow (IsPaired p) q × OfReader q (IsDeclared p q) × IsInLoop y (IsEmptyTaken p q)
+  IsFirstBy rule.FullNotTaken (Pair q) y =
+      HoldsBelow (IsPaired p) q × OfReader q (λ r. IsDeclared p q r × IsWrittenBetween p q r)
+  IsFirstBy rule.EmptyNotSignalled (Pair q) y =
+      HoldsBelow (IsPaired p) q × OfReader q (λ r. IsDeclared p q r × IsWrittenBetween p q r) ×
+      IsInLoop y (IsFullTaken p q)
+  IsFirstBy rule.FurtherPair (Pair q) y = HoldsBelow (IsPaired p) q
+  IsFirstBy rule.MissingSignal (Pair q) (Some y) = HoldsBelow (IsOpened p) y.sequence
+  IsFirstBy rule.FurtherLine (Sequence s) y = HoldsBelow (IsOpened p) s
+  IsFirstBy _ _ _ = ⊥
+
+  -- The place shows its cause: this is wrong of its subject and its instruction.
+  abbrev pub Shows : Place → Type 0
+  Shows x = ShowsBy x.rule x.subject x.spot
+
+  -- The place is the first of its cause that is wrong.
+  abbrev pub IsFirst : Place → Type 0
+  IsFirst x = IsFirstBy x.rule x.subject x.spot
+
+  -- Each waits for an instruction that the run has not made.
   abbrev pub AreWaiting : List Waiting → Type 0
   AreWaiting ws =
       (i : ℕ) (w : Waiting) → slice_get ws i ≡ Some w →
       (y : Spot) × (w.awaits ≡ Some y) × (made (run p) y.sequence ≤ y.at)
 
-  -- what was found explains this cause
+  -- What was found explains this cause.
   abbrev pub Explains : Cause → Why → Type 0
-  Explains c (Breaks x) = (cause_of x.rule ≡ c) × Shows x
+  Explains c (Breaks x) = (cause_of x.rule ≡ c) × Shows x × IsFirst x
   Explains c (Stuck ws) = (c ≡ stuck_at (stuck p)) × AreWaiting ws
 
--- where a program has a cause, what is found explains it
+-- Where a program has a cause, what is found explains it.
 abbrev pub WhyExplains : Type 0
 WhyExplains = (p : Program) (g : Graph) (a : Architecture) (c : Cause) → IsTrue (is_archi a.operators a.media) →
     cause p g.vertices (sequences a) (length a.operators) (length a.media) ≡ Some c →
     (w : Why) × (why p g.vertices (sequences a) (length a.operators) (length a.media) ≡ Some w) ×
     Explains p g (sequences a) (length a.operators) (length a.media) c w
 
--- nothing is found exactly where the program is well formed
+-- Nothing is found exactly where the program is well formed.
 abbrev pub WhyIsExact : Type 0
 WhyIsExact = (p : Program) (g : Graph) (a : Architecture) → IsTrue (is_archi a.operators a.media) →
     (why p g.vertices (sequences a) (length a.operators) (length a.media) ≡ None) ↔

@@ -2,8 +2,9 @@
 //! `macro_check` refuses it, or for a program without a serial order what each sequence waits for.
 //!
 //! A `Place` has the rule that is broken, the operation, buffer, pair, transfer or sequence of which it is asked, and
-//! the instruction that shows it. The laws say that a place shows its cause, and that there is none exactly where the
-//! program is well formed. `why_text` writes what is found for people.
+//! the instruction that shows it. The laws say what is wrong there by the rule, that all that is looked at before it is
+//! right, and that there is no place exactly where the program is well formed. `why_text` writes what is found for
+//! people.
 #![tactic(auto)]
 
 mod buffers;

@@ -9,15 +9,42 @@ ghost use Rattle.std.specs.Prelude.{◌≡◌, ◌≤◌, length, replicate, IfS
 
 use outside::{Failed, File, Shelf, Sink};
 use std::fs;
-use std::io::Write;
+use std::io::{Read, Write};
 use std::os::unix::fs::FileExt;
 
+/// A file that cannot be read at a place, as a pipe or a terminal: it stays open and is read on.
+#[derive(Drop)]
+struct Stream {
+    name: String,
+    /// How many bytes of it were read.
+    at: u64,
+    open: fs::File,
+}
+
+impl Stream {
+    /// Whether the bytes from this place on of the file with this name are the next ones.
+    fn goes_on(&self, name: &str, at: u64) -> bool {
+        self.at == at && self.name.as_str() == name
+    }
+
+    /// Reads its next bytes, and returns how many.
+    fn read(&mut self, into: &mut [u8]) -> Option<usize>
+        ensures { IfSome result (λ n. n ≤ length into.old) }
+    {
+        let n = self.open.read(into).ok()?;
+        self.at = self.at.saturating_add(n as u64);
+        Some(n)
+    }
+}
+
 /// Files where they lie. Each call opens the file that it names, so that what it reads depends on no call
-/// before it.
+/// before it. Only a file that cannot be read at a place, as a pipe, is kept open from its first piece on, and
+/// each call that asks for the bytes after the last ones reads on from there: one such file at a time.
 #[derive(Drop)]
 pub struct FileShelf<'r> {
     rt: &'r HostRuntime,
     faults: [u64; 5],
+    stream: Option<Stream>,
 }
 
 impl<'r> FileShelf<'r> {
@@ -25,15 +52,41 @@ impl<'r> FileShelf<'r> {
     pub fn new(rt: &'r HostRuntime) -> FileShelf<'r>
         ensures { result.faults ≡ replicate 5 0 }
     {
-        FileShelf { rt, faults: [0; 5] }
+        FileShelf {
+            rt,
+            faults: [0; 5],
+            stream: None,
+        }
     }
 
     /// Reads bytes of a file from a place on, and returns how many: none where the file cannot be opened or read.
-    fn read(&self, name: &str, at: u64, into: &mut [u8]) -> Option<usize>
-        ensures { IfSome result (λ n. n ≤ length into.old) }
+    fn read(&mut self, name: &str, at: u64, into: &mut [u8]) -> Option<usize>
+        ensures read { IfSome result (λ n. n ≤ length into.old) }
+        ensures faults { self.new.faults ≡ self.old.faults }
     {
-        let file = fs::open(self.rt, name).ok()?;
-        file.read_at(into, at).ok()
+        if let Some(stream) = &mut self.stream {
+            if stream.goes_on(name, at) {
+                return stream.read(into);
+            }
+        }
+        let open = fs::open(self.rt, name).ok()?;
+        match open.read_at(into, at) {
+            Ok(n) => Some(n),
+            Err(_) if at == 0 => self.begin(name, open, into),
+            Err(_) => None,
+        }
+    }
+
+    /// Reads the first bytes of a file that cannot be read at a place, and keeps it open.
+    fn begin(&mut self, name: &str, open: fs::File, into: &mut [u8]) -> Option<usize>
+        ensures read { IfSome result (λ n. n ≤ length into.old) }
+        ensures faults { self.new.faults ≡ self.old.faults }
+    {
+        let name = String::from_str(self.rt.alloc(), name).ok()?;
+        let mut stream = Stream { name, at: 0, open };
+        let n = stream.read(into)?;
+        self.stream = Some(stream);
+        Some(n)
     }
 }
 

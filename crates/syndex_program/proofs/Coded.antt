@@ -4,12 +4,7 @@ use Rattle.std.specs.Prelude.{IsTrue}
 use Rattle.syn_base.specs.Bytes.{Bytes}
 use Rattle.outside.specs.Shelf.{Held}
 use Rattle.outside.specs.Sink.{Sunk}
-use Rattle.outside.specs.declared.file.File.TheVariants.{Architecture, Code}
-use Rattle.archi_defs.specs.Text.{Described, description_of}
-use Rattle.archi_defs.specs.declared.text.ArchiText.{ArchiText}
-use Rattle.archi_defs.specs.declared.fault.ArchiError.{ArchiError}
-use Rattle.archi_defs.specs.declared.fault.ArchiError.TheVariants as architecture
-use Rattle.archi_reader.specs.Given as reader
+use Rattle.outside.specs.declared.file.File.TheVariants.{Code}
 use Rattle.archi_graph.specs.Archi.{Architecture as Archi, is_archi}
 use Rattle.archi_graph.specs.Sequences.{sequences}
 use Rattle.flat_graph.specs.Graph.{Graph}
@@ -29,16 +24,14 @@ use Rattle.word_rule.specs.Driven.{Driven, driven_by}
 use Rattle.command_plan.specs.Ending.{Ending, no_memory, refused}
 use Rattle.command_plan.specs.Run.{Makes, Ran, WasRead, refuses, was_read}
 use Rattle.command_plan.proofs.Makes.{after_err, after_ok, memory, wanting}
-use Rattle.command_status.specs.Status.{Refusal, ending_of, failed_check, of_architecture, of_code, status_of_architecture, status_of_code}
+use Rattle.command_status.specs.Status.{Refusal, ending_of, failed_check, of_code, status_of_code}
 use Rattle.command_status.specs.declared.status.Status.{Status}
 use Rattle.top_plans.specs.Checks.{lacking, stop_of, told}
 use Rattle.top_plans.proofs.Checks.{lacks, lacks_nothing}
 use Rattle.top_plans.specs.Given.{Given, stages}
-use Rattle.top_plans.specs.Plans.{Made, code_in, described_in, read_file, unless_lacking}
+use Rattle.top_plans.specs.Plans.{Made, code_in, read_file, unless_lacking}
 use Rattle.syndex_program.specs.Executes.{EndsOrWants}
 use Rattle.syndex_program.specs.Foreign.{IsProgram, MakesProgram, ReadsProgram}
-use Rattle.compiler.specs.Compiles.{described}
-use Rattle.compiler.specs.Reads.{ReadsDescription}
 
 -- a cause is told as it is
 same_stops : (ys : List Stop) → map stop_of (map place_of ys) ≡ ys

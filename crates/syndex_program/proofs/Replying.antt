@@ -1,5 +1,5 @@
 -- What the two calls answer, from what was carried out.
-use Rattle.std.proofs.Common.{◌≡◌, Option, Some, None, Err, inl, inr, refl}
+use Rattle.std.proofs.Common.{Option, Some, None, Err, inl, inr, refl}
 use Rattle.outside.specs.Shelf.{Held}
 use Rattle.outside.specs.Sink.{Sunk}
 use Rattle.command_plan.specs.Ending.{no_memory, refused}

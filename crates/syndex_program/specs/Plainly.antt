@@ -1,9 +1,9 @@
 -- What the commands that run no job answer.
-use Rattle.std.specs.Prelude.{◌≡◌, Option, Some, None, Result, Vec, ℕ}
+use Rattle.std.specs.Prelude.{◌≡◌, Option, Some, None}
 use Rattle.outside.specs.Shelf.{Held}
 use Rattle.outside.specs.Sink.{Sunk}
 use Rattle.command_plan.specs.Ending.{Ending}
-use Rattle.command_plan.specs.Run.{Makes, Ran}
+use Rattle.command_plan.specs.Run.{Ran}
 use Rattle.command_status.specs.Status.{Refusal, ending_of}
 use Rattle.command_status.specs.declared.status.Status.{Status}
 use Rattle.command_words.specs.Command.{Command}
@@ -12,7 +12,6 @@ use Rattle.top_plans.specs.Given.{stages}
 use Rattle.top_plans.specs.Names.{RunsJobs}
 use Rattle.top_plans.specs.Plans.{plan_for}
 use Rattle.top_plans.specs.Replies.{PlainReplies}
-use Rattle.compiler.specs.Reads.{text_in}
 
 -- a command that runs jobs is left as it is; the plan of any other one was carried out, whatever is driven
 abbrev pub IsRunOrPlain : Command → Held → Held → Sunk → Sunk → Option Status → Type 0

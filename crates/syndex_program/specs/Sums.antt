@@ -1,15 +1,8 @@
 -- The sum of all that the actuators take.
-use Rattle.std.specs.Prelude.{ℕ, ◌≤◌, ◌<◌, ℤ, List, [], ◌∷◌, length, drop, slice_index_or, codes}
-use Rattle.std.specs.Fmt.{decimal, signed_decimal}
-use Rattle.syn_base.specs.Bytes.{Bytes}
-use Rattle.outside.specs.Bytes.{joined}
+use Rattle.std.specs.Prelude.{ℕ, ◌≤◌, ◌<◌, ℤ, List, [], length, drop, slice_index_or}
 use Rattle.std.specs.List.{flat_map}
 use Rattle.level_meaning.specs.Level.{Values, all_joined}
 use Rattle.body_lang.specs.Expr.{total}
-use Rattle.archi_graph.specs.Sequences.{sequences}
-use Rattle.flat_laws.specs.FlatOf.{flat_of}
-use Rattle.semaphore_core.specs.Job.{total_steps}
-use Rattle.top_plans.specs.Given.{Execution}
 use Rattle.phase_laws.specs.Ended.{all_acts}
 use Rattle.job_windows.specs.Windowed.{WindowsData, first_of}
 
@@ -24,12 +17,3 @@ AreFew most acts = (k : ℕ) → k < length acts → length (slice_index_or acts
 -- of the windows that are left
 abbrev pub total_left : WindowsData → ℤ
 total_left w = total_of (drop (first_of w.next) (all_acts w.job))
-
--- the summary of an execution with this sum
-abbrev pub summary_with : Execution → ℤ → Bytes
-summary_with e sum = joined (
-    codes "operations " ∷ decimal (length (flat_of e.main).vertices)
-    ∷ codes "\nsequences " ∷ decimal (length (sequences e.architecture))
-    ∷ codes "\nsteps " ∷ decimal (total_steps e.program (length e.rows.reactions))
-    ∷ codes "\nsum " ∷ signed_decimal sum ∷ codes "\n" ∷ []
-    )

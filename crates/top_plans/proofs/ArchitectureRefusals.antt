@@ -1,8 +1,6 @@
 -- What a text of an architecture is refused for is never want of memory.
-use Rattle.std.proofs.Common.{◌≡◌, ℕ, ◌+◌, Bool, true, false, List, [], ◌∷◌, length, Option, Some, None, Result, Ok, Err}
-use Rattle.std.specs.Prelude.{if◌then◌else◌}
+use Rattle.std.proofs.Common.{ℕ, ◌+◌, List, [], ◌∷◌, Option, Some, None, Result, Ok, Err}
 use Rattle.syn_base.specs.Bytes.{Bytes}
-use Rattle.syn_base.specs.Integer.{integer_of}
 use Rattle.syn_base.specs.declared.limits.LimitKind.{LimitKind}
 use Rattle.text_lines.specs.Text.{lines_of, words_of, code_of, foreign_place}
 use Rattle.archi_graph.specs.declared.medium.Medium.{Medium}
@@ -10,7 +8,7 @@ use Rattle.archi_defs.specs.declared.fault.ArchiError.{ArchiError}
 use Rattle.archi_defs.specs.declared.fault.ArchiError.TheVariants.{Refused, Limit, OutOfMemory}
 use Rattle.archi_defs.specs.declared.fault.ArchiCause.{ArchiCause}
 use Rattle.top_plans.proofs.Only.{Only, ok, either}
-use Rattle.archi_defs.specs.Text.{Described, Reading, refused, above, with_some, and_then, all_names, with_number, up_to, version_line, depth_line, operator_line, medium_line, connected, connect_line, duration_line, described_line, line_by, next_line, media_are_right, all_joined, apart, whole_of, whole, rest_of, start, description_of}
+use Rattle.archi_defs.specs.Text.{Reading, refused, above, with_some, and_then, version_line, depth_line, operator_line, medium_line, connected, connect_line, duration_line, described_line, line_by, next_line, media_are_right, all_joined, apart, whole_of, rest_of, start, description_of}
 
 abbrev pub Stays : ArchiError → Type 0
 Stays (Refused fault) = Unit {0}

@@ -1,20 +1,19 @@
 -- What a text of macro-code is refused for is never want of memory.
-use Rattle.std.proofs.Common.{ℕ, ◌+◌, Bool, true, false, List, [], ◌∷◌, length, Option, Some, None, Result, Ok, Err}
-use Rattle.std.specs.Prelude.{if◌then◌else◌, is_none}
+use Rattle.std.proofs.Common.{ℕ, ◌+◌, List, [], ◌∷◌, length, Option, Some, None, Result, Ok, Err}
+use Rattle.std.specs.Prelude.{is_none}
 use Rattle.syn_base.specs.Bytes.{Bytes}
 use Rattle.syn_base.specs.declared.limits.LimitKind.{LimitKind}
 use Rattle.text_lines.specs.Text.{lines_of, foreign_place, words_of, code_of}
 use Rattle.flat_graph.specs.Graph.{Graph}
 use Rattle.archi_graph.specs.Archi.{Architecture}
-use Rattle.executive_program.specs.declared.program.Instr.{Instr}
 use Rattle.executive_program.specs.declared.program.Program.{Program}
 use Rattle.macro_code.specs.declared.macros.Macro.{Macro}
 use Rattle.macro_code.specs.declared.macros.Macro.TheVariants.{Processor, Semaphores, Alloc, Thread, EndThread, Main, EndMain, SpawnThread, WaitEndThread, Loop, EndLoop, Suc0, Suc1, Pre0, Pre1, Send, Recv, Sync}
 use Rattle.macro_code.specs.declared.fault.CodeError.{CodeError}
 use Rattle.macro_code.specs.declared.fault.CodeError.TheVariants.{Refused, Limit, OutOfMemory}
 use Rattle.macro_code.specs.declared.fault.CodeCause.{CodeCause}
-use Rattle.macro_code.specs.Forms.{Form, Declaration, bare, listed, call, form_of, macro_of, arguments_of}
-use Rattle.macro_code.specs.ReadText.{Reading, Arguments, refused, above, and_then, argument, known, known_macro, formed, without, name_of, unless_unknown, first_unknown, pairs_of, declaration_of, pair_of, operator_of, processor_of, medium_of, thread_of, moved_of, ends_of, declared_buffer, macro_line, placed_line, named_line, call_of, call_line, line_of, words_line, line_by, next_line, rest_of, whole, counted, limited, within_steps, first_misnumbered, program_of, operation_names, start, program_in}
+use Rattle.macro_code.specs.Forms.{Form, bare, listed, call, form_of, macro_of, arguments_of}
+use Rattle.macro_code.specs.ReadText.{Reading, Arguments, refused, above, and_then, argument, known, known_macro, formed, without, name_of, unless_unknown, pairs_of, declaration_of, pair_of, processor_of, medium_of, thread_of, moved_of, ends_of, macro_line, named_line, call_of, call_line, line_of, line_by, next_line, rest_of, whole, counted, limited, within_steps, first_misnumbered, program_of, operation_names, start, program_in}
 use Rattle.top_plans.proofs.Only.{Only, ok, either}
 
 abbrev pub Stays : CodeError → Type 0

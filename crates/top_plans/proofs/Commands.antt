@@ -5,7 +5,7 @@ use Rattle.syn_base.specs.Bytes.{Bytes}
 use Rattle.outside.specs.Shelf.{Held, file_bound}
 use Rattle.outside.specs.declared.file.File.{File}
 use Rattle.outside.specs.Sink.{Sunk}
-use Rattle.command_plan.specs.Plan.{Plan, give, refuse, read, outcome, ReadsOnly, GivesOnly}
+use Rattle.command_plan.specs.Plan.{Plan, read, outcome, ReadsOnly, GivesOnly}
 use Rattle.command_plan.specs.Ending.{Ending, done, unwritten}
 use Rattle.command_plan.specs.Answers.{Answers, IsOnce, RunsNone}
 use Rattle.command_status.specs.Status.{Refusal}
@@ -34,9 +34,12 @@ once_leaf command (written t) p l = (omega arith, refl)
 once_leaf (run a h s w) (printed t e) p l = absurd (p tt)
 once_leaf (load n) (summed e t) p l = absurd (p tt)
 once_leaf (exec a h c s w) (executed e) p l = absurd (p tt)
-once_leaf (check a h) (printed t e) p l = absurd l
-once_leaf (check a h) (executed e) p l = absurd l
-once_leaf (check a h) (summed e t) p l = absurd l
+once_leaf (check a None) (printed t e) p l = absurd l
+once_leaf (check a None) (executed e) p l = absurd l
+once_leaf (check a None) (summed e t) p l = absurd l
+once_leaf (check a (Some h)) (printed t e) p l = absurd l
+once_leaf (check a (Some h)) (executed e) p l = absurd l
+once_leaf (check a (Some h)) (summed e t) p l = absurd l
 once_leaf (sim a h) (printed t e) p l = absurd l
 once_leaf (sim a h) (executed e) p l = absurd l
 once_leaf (sim a h) (summed e t) p l = absurd l

@@ -1,16 +1,14 @@
 -- What the definitions of a text are refused for is never want of memory.
-use Rattle.std.proofs.Common.{◌≡◌, refl, ℕ, suc, ◌+◌, ◌*◌, Bool, true, false, List, [], ◌∷◌, ◌++◌, map, length, Option, Some, None, Result, Ok, Err, ℤ}
+use Rattle.std.proofs.Common.{◌≡◌, refl, ℕ, Bool, true, false, List, [], ◌∷◌, ◌++◌, map, Option, Some, None, ℤ}
 use Rattle.std.specs.Prelude.{if◌then◌else◌, slice_get}
 use Rattle.std.specs.List.{flat_map, range_with_len}
 use Rattle.syn_base.specs.Bytes.{Bytes}
 use Rattle.body_lang.specs.declared.expression.Port.{Port}
 use Rattle.reference_graph.specs.Links.{depths, first_recursive}
-use Rattle.algo_tree.specs.Tree.{Vertex}
 use Rattle.algo_text.specs.declared.definition.Body.{Body}
 use Rattle.algo_text.specs.declared.definition.Body.TheVariants.{Sensor, Actuator, Constant, Delay, Function, Graph, Switch, Repeat}
 use Rattle.algo_text.specs.declared.definition.Case.{Case}
 use Rattle.algo_text.specs.declared.definition.Def.{Def}
-use Rattle.algo_text.specs.declared.definition.Defs.{Defs}
 use Rattle.algo_text.specs.declared.definition.Edge.{Edge}
 use Rattle.algo_text.specs.declared.definition.Frontier.{Frontier}
 use Rattle.algo_text.specs.declared.definition.Frontier.TheVariants.{Fork, Diffuse, Iterate, Join}
@@ -21,12 +19,11 @@ use Rattle.algo_text.specs.declared.fault.AlgoError.TheVariants.{Limit}
 use Rattle.syn_base.specs.declared.limits.LimitFault.{LimitFault}
 use Rattle.algo_text.specs.declared.fault.AlgoCause.{AlgoCause}
 use Rattle.algo_rules.specs.declared.ports.Ports.{Ports}
-use Rattle.algo_rules.specs.Ports.{ports_of}
-use Rattle.algo_rules.specs.Links.{Mention, fault, first_of, mentions, definition, unknown_by, unknown, misplaced_by, misplaced, recursive_by, recursive, links_of, too_deep_by, too_deep}
+use Rattle.algo_rules.specs.Links.{Mention, fault, first_of, mentions, definition, unknown_by, misplaced_by, recursive_by, links_of, too_deep_by}
 use Rattle.algo_rules.specs.Frontiers.{too_long, frontier_fault, frontier_faults, unfed, repeat_fault, case_fault, case_faults, switch_fault}
-use Rattle.algo_rules.specs.Graphs.{port_len, givers, takers, joins, edge_fault, edge_faults, open_fault, open_faults, names_of, dependences, cycle_by, cycle_fault, graph_fault}
-use Rattle.algo_rules.specs.Resolved.{body_fault, faults_at, bodies_fault, no_main_by, no_main, too_many, refusal, resolved_by, tree_of, resolution_of}
-use Rattle.top_plans.proofs.Only.{Only, ok, either}
+use Rattle.algo_rules.specs.Graphs.{port_len, givers, takers, joins, edge_faults, open_fault, open_faults, names_of, dependences, cycle_by, cycle_fault, graph_fault}
+use Rattle.algo_rules.specs.Resolved.{body_fault, faults_at, bodies_fault, no_main_by, too_many, refusal, resolved_by, resolution_of}
+use Rattle.top_plans.proofs.Only.{Only, ok}
 use Rattle.top_plans.proofs.TextRefusals.{Stays}
 
 abbrev pub OfFault : Option AlgoError → Type 0

@@ -12,7 +12,9 @@ pub mod CodeRefusals
 pub mod Walk
 pub mod Commands
 mod Refusals
+pub mod Texts
 pub mod True
 pub mod Written
 pub mod Usage
+pub mod Values
 mod Worked

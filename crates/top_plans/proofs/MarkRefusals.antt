@@ -1,6 +1,5 @@
 -- What marks are refused for, and the tree in which they are graphs, is never want of memory.
 use Rattle.std.proofs.Common.{List, Option, Some, None, Result, Ok, Err}
-use Rattle.std.specs.Prelude.{if◌then◌else◌}
 use Rattle.syn_base.specs.Bytes.{Bytes}
 use Rattle.syn_base.specs.declared.limits.LimitFault.{LimitFault}
 use Rattle.algo_tree.specs.Tree.{Vertex}

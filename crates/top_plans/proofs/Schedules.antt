@@ -11,9 +11,11 @@ use Rattle.flat_graph.specs.Graph.{Graph}
 use Rattle.flat_graph.specs.Valid.{is_flat}
 use Rattle.pressure_heuristic.specs.Tasks.{task}
 use Rattle.pressure_heuristic.proofs.Tasks.{tasks_are_given}
+use Rattle.pressure_heuristic.proofs.Tight.{runs_are_tight}
 use Rattle.pressure_heuristic.proofs.Whole.{runs_are_valid}
 use Rattle.route_table.specs.Computed.{table_of}
 use Rattle.route_table.proofs.LeastRoutes.{routes_are_least}
+use Rattle.schedule.specs.Tight.{is_tight}
 use Rattle.schedule.specs.Valid.{is_valid}
 use Rattle.archi_reader.proofs.Accepted.{described_are}
 use Rattle.top_plans.specs.Plans.{schedule_of}
@@ -41,4 +43,14 @@ schedules_are_valid g text d t valid describes lasts =
     let archi = described_are text d describes in
     subst (λ (x : Table). is_valid g d.archi (entry_in x) (schedule_of g d.archi x) ≡ true) none.1
     (runs_are_valid (task g d.archi (table_of d.archi) made)
+    (tasks_are_given g d.archi (table_of d.archi) d.durations valid archi.0 (routes_are_least d.archi archi.0) (durations.accepted text d describes) none.0))
+
+-- and it is tight
+pub schedules_are_tight : (g : Graph) (text : Bytes) (d : Described) (t : Table) → is_flat g ≡ true → description_of text ≡ Ok d → durations_of g d ≡ Ok t → is_tight g (schedule_of g d.archi t) ≡ true
+schedules_are_tight g text d t valid describes lasts =
+    let made = table g.vertices (length d.archi.operators) d.durations in
+    let none = none_missing (missing d.durations g.vertices) made t lasts in
+    let archi = described_are text d describes in
+    subst (λ (x : Table). is_tight g (schedule_of g d.archi x) ≡ true) none.1
+    (runs_are_tight (task g d.archi (table_of d.archi) made)
     (tasks_are_given g d.archi (table_of d.archi) d.durations valid archi.0 (routes_are_least d.archi archi.0) (durations.accepted text d describes) none.0))

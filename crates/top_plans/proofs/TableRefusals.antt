@@ -1,7 +1,5 @@
 -- What a table is refused for is never want of memory.
-use Rattle.std.proofs.Common.{ℕ, suc, Bool, List, [], ◌∷◌, Result, Ok, Err}
-use Rattle.std.specs.Prelude.{if◌then◌else◌}
-use Rattle.syn_base.specs.Rows.{Reactions}
+use Rattle.std.proofs.Common.{ℕ, suc, List, [], ◌∷◌, Result, Ok, Err}
 use Rattle.algo_tree.specs.Tree.{Vertex}
 use Rattle.algo_tree.specs.Ends.{sensor_lengths}
 use Rattle.syn_base.specs.declared.limits.LimitFault.{LimitFault}
@@ -9,7 +7,7 @@ use Rattle.sensor_table.specs.declared.fault.SensorCause.{SensorCause}
 use Rattle.sensor_table.specs.declared.fault.SensorFault.{SensorFault}
 use Rattle.sensor_table.specs.declared.fault.SensorError.{SensorError}
 use Rattle.sensor_table.specs.declared.fault.SensorError.TheVariants.{Refused, Limit, OutOfMemory}
-use Rattle.sensor_table.specs.SensorTable.{Record, Row, refused, with_value, with_error, before, row_in, row_of, rows_from, reactions_of, rows_of}
+use Rattle.sensor_table.specs.SensorTable.{Record, refused, with_value, with_error, before, row_in, row_of, rows_from, rows_of}
 use Rattle.top_plans.proofs.Only.{Only, ok, either}
 
 abbrev pub Stays : SensorError → Type 0

@@ -1,6 +1,6 @@
 -- What a text of an algorithm is refused for is never want of memory.
-use Rattle.std.proofs.Common.{ℕ, suc, ◌+◌, Bool, true, false, List, [], ◌∷◌, length, take, drop, Option, Some, None, Result, Ok, Err, ℤ}
-use Rattle.std.specs.Prelude.{if◌then◌else◌, position}
+use Rattle.std.proofs.Common.{ℕ, suc, ◌+◌, Bool, List, [], ◌∷◌, length, take, drop, Option, Some, None, Result, Ok, Err, ℤ}
+use Rattle.std.specs.Prelude.{position}
 use Rattle.syn_base.specs.Bytes.{Bytes}
 use Rattle.syn_base.specs.declared.limits.LimitFault.{LimitFault}
 use Rattle.syn_base.specs.declared.limits.LimitKind.{LimitKind}
@@ -18,7 +18,7 @@ use Rattle.algo_text.specs.declared.fault.AlgoError.{AlgoError}
 use Rattle.algo_text.specs.declared.fault.AlgoError.TheVariants.{Refused, Limit, TooLarge, OutOfMemory}
 use Rattle.algo_text.specs.declared.fault.AlgoCause.{AlgoCause}
 use Rattle.algo_text.specs.Formulas.{known_by, read_by, formula_of}
-use Rattle.algo_text.specs.Blocks.{Block, refused, above, with_some, and_then, all_names, port_line, with_in, in_line, with_out, out_line, with_result, result_words, is_equals, result_at, result_line, reference_of, with_reference, plain_line, marked_line, reference_line, edge_line, on_line, case_line, otherwise_line, with_frontier, fork_line, diffuse_line, iterate_line, join_line}
+use Rattle.algo_text.specs.Blocks.{Block, refused, above, with_some, and_then, all_names, port_line, in_line, out_line, result_words, is_equals, result_at, result_line, reference_of, with_reference, plain_line, marked_line, reference_line, edge_line, on_line, case_line, otherwise_line, with_frontier, fork_line, diffuse_line, iterate_line, join_line}
 use Rattle.algo_text.specs.Text.{Stage, before_version, between, in_function, in_graph, in_switch, in_repeat, Reading, version_line, defined, end_line, numbers_of, values_line, deep_delay, deep_line, delay_line, opened, opening_line, repeat_line, between_line, in_block, block_end, function_line, graph_line, switch_line, frontier_line, by_stage, line_by, next_line, at_end, defs_in, rest_of, start, definitions_of}
 use Rattle.top_plans.proofs.Only.{Only, ok, either}
 

@@ -1,5 +1,5 @@
 -- What is accepted runs true.
-use Rattle.std.proofs.Common.{◌≡◌, ℕ, zero, suc, cond, List, [], ◌∷◌, ◌++◌, length, map, Option, Some, None, refl, sym, ap, subst, ◌∙◌, add-one, zero-add}
+use Rattle.std.proofs.Common.{◌≡◌, ℕ, zero, suc, cond, List, [], ◌∷◌, ◌++◌, length, map, Option, Some, None, codes, refl, sym, ap, subst, ◌∙◌, add-one, zero-add}
 use Rattle.std.specs.Prelude.{nat_lt, slice_index_or, option_map}
 use Rattle.std.specs.List.{range_with_len}
 use Rattle.std.proofs.lemmas.List.{map-append}
@@ -20,6 +20,7 @@ use Rattle.sequence_build_laws.specs.Built.{order_of}
 use Rattle.sequence_build_laws.proofs.Whole.{built_are_well_formed}
 use Rattle.executive_program.specs.declared.program.Program.{Program}
 use Rattle.executive_program.specs.WellFormed.{IsWellFormed}
+use Rattle.macro_code.specs.Text.{macro_code}
 use Rattle.semaphore_core.specs.Core.{run, count}
 use Rattle.semaphore_core.specs.Told.{done_in}
 use Rattle.phase_laws.specs.Values.{IsSupplied}
@@ -36,11 +37,13 @@ use Rattle.check_laws.proofs.Whole.{no_cause_is_well_formed}
 use Rattle.check_cause.specs.declared.cause.CheckCause.{CheckCause}
 use Rattle.command_words.specs.Command.{Command, check, sim, flat, chart, code, run as runs, load, exec, dates}
 use Rattle.top_plans.specs.Given.{Given, written, printed, executed, summed, Execution, one_job}
-use Rattle.top_plans.specs.Plans.{plan_for, schedule_of}
+use Rattle.top_plans.specs.Plans.{head, schedule_of, sum_of, summary_with}
 use Rattle.top_plans.specs.Checks.{told}
-use Rattle.top_plans.specs.Meaning.{RunsTrue, RunsAsTold, IsAlgorithmOf, SimulatesTrue, MakesTrue, AcceptedRunTrue}
+use Rattle.top_plans.specs.Meaning.{RunsTrue, RunsAsTold, IsAlgorithmOf, IsTableOf, PrintsCode, SimulatesTrue, MakesTrue, AcceptedRunTrue}
 use Rattle.top_plans.proofs.Schedules.{schedules_are_valid}
-use Rattle.top_plans.proofs.Walk.{Comes, built, checked, IsAccepted, IsSimulated, Leaf}
+use Rattle.top_plans.specs.Texts.{IsCode}
+use Rattle.top_plans.proofs.Texts.{is_code, checks_algorithm, checks_both, lists_true, charts_true, codes_true, dates_true}
+use Rattle.top_plans.proofs.Walk.{Comes, built, checked, IsAccepted, IsBuilt, IsSimulated, Leaf}
 use Rattle.top_plans.proofs.Commands.{IsTold, told_gives}
 
 same_numbers : {A : Type 0} (f : ℕ → A) (n : ℕ) → map f (range_with_len 0 n) ≡ map f (numbers_below n)
@@ -86,7 +89,7 @@ module _ (e : Execution) (a : IsAccepted e) where
   formed = subst (λ b. IsFormed b e.program) (sym a.stands) (formed_by a.comes)
 
   supplied : IsSupplied (one_job e)
-  supplied = let rows = tables_fit e.main a.table e.rows a.tells in record {
+  supplied = let rows = tables_fit e.main (records default_config (strip_bom a.table)) e.rows a.tells in record {
     seqs = sequences e.architecture;
     order = formed.0;
     formed = formed.1;
@@ -122,6 +125,20 @@ module _ (runs_end : RunsEnd) (runs_take_rows : RunsTakeRows) (windows_make : Wi
         windows = λ from count l. windows_make (one_job e) s from count l;
       }
 
+  -- what a run prints first is the code of what it executes
+  prints_code : (e : Execution) (a : IsAccepted e) → IsBuilt a.described e → (front : Bytes) → front ≡ head e → PrintsCode front e
+  prints_code e a by front is =
+      let d = a.described in
+      let g = flat_of e.main in
+      let coded = is_code a.lines g d by.table (has e a).valid a.describes by.lasts by.within in
+      record {
+        code = macro_code e.program g d.archi;
+        described = d;
+        stands = a.stands;
+        is = subst (λ (p : Program). IsCode g d p (macro_code p g d.archi)) (sym by.made) coded;
+        front = is ∙ ap (λ (b : Archi). macro_code e.program g b ++ codes "\n") a.stands;
+      }
+
   -- a simulation of texts that are told
   simulates : (told : Bytes → Option Bytes) (a s output : Bytes) → IsSimulated (IsTold told) a s output → SimulatesTrue told a s output
   simulates told a s output is =
@@ -139,25 +156,40 @@ module _ (runs_end : RunsEnd) (runs_take_rows : RunsTakeRows) (windows_make : Wi
             (same_map (act_row is.main rows) (act_row_at by.0.marks by.0.main rows) (by.1.takes rows) (numbers_below (length rows)) i));
       }
 
-  runs_as : (told : Bytes → Option Bytes) (command : Command) (e : Execution) (a : IsAccepted e) → IsAlgorithmOf told command a.text → RunsAsTold told command e
-  runs_as told command e a is = record { text = a.text; is_told = is; runs = runs_true e a }
+  runs_as : (told : Bytes → Option Bytes) (command : Command) (e : Execution) (a : IsAccepted e) → IsAlgorithmOf told command a.text → IsTableOf told command a.table → RunsAsTold told command e
+  unfolding runs_true
+  runs_as told command e a is listed =
+      let by = accepted_do_as_told a.text a.defs e.main a.says a.resolves in
+      record {
+        text = a.text;
+        is_told = is;
+        runs = runs_true e a;
+        table = a.table;
+        table_told = listed;
+        reads = sym (by.1.tables (records default_config (strip_bom a.table))) ∙ a.tells;
+      }
 
   true_leaf : (told : Bytes → Option Bytes) (command : Command) (g : Given) → Leaf (IsTold told) command g → MakesTrue told (Some command) g
   true_leaf told (sim a s) (written t) l = simulates told a s t l
-  true_leaf told (check a h) (written t) l = tt
-  true_leaf told (flat a) (written t) l = tt
-  true_leaf told (chart a h) (written t) l = tt
-  true_leaf told (code a h) (written t) l = tt
-  true_leaf told (dates a h r n) (written t) l = tt
+  true_leaf told (check a None) (written t) l = checks_algorithm told a t l
+  true_leaf told (check a (Some h)) (written t) l = checks_both told a h t l
+  true_leaf told (flat a) (written t) l = lists_true told a t l
+  true_leaf told (chart a h) (written t) l = charts_true told a h t l
+  true_leaf told (code a h) (written t) l = codes_true told a h t l.0 l.1
+  true_leaf told (dates a h r n) (written t) l = dates_true told a h r n t l
   true_leaf told (runs a h s w) (written t) l = absurd l
   true_leaf told (load n) (written t) l = absurd l
   true_leaf told (exec a h c s w) (written t) l = absurd l
-  true_leaf told (runs a h s w) (printed t e) l = runs_as told (runs a h s w) e l.0 l.1
-  true_leaf told (load n) (summed e t) l = runs_as told (load n) e l.0 l.1
-  true_leaf told (exec a h c s w) (executed e) l = runs_as told (exec a h c s w) e l.0 l.1
-  true_leaf told (check a h) (printed t e) l = absurd l
-  true_leaf told (check a h) (executed e) l = absurd l
-  true_leaf told (check a h) (summed e t) l = absurd l
+  true_leaf told (runs a h s w) (printed t e) l = (runs_as told (runs a h s w) e l.is l.text_told l.table_told, prints_code e l.is l.by t l.first)
+  true_leaf told (load n) (summed e t) l =
+      let ran = runs_as told (load n) e l.0 l.1 l.2 in (ran, l.3 ∙ ap (λ acts. summary_with e (sum_of acts)) ran.runs.acts)
+  true_leaf told (exec a h c s w) (executed e) l = runs_as told (exec a h c s w) e l.0 l.1 l.2
+  true_leaf told (check a None) (printed t e) l = absurd l
+  true_leaf told (check a None) (executed e) l = absurd l
+  true_leaf told (check a None) (summed e t) l = absurd l
+  true_leaf told (check a (Some h)) (printed t e) l = absurd l
+  true_leaf told (check a (Some h)) (executed e) l = absurd l
+  true_leaf told (check a (Some h)) (summed e t) l = absurd l
   true_leaf told (sim a h) (printed t e) l = absurd l
   true_leaf told (sim a h) (executed e) l = absurd l
   true_leaf told (sim a h) (summed e t) l = absurd l

@@ -23,12 +23,14 @@ use Rattle.actual_defs.specs.declared.fault.ActualError.TheVariants as actual
 use Rattle.actual_durations.specs.Actual.{actual_of}
 use Rattle.dates_text.specs.Listing.{dates_text}
 use Rattle.elaboration.specs.Elaborated.{elaboration_of}
+use Rattle.algo_print.specs.Canonical.{canonical_text}
 use Rattle.algo_tree.specs.Tree.{Vertex}
 use Rattle.archi_graph.specs.Archi.{Architecture as Archi}
 use Rattle.archi_defs.specs.Text.{Described, description_of}
 use Rattle.durations.specs.Table.{Table, durations_of}
 use Rattle.flat_graph.specs.Graph.{Graph}
 use Rattle.flat_laws.specs.FlatOf.{flat_of}
+use Rattle.flat_text.specs.Listing.{listing}
 use Rattle.sensor_table.specs.SensorTable.{rows_of}
 use Rattle.executive_program.specs.declared.program.Program.{Program}
 use Rattle.macro_code.specs.Text.{macro_code}
@@ -39,7 +41,7 @@ use Rattle.command_status.specs.Status.{Refusal, above, failed_check, of_algorit
 use Rattle.command_words.specs.Command.{Command, check, sim, flat, chart, code, run, load, exec, dates}
 use Rattle.top_plans.specs.Names.{names_for}
 use Rattle.top_plans.specs.Given.{Given, written, printed, executed, summed, Execution, one_job, output_of}
-use Rattle.top_plans.specs.Plans.{Made, read_file, unless, unless_lacking, algorithm_in, described_in, architecture_in, table_in, code_in, durations_in, program_plan, program_by, schedule_of, rows_plan, excess, execution, execution_plan, head, summary, load_plan, plan_for}
+use Rattle.top_plans.specs.Plans.{Made, both_texts, chart_of, read_file, unless, unless_lacking, algorithm_in, described_in, architecture_in, table_in, code_in, durations_in, program_plan, program_by, schedule_of, rows_plan, excess, execution, execution_plan, head, summary, load_plan, plan_for}
 use Rattle.top_plans.specs.Loads.{load_algorithm, load_architecture, load_table}
 use Rattle.top_plans.specs.Checks.{lacking}
 use Rattle.top_plans.proofs.Only.{Only}
@@ -66,8 +68,8 @@ pub record IsAccepted (e : Execution) : Type 0 where
   pub describes : description_of lines ≡ Ok described
   pub stands : e.architecture ≡ described.archi
   pub comes : Comes described e
-  pub table : List (List (List ℕ))
-  pub tells : rows_of e.main table ≡ Ok e.rows
+  pub table : Bytes
+  pub tells : rows_of e.main (records default_config (strip_bom table)) ≡ Ok e.rows
   pub limit : limit_of (one_job e) ≡ None
 
 -- what a simulation comes to write, of texts that are told
@@ -84,17 +86,82 @@ pub record IsSimulated (Told : Bytes → Bytes → Type 0) (a s output : Bytes) 
   pub tells : rows_of main (records default_config (strip_bom table)) ≡ Ok rows
   pub lines : output ≡ output_of main rows.reactions
 
+-- an algorithm that was read and accepted
+pub record IsRead (Told : Bytes → Bytes → Type 0) (a : Bytes) (defs : Defs) (main : Vertex) : Type 0 where
+  pub text : Bytes
+  pub text_told : Told a text
+  pub says : definitions_of text ≡ Ok defs
+  pub resolves : elaboration_of defs ≡ Ok main
+
+-- an architecture that was read and accepted for it
+pub record IsPlaced (Told : Bytes → Bytes → Type 0) (h : Bytes) (main : Vertex) (d : Described) (t : Table) : Type 0 where
+  pub lines : Bytes
+  pub lines_told : Told h lines
+  pub describes : description_of lines ≡ Ok d
+  pub lasts : durations_of (flat_of main) d ≡ Ok t
+
+-- what is written of an algorithm
+pub record Writes (Told : Bytes → Bytes → Type 0) (a : Bytes) (makes : Defs → Vertex → Bytes) (output : Bytes) : Type 0 where
+  pub defs : Defs
+  pub main : Vertex
+  pub read : IsRead Told a defs main
+  pub is : output ≡ makes defs main
+
+-- what is written of an algorithm on an architecture
+pub record WritesOn (Told : Bytes → Bytes → Type 0) (a h : Bytes) (makes : Defs → Vertex → Described → Table → Bytes) (output : Bytes) : Type 0 where
+  pub defs : Defs
+  pub main : Vertex
+  pub described : Described
+  pub table : Table
+  pub read : IsRead Told a defs main
+  pub placed : IsPlaced Told h main described table
+  pub is : output ≡ makes defs main described table
+
+-- the program of the pressure run is within its limits
+abbrev pub IsWithin : Vertex → Described → Table → Type 0
+IsWithin main d t = program_limit (program_by (flat_of main) d.archi t) (length d.archi.media) ≡ None
+
+abbrev pub code_by : Defs → Vertex → Described → Table → Bytes
+code_by defs main d t = macro_code (program_by (flat_of main) d.archi t) (flat_of main) d.archi
+
+abbrev pub dates_by : List ℕ → ℕ → Defs → Vertex → Described → Table → Bytes
+dates_by ticks n defs main d t = dates_text (flat_of main) d.archi (schedule_of (flat_of main) d.archi t) ticks n
+
+-- what is written of the durations that really occur
+pub record WritesDates (Told : Bytes → Bytes → Type 0) (a h g : Bytes) (n : ℕ) (output : Bytes) : Type 0 where
+  pub real : Bytes
+  pub real_told : Told g real
+  pub ticks : List ℕ
+  pub on : WritesOn Told a h (dates_by ticks n) output
+  pub lasts : actual_of (flat_of on.main) on.described.archi on.table (schedule_of (flat_of on.main) on.described.archi on.table) real ≡ Ok ticks
+
+-- the program of an execution is that of the pressure run
+pub record IsBuilt (d : Described) (e : Execution) : Type 0 where
+  pub table : Table
+  pub lasts : durations_of (flat_of e.main) d ≡ Ok table
+  pub made : e.program ≡ program_by (flat_of e.main) d.archi table
+  pub within : IsWithin e.main d table
+
+-- what a run may come to print
+pub record Runs (Told : Bytes → Bytes → Type 0) (a s front : Bytes) (e : Execution) : Type 0 where
+  pub is : IsAccepted e
+  pub text_told : Told a is.text
+  pub table_told : Told s is.table
+  pub by : IsBuilt is.described e
+  pub first : front ≡ head e
+
 -- what a command may come to give, where each text that was read is told under the name of its file
 abbrev pub Leaf : (Bytes → Bytes → Type 0) → Command → Given → Type 0
-Leaf Told (check a h) (written t) = Unit {0}
+Leaf Told (check a None) (written t) = Writes Told a (λ defs main. canonical_text defs) t
+Leaf Told (check a (Some h)) (written t) = WritesOn Told a h (λ defs main d l. both_texts defs d) t
 Leaf Told (sim a s) (written t) = IsSimulated Told a s t
-Leaf Told (flat a) (written t) = Unit {0}
-Leaf Told (chart a h) (written t) = Unit {0}
-Leaf Told (code a h) (written t) = Unit {0}
-Leaf Told (run a h s workers) (printed t e) = (is : IsAccepted e) × Told a is.text
-Leaf Told (load n) (summed e t) = (is : IsAccepted e) × (is.text ≡ load_algorithm n)
-Leaf Told (exec a h c s workers) (executed e) = (is : IsAccepted e) × Told a is.text
-Leaf Told (dates a h g n) (written t) = Unit {0}
+Leaf Told (flat a) (written t) = Writes Told a (λ defs main. listing (flat_of main)) t
+Leaf Told (chart a h) (written t) = WritesOn Told a h (λ defs main d l. chart_of (flat_of main) d l) t
+Leaf Told (code a h) (written t) = (x : WritesOn Told a h code_by t) × IsWithin x.main x.described x.table
+Leaf Told (run a h s workers) (printed t e) = Runs Told a s t e
+Leaf Told (load n) (summed e t) = (is : IsAccepted e) × (is.text ≡ load_algorithm n) × (is.table ≡ load_table n) × (t ≡ summary e)
+Leaf Told (exec a h c s workers) (executed e) = (is : IsAccepted e) × Told a is.text × Told s is.table
+Leaf Told (dates a h g n) (written t) = WritesDates Told a h g n t
 Leaf Told _ _ = ⊥
 
 -- no part refuses as words that are no command, nor for want of memory
@@ -158,8 +225,8 @@ module _ (Told : Bytes → Bytes → Type 0) (Q : Made → Type 0) (refused : (r
   rows_so : (main : Vertex) (rows : Reactions) → Q (give (written (output_of main rows.reactions))) → Q (rows_plan main rows)
   rows_so main rows h = unless_within (excess _) _ (λ n. h)
 
-  program_so : (g : Graph) (a : Archi) (t : Table) (next : Program → Made) → Q (next (program_by g a t)) → Q (program_plan g a t next)
-  program_so g a t next h = unless_within (program_limit (program_by g a t) (length a.media)) (next (program_by g a t)) (λ n. h)
+  program_so : (g : Graph) (a : Archi) (t : Table) (next : Program → Made) → (program_limit (program_by g a t) (length a.media) ≡ None → Q (next (program_by g a t))) → Q (program_plan g a t next)
+  program_so g a t next h = unless_within (program_limit (program_by g a t) (length a.media)) (next (program_by g a t)) h
 
   unless_none : (o : Option CheckCause) (next : Made) → (o ≡ None → Q next) → Q (unless_lacking o next)
   unless_none (Some cause) next h = refused (failed_check cause) (record { no_usage = λ q. cc; no_want = λ q. cc })
@@ -171,16 +238,16 @@ module _ (Told : Bytes → Bytes → Type 0) (Q : Made → Type 0) (refused : (r
   code_so : (text : Bytes) (g : Graph) (a : Archi) (next : Program → Made) → ((p : Program) → lacking g a p ≡ None → Q (next p)) → Q (code_in text g a next)
   code_so text g a next h = after_so of_code told_code (program_in text g a) (codes.program_safe text g a) (λ p. unless_lacking (lacking g a p) (next p)) (λ p q. unless_none (lacking g a p) (next p) (h p))
 
-  durations_so : (text : Bytes) (g : Graph) (a : Archi) (t : Table) (next : List ℕ → Made) → ((ticks : List ℕ) → Q (next ticks)) → Q (durations_in text g a t next)
-  durations_so text g a t next h = after_so of_durations told_durations (actual_of g a t (schedule_of g a t) text) (durations.actual_safe g a t (schedule_of g a t) text) next (λ ticks q. h ticks)
+  durations_so : (text : Bytes) (g : Graph) (a : Archi) (t : Table) (next : List ℕ → Made) → ((ticks : List ℕ) → actual_of g a t (schedule_of g a t) text ≡ Ok ticks → Q (next ticks)) → Q (durations_in text g a t next)
+  durations_so text g a t next h = after_so of_durations told_durations (actual_of g a t (schedule_of g a t) text) (durations.actual_safe g a t (schedule_of g a t) text) next h
 
   -- an execution of the program that the pressure run gives
   execution_so : (text : Bytes) (defs : Defs) (main : Vertex) (lines : Bytes) (d : Described) (t : Table) (table : Bytes) (rows : Reactions) (what : Execution → Given)
       → definitions_of text ≡ Ok defs → elaboration_of defs ≡ Ok main → description_of lines ≡ Ok d → durations_of (flat_of main) d ≡ Ok t → rows_of main (records default_config (strip_bom table)) ≡ Ok rows
-      → ((e : Execution) (is : IsAccepted e) → is.text ≡ text → Q (give (what e))) → Q (program_plan (flat_of main) d.archi t (λ p. execution_plan (execution main d.archi p rows) what))
+      → ((e : Execution) (is : IsAccepted e) → is.text ≡ text → is.table ≡ table → IsBuilt is.described e → Q (give (what e))) → Q (program_plan (flat_of main) d.archi t (λ p. execution_plan (execution main d.archi p rows) what))
   execution_so text defs main lines d t table rows what says resolves describes lasts tells h =
       let e = execution main d.archi (program_by (flat_of main) d.archi t) rows in
-      program_so (flat_of main) d.archi t (λ p. execution_plan (execution main d.archi p rows) what) (unless_within (limit_of (one_job e)) (give (what e)) (λ n. h e (record {
+      program_so (flat_of main) d.archi t (λ p. execution_plan (execution main d.archi p rows) what) (λ within. unless_within (limit_of (one_job e)) (give (what e)) (λ n. h e (record {
         text = text;
         defs = defs;
         says = says;
@@ -190,15 +257,15 @@ module _ (Told : Bytes → Bytes → Type 0) (Q : Made → Type 0) (refused : (r
         describes = describes;
         stands = refl;
         comes = built t lasts refl;
-        table = records default_config (strip_bom table);
+        table = table;
         tells = tells;
         limit = n;
-      }) refl))
+      }) refl refl (record { table = t; lasts = lasts; made = refl; within = within })))
 
   -- an execution of a program that was checked
   checked_so : (text : Bytes) (defs : Defs) (main : Vertex) (lines : Bytes) (d : Described) (p : Program) (table : Bytes) (rows : Reactions)
       → definitions_of text ≡ Ok defs → elaboration_of defs ≡ Ok main → description_of lines ≡ Ok d → lacking (flat_of main) d.archi p ≡ None → rows_of main (records default_config (strip_bom table)) ≡ Ok rows
-      → ((e : Execution) (is : IsAccepted e) → is.text ≡ text → Q (give (executed e))) → Q (execution_plan (execution main d.archi p rows) executed)
+      → ((e : Execution) (is : IsAccepted e) → is.text ≡ text → is.table ≡ table → Q (give (executed e))) → Q (execution_plan (execution main d.archi p rows) executed)
   checked_so text defs main lines d p table rows says resolves describes whole tells h =
       let e = execution main d.archi p rows in
       unless_within (limit_of (one_job e)) (give (executed e)) (λ n. h e (record {
@@ -211,16 +278,39 @@ module _ (Told : Bytes → Bytes → Type 0) (Q : Made → Type 0) (refused : (r
         describes = describes;
         stands = refl;
         comes = checked whole;
-        table = records default_config (strip_bom table);
+        table = table;
         tells = tells;
         limit = n;
-      }) refl)
+      }) refl refl)
 
   -- a load, whatever its texts are
-  load_so : (a h s : Bytes) → ((e : Execution) (is : IsAccepted e) → is.text ≡ a → Q (give (summed e (summary e))))
+  load_so : (a h s : Bytes) → ((e : Execution) (is : IsAccepted e) → is.text ≡ a → is.table ≡ s → Q (give (summed e (summary e))))
       → Q (load_plan a h s)
   load_so a h s gives = algorithm_so a _ (λ defs main p q. architecture_so h main _ (λ d t u v. table_so main s _ (λ rows r.
-      execution_so a defs main h d t s rows (λ e. summed e (summary e)) p q u v r gives)))
+      execution_so a defs main h d t s rows (λ e. summed e (summary e)) p q u v r (λ e is same listed by. gives e is same listed))))
+
+  -- what was read and accepted on the way to what is written
+  wrote : (a : Bytes) (makes : Defs → Vertex → Bytes) (text : Bytes) (defs : Defs) (main : Vertex) → Told a text → definitions_of text ≡ Ok defs → elaboration_of defs ≡ Ok main
+      → Writes Told a makes (makes defs main)
+  wrote a makes text defs main at p q = record {
+    defs = defs;
+    main = main;
+    read = record { text = text; text_told = at; says = p; resolves = q };
+    is = refl;
+  }
+
+  wrote_on : (a h : Bytes) (makes : Defs → Vertex → Described → Table → Bytes) (text lines : Bytes) (defs : Defs) (main : Vertex) (d : Described) (t : Table)
+      → Told a text → definitions_of text ≡ Ok defs → elaboration_of defs ≡ Ok main → Told h lines → description_of lines ≡ Ok d → durations_of (flat_of main) d ≡ Ok t
+      → WritesOn Told a h makes (makes defs main d t)
+  wrote_on a h makes text lines defs main d t at p q to u v = record {
+    defs = defs;
+    main = main;
+    described = d;
+    table = t;
+    read = record { text = text; text_told = at; says = p; resolves = q };
+    placed = record { lines = lines; lines_told = to; describes = u; lasts = v };
+    is = refl;
+  }
 
   abbrev Reads : (File → Option Bytes) → Type 0
   Reads names = (file : File) (name : Bytes) (next : Bytes → Made) → names file ≡ Some name
@@ -228,9 +318,10 @@ module _ (Told : Bytes → Bytes → Type 0) (Q : Made → Type 0) (refused : (r
 
   -- the plan of each command
   pub walk : (command : Command) → Reads (names_for command) → ((g : Given) → Leaf Told command g → Q (give g)) → Q (plan_for command)
-  walk (check a None) reads gives = reads Algorithm a _ refl (λ text at. algorithm_so text _ (λ defs main p q. gives _ tt))
+  unfolding wrote_on
+  walk (check a None) reads gives = reads Algorithm a _ refl (λ text at. algorithm_so text _ (λ defs main p q. gives _ (wrote a (λ defs main. canonical_text defs) text defs main at p q)))
   walk (check a (Some h)) reads gives = reads Algorithm a _ refl (λ text at. algorithm_so text _ (λ defs main p q.
-      reads Architecture h _ refl (λ lines to. architecture_so lines main _ (λ d t u v. gives _ tt))))
+      reads Architecture h _ refl (λ lines to. architecture_so lines main _ (λ d t u v. gives _ (wrote_on a h (λ defs main d t. both_texts defs d) text lines defs main d t at p q to u v)))))
   walk (sim a s) reads gives = reads Algorithm a _ refl (λ text at. algorithm_so text _ (λ defs main p q.
       reads Sensors s _ refl (λ table on. table_so main table _ (λ rows r. rows_so main rows (gives (written (output_of main rows.reactions)) (record {
         text = text;
@@ -245,25 +336,39 @@ module _ (Told : Bytes → Bytes → Type 0) (Q : Made → Type 0) (refused : (r
         tells = r;
         lines = refl;
       }))))))
-  walk (flat a) reads gives = reads Algorithm a _ refl (λ text at. algorithm_so text _ (λ defs main p q. gives _ tt))
+  walk (flat a) reads gives = reads Algorithm a _ refl (λ text at. algorithm_so text _ (λ defs main p q. gives _ (wrote a (λ defs main. listing (flat_of main)) text defs main at p q)))
   walk (chart a h) reads gives = reads Algorithm a _ refl (λ text at. algorithm_so text _ (λ defs main p q.
-      reads Architecture h _ refl (λ lines to. architecture_so lines main _ (λ d t u v. gives _ tt))))
+      reads Architecture h _ refl (λ lines to. architecture_so lines main _ (λ d t u v. gives _ (wrote_on a h (λ defs main d t. chart_of (flat_of main) d t) text lines defs main d t at p q to u v)))))
   walk (code a h) reads gives = reads Algorithm a _ refl (λ text at. algorithm_so text _ (λ defs main p q.
       reads Architecture h _ refl (λ lines to. architecture_so lines main _ (λ d t u v.
-      program_so (flat_of main) d.archi t (λ p. give (written (macro_code p (flat_of main) d.archi))) (gives _ tt)))))
+      program_so (flat_of main) d.archi t (λ p. give (written (macro_code p (flat_of main) d.archi)))
+      (λ within. gives _ (wrote_on a h code_by text lines defs main d t at p q to u v, within))))))
   walk (run a h s workers) reads gives = reads Algorithm a _ refl (λ text at. algorithm_so text _ (λ defs main p q.
       reads Architecture h _ refl (λ lines to. architecture_so lines main _ (λ d t u v.
       reads Sensors s _ refl (λ table on. table_so main table _ (λ rows r.
       execution_so text defs main lines d t table rows (λ e. printed (head e) e) p q u v r
-      (λ e is same. gives (printed (head e) e) (is, subst (λ x. Told a x) (sym same) at))))))))
-  walk (load n) reads gives = load_so (load_algorithm n) load_architecture (load_table n) (λ e is same. gives (summed e (summary e)) (is, same))
+      (λ e is same listed by. gives (printed (head e) e) (record {
+        is = is;
+        text_told = subst (λ x. Told a x) (sym same) at;
+        table_told = subst (λ x. Told s x) (sym listed) on;
+        by = by;
+        first = refl;
+      }))))))))
+  walk (load n) reads gives = load_so (load_algorithm n) load_architecture (load_table n) (λ e is same listed. gives (summed e (summary e)) (is, same, listed, refl))
   walk (exec a h c s workers) reads gives = reads Algorithm a _ refl (λ text at. algorithm_so text _ (λ defs main p q.
       reads Architecture h _ refl (λ lines to. described_so lines _ (λ d u.
       reads Code c _ refl (λ macros by. code_so macros (flat_of main) d.archi _ (λ program whole.
       reads Sensors s _ refl (λ table on. table_so main table _ (λ rows r.
       checked_so text defs main lines d program table rows p q u whole r
-      (λ e is same. gives (executed e) (is, subst (λ x. Told a x) (sym same) at))))))))))
+      (λ e is same listed. gives (executed e) (is, subst (λ x. Told a x) (sym same) at, subst (λ x. Told s x) (sym listed) on))))))))))
   walk (dates a h g n) reads gives = reads Algorithm a _ refl (λ text at. algorithm_so text _ (λ defs main p q.
       reads Architecture h _ refl (λ lines to. architecture_so lines main _ (λ d t u v.
-      reads Durations g _ refl (λ real by. durations_so real (flat_of main) d.archi t _ (λ ticks.
-      program_so (flat_of main) d.archi t (λ p. give (written (dates_text (flat_of main) d.archi (schedule_of (flat_of main) d.archi t) ticks n))) (gives _ tt)))))))
+      reads Durations g _ refl (λ real by. durations_so real (flat_of main) d.archi t _ (λ ticks l.
+      program_so (flat_of main) d.archi t (λ p. give (written (dates_text (flat_of main) d.archi (schedule_of (flat_of main) d.archi t) ticks n)))
+      (λ within. gives _ (record {
+        real = real;
+        real_told = by;
+        ticks = ticks;
+        on = wrote_on a h (dates_by ticks n) text lines defs main d t at p q to u v;
+        lasts = l;
+      }))))))))

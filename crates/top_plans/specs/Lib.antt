@@ -4,5 +4,7 @@ pub mod Loads
 pub mod Checks
 pub mod Plans
 pub mod Refusals
+pub mod Texts
 pub mod Meaning
 pub mod Replies
+pub mod Values

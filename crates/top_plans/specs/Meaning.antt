@@ -16,6 +16,7 @@ use Rattle.std.specs.Prelude.{
   Ok,
   slice_get,
   slice_index_or,
+  codes,
 }
 use Rattle.csv.specs.Reading.{default_config, records, strip_bom}
 use Rattle.syn_base.specs.Bytes.{Bytes}
@@ -28,6 +29,7 @@ use Rattle.flat_graph.specs.declared.vertex.Vertex as flat
 use Rattle.flat_graph.specs.declared.vertex.Kind.TheVariants.{Actuator}
 use Rattle.flat_graph.specs.Graph.{lens_of}
 use Rattle.flat_laws.specs.FlatOf.{flat_of}
+use Rattle.archi_defs.specs.Text.{Described}
 use Rattle.semaphore_core.specs.Core.{run, count, IsDone}
 use Rattle.semaphore_core.specs.Told.{done_in}
 use Rattle.semaphore_core.specs.IsJob.{limit_of}
@@ -61,8 +63,9 @@ use Rattle.command_words.specs.Command.{
   exec,
   dates,
 }
-use Rattle.top_plans.specs.Loads.{load_algorithm}
-use Rattle.top_plans.specs.Plans.{plan_for}
+use Rattle.top_plans.specs.Loads.{load_algorithm, load_table}
+use Rattle.top_plans.specs.Plans.{plan_for, summary_with, sum_of}
+use Rattle.top_plans.specs.Texts.{ChecksAlgorithm, ChecksBoth, ListsTrue, ChartsTrue, CodesTrue, DatesTrue, IsCode}
 
 -- the text that is written in windows is the whole output
 abbrev pub WindowsWriteTheOutput : Type 0
@@ -118,11 +121,23 @@ IsAlgorithmOf told (load n) text = text ≡ load_algorithm n
 IsAlgorithmOf told (exec a h c s workers) text = told a ≡ Some text
 IsAlgorithmOf told (dates a h g n) text = told a ≡ Some text
 
--- an execution is one of the text of the command's algorithm
+-- The text of a command's sensor table, where files are told: that of a load is made.
+abbrev pub IsTableOf : (Bytes → Option Bytes) → Command → Bytes → Type 0
+IsTableOf told (sim a s) table = told s ≡ Some table
+IsTableOf told (running a h s workers) table = told s ≡ Some table
+IsTableOf told (load n) table = table ≡ load_table n
+IsTableOf told (exec a h c s workers) table = told s ≡ Some table
+IsTableOf told _ table = ⊥
+
+-- An execution is one of the text of the command's algorithm, over the rows that the command's table has for the
+-- sensors of that text.
 pub record RunsAsTold (told : Bytes → Option Bytes) (command : Command) (e : Execution) : Type 0 where
   pub text : Bytes
   pub is_told : IsAlgorithmOf told command text
   pub runs : RunsTrue text e
+  pub table : Bytes
+  pub table_told : IsTableOf told command table
+  pub reads : rows_of runs.algorithm.main (records default_config (strip_bom table)) ≡ Ok e.rows
 
 -- What a simulation writes: what the actuators of the text take over the rows that the table says for its sensors.
 pub record SimulatesTrue (told : Bytes → Option Bytes) (a s output : Bytes) : Type 0 where
@@ -135,18 +150,43 @@ pub record SimulatesTrue (told : Bytes → Option Bytes) (a s output : Bytes) : 
   pub reads : rows_of algorithm.main (records default_config (strip_bom table)) ≡ Ok rows
   pub lines : output ≡ lines_taken algorithm.marks algorithm.main rows.reactions
 
--- a simulation writes what is true; of other texts that are written by themselves nothing more is said
+-- What a command writes by one call is right for what its files say.
 abbrev pub WritesTrue : (Bytes → Option Bytes) → Command → Bytes → Type 0
+WritesTrue told (check a None) text = ChecksAlgorithm told a text
+WritesTrue told (check a (Some h)) text = ChecksBoth told a h text
 WritesTrue told (sim a s) text = SimulatesTrue told a s text
-WritesTrue told _ text = Unit {0}
+WritesTrue told (flattening a) text = ListsTrue told a text
+WritesTrue told (chart a h) text = ChartsTrue told a h text
+WritesTrue told (code a h) text = CodesTrue told a h text
+WritesTrue told (dates a h g n) text = DatesTrue told a h g n text
+WritesTrue told (running a h s workers) text = ⊥
+WritesTrue told (load n) text = ⊥
+WritesTrue told (exec a h c s workers) text = ⊥
 
--- what a command makes; words that are no command make nothing
+-- What `run` writes first is the macro-code of the program that is executed, which is read as that program, and an
+-- empty line.
+pub record PrintsCode (text : Bytes) (e : Execution) : Type 0 where
+  pub code : Bytes
+  pub described : Described
+  pub stands : e.architecture ≡ described.archi
+  pub is : IsCode (flat_of e.main) described e.program code
+  pub front : text ≡ code ++ codes "\n"
+
+-- What `load` writes ends with the sum of all that the actuators of the text take, modulo 2^64.
+abbrev pub SumsTrue : (told : Bytes → Option Bytes) (command : Command) (e : Execution) → RunsAsTold told command e →
+    Bytes → Type 0
+SumsTrue told command e runs text =
+    text ≡ summary_with e (sum_of (taken runs.runs.algorithm.marks runs.runs.algorithm.main e.rows.reactions))
+
+-- What a command makes: a text that is right, or an execution that runs true, of which `run` prints the program before
+-- it, and `load` the sum. Words that are no command make nothing.
 abbrev pub MakesTrue : (Bytes → Option Bytes) → Option Command → Given → Type 0
 MakesTrue told None given = ⊥
 MakesTrue told (Some command) (written text) = WritesTrue told command text
-MakesTrue told (Some command) (printed text e) = RunsAsTold told command e
+MakesTrue told (Some command) (printed text e) = RunsAsTold told command e × PrintsCode text e
 MakesTrue told (Some command) (executed e) = RunsAsTold told command e
-MakesTrue told (Some command) (summed e text) = RunsAsTold told command e
+MakesTrue told (Some command) (summed e text) =
+    (runs : RunsAsTold told command e) × SumsTrue told command e runs text
 
 -- Whatever a command comes to make of files that are told runs true.
 abbrev pub AcceptedRunTrue : Type 0

@@ -211,14 +211,18 @@ run_plan a h s =
 abbrev pub sum_of : List Values → ℤ
 sum_of acts = wrapped (total (flat_map all_joined acts))
 
--- the numbers of operations, sequences and micro-steps, and that sum
-abbrev pub summary : Execution → Bytes
-summary e = joined (
+-- The numbers of operations, of sequences and of micro-steps of an execution, and this sum.
+abbrev pub summary_with : Execution → ℤ → Bytes
+summary_with e sum = joined (
     codes "operations " ∷ decimal (length (flat_of e.main).vertices)
     ∷ codes "\nsequences " ∷ decimal (length (sequences e.architecture))
     ∷ codes "\nsteps " ∷ decimal (total_steps e.program (length e.rows.reactions))
-    ∷ codes "\nsum " ∷ signed_decimal (sum_of (acts_of e.main e.rows.reactions)) ∷ codes "\n" ∷ []
+    ∷ codes "\nsum " ∷ signed_decimal sum ∷ codes "\n" ∷ []
     )
+
+-- The same with the sum of all that is put out.
+abbrev pub summary : Execution → Bytes
+summary e = summary_with e (sum_of (acts_of e.main e.rows.reactions))
 
 -- go on where a program lacks nothing
 abbrev pub unless_lacking : Option CheckCause → Made → Made

@@ -1,5 +1,5 @@
 -- What no plan refuses for: want of memory is told by what is carried out, and never by what texts and words say.
-use Rattle.std.specs.Prelude.{◌≡◌, Option, Some, Result, Err}
+use Rattle.std.specs.Prelude.{◌≡◌, Option, Some, Err}
 use Rattle.syn_base.specs.Bytes.{Bytes}
 use Rattle.command_plan.specs.Plan.{outcome, RefusesOnly}
 use Rattle.command_status.specs.Status.{Refusal, wants_memory}

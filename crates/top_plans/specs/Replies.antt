@@ -1,5 +1,5 @@
 -- What the public calls answer.
-use Rattle.std.specs.Prelude.{◌≡◌, ◌⊎◌, ◌++◌, ℕ, Option, Some, None, Result, Ok, IsOkAnd}
+use Rattle.std.specs.Prelude.{◌≡◌, ◌⊎◌, ◌++◌, ℕ, List, Option, Some, None, Result, Ok, IsOkAnd}
 use Rattle.syn_base.specs.Bytes.{Bytes}
 use Rattle.outside.specs.Faults.{Rose}
 use Rattle.outside.specs.Shelf.{Held}
@@ -10,13 +10,14 @@ use Rattle.command_plan.specs.Ending.{Ending, done, refused, unwritten, no_memor
 use Rattle.command_plan.specs.Run.{Ran}
 use Rattle.command_plan.specs.Answers.{Answers}
 use Rattle.command_status.specs.Status.{Refusal, usage}
-use Rattle.command_words.specs.Command.{Command, load}
+use Rattle.command_words.specs.Command.{Command, load, command_of}
 use Rattle.word_rule.specs.Driven.{Driven, driven_by}
 use Rattle.run_laws.specs.Windows.{window_jobs}
 use Rattle.top_plans.specs.Names.{names_of, RunsJobs, IsPlain}
 use Rattle.top_plans.specs.Given.{Given, written, printed, executed, summed, Execution, one_job, output_of, stages}
 use Rattle.top_plans.specs.Plans.{plan_of}
 use Rattle.top_plans.specs.Meaning.{MakesTrue}
+use Rattle.top_plans.specs.Values.{WritesValues}
 
 -- The ending is that of the plan which the words ask for, it is Usage only for words that are no command, and what
 -- all that is accepted makes runs true.
@@ -92,3 +93,10 @@ abbrev pub DoneRuns : Type 0
 DoneRuns = (command : Option Command) (held held' : Held) (sunk sunk' : Sunk) (driven driven' : Driven) (given : Given)
     → Replies command held held' sunk sunk' driven driven' done →
     outcome held.told (plan_of command) ≡ Some (Ok given) → IsMade given sunk sunk' driven driven'
+
+-- Done of any words: what they write is said of bytes alone.
+abbrev pub ValuesAreWritten : Type 0
+ValuesAreWritten =
+    (words : List Bytes) (held held' : Held) (sunk sunk' : Sunk) (driven driven' : Driven) →
+    Replies (command_of words) held held' sunk sunk' driven driven' done →
+    WritesValues held.told sunk.told sunk'.told words

@@ -5,7 +5,8 @@
 
 ghost use Rattle.top_plans.specs.Meaning.{AcceptedRunTrue, WindowsAreRun, WindowsWriteTheOutput};
 ghost use Rattle.top_plans.specs.Refusals.{NoOutcomeWantsMemory, NoPlanWantsMemory};
-ghost use Rattle.top_plans.specs.Replies.{CommandsReply, DoneRuns, LoadsKeep, PlainCommandsReply};
+ghost use Rattle.top_plans.specs.Replies.{CommandsReply, DoneRuns, LoadsKeep, PlainCommandsReply, ValuesAreWritten};
+ghost use Rattle.top_plans.specs.Values.{ReadingsAgree};
 
 use phase_laws::{runs_end, runs_take_rows, windows_make_the_run};
 
@@ -62,4 +63,16 @@ pub fn loads_keep()
 /// appended, and the windows of the one job over all rows were run.
 pub fn done_runs()
     ensures { DoneRuns }
+{}
+
+/// Done of `sim`, `run` and `exec`, said of bytes alone: if the texts of the files are told, the last lines that were
+/// appended are exactly those of what the actuators of the algorithm take, by its synchronous meaning, over the rows of
+/// the table.
+pub fn values_are_written()
+    ensures { ValuesAreWritten }
+{}
+
+/// The text of an algorithm and a table for it have one reading: whatever reads them, the lines are the same.
+pub fn readings_agree()
+    ensures { ReadingsAgree }
 {}

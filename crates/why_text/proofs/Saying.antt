@@ -19,7 +19,7 @@ use Rattle.macro_code.specs.declared.fault.CodeCause.TheVariants.{BadLine}
 use Rattle.check_places.specs.declared.place.Part.{Part}
 use Rattle.check_places.specs.declared.place.Part.TheVariants.{Loop, Prologue}
 use Rattle.check_places.specs.declared.place.Spot.{Spot}
-use Rattle.check_places.specs.Shown.{instructions}
+use Rattle.check_places.specs.Wrong.{instructions}
 use Rattle.why_text.specs.declared.lines.SequenceLines.{SequenceLines}
 use Rattle.why_text.specs.Lines.{Seen, head_at, line_by, line_or, lines_in, lines_of_part, nothing, seen, seen_from}
 use Rattle.why_text.specs.Said.{LinesSay, Says, read_of, spot}

@@ -36,7 +36,7 @@ use Rattle.macro_code.specs.ReadText.{
 use Rattle.check_places.specs.declared.place.Part.{Part}
 use Rattle.check_places.specs.declared.place.Part.TheVariants.{Loop, Prologue}
 use Rattle.check_places.specs.declared.place.Spot.{Spot}
-use Rattle.check_places.specs.Shown.{instructions}
+use Rattle.check_places.specs.Wrong.{instructions}
 use Rattle.why_text.specs.Lines.{line_at, lines_in}
 
 -- The spot of instruction i of this part of sequence s.

@@ -11,10 +11,10 @@ ghost use Rattle.command_plan.specs.Stage.{after_jobs, RunsSome};
 ghost use Rattle.run_laws.specs.Windows.{window_jobs};
 ghost use Rattle.word_rule.specs.Driven.{driven_by};
 ghost use Rattle.top_plans.specs.Given.{one_job, stages, summed};
-ghost use Rattle.top_plans.specs.Plans.{summary};
+ghost use Rattle.top_plans.specs.Plans.{summary, summary_with};
 ghost use Rattle.syndex_program.specs.Executes.{IsExecuted, executed, made_of};
 ghost use Rattle.syndex_program.specs.Left.{jobs_left};
-ghost use Rattle.syndex_program.specs.Sums.{AreFew, summary_with, total_left, total_of};
+ghost use Rattle.syndex_program.specs.Sums.{AreFew, total_left, total_of};
 
 use crate::commands::put_text;
 use crate::execution::Execution;

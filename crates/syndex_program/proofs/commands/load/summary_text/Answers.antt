@@ -18,10 +18,10 @@ use Rattle.syn_base.specs.Arithmetic.{wrapped}
 use Rattle.word_rule.specs.Driven.{Driven, driven_by}
 use Rattle.job_windows.specs.Windowed.{WindowsData}
 use Rattle.top_plans.specs.Given.{Execution, acts_of, one_job}
-use Rattle.top_plans.specs.Plans.{sum_of, summary}
+use Rattle.top_plans.specs.Plans.{sum_of, summary, summary_with}
 use Rattle.syndex_program.specs.Executes.{executed}
 use Rattle.syndex_program.specs.Left.{jobs_left}
-use Rattle.syndex_program.specs.Sums.{AreFew, summary_with, total_left, total_of}
+use Rattle.syndex_program.specs.Sums.{AreFew, total_left, total_of}
 use Rattle.syndex_program.proofs.Leaving.{all_jobs, few_acts, same_acts}
 use Rattle.syndex_program.proofs.commands.load.summary_text.Goals as goal
 

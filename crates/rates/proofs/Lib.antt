@@ -1,0 +1,10 @@
+pub mod Arced
+pub mod Sustained
+pub mod Cycles
+pub mod Charted
+pub mod Tested
+pub mod Walked
+pub mod Clocked
+pub mod Whole
+pub mod WorkedArcs
+pub mod WorkedRates
