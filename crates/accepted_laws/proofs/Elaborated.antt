@@ -1,10 +1,9 @@
 -- Marked references become graphs, in which each repetition still has the lines of a text.
 use Rattle.std.proofs.Common.{◌≡◌, ℕ, suc, List, [], ◌∷◌, ◌++◌, length, map, Option, Some, None, sym, subst, ◌∙◌, ap}
-use Rattle.level_meaning.specs.Level.{numbers_below}
-use Rattle.algo_tree.specs.Tree.{Label, Vertex, vertex, Vertices, no_vertices, and_vertex}
-use Rattle.algo_tree.specs.View.{vertices_of}
-use Rattle.algo_text.specs.declared.definition.Def.{Def}
-use Rattle.algo_rules.specs.Resolved.{tree_of, resolved_by}
+use Rattle.algo_laws.specs.Tree.{Label, Vertex, vertex, Vertices, no_vertices, and_vertex}
+use Rattle.algo_laws.specs.View.{vertices_of}
+use Rattle.algo_laws.specs.declared.Def.{Def}
+use Rattle.algo_laws.specs.Resolved.{tree_of, resolved_by}
 use Rattle.algo_laws.proofs.Lines.{accepted_well}
 use Rattle.multi_period.specs.declared.mark.Mark.{Mark}
 use Rattle.multi_period.specs.Marks.{mark_at}
@@ -14,6 +13,7 @@ use Rattle.elaboration.proofs.Resolved.{not_refused, same_tree}
 use Rattle.elaboration.proofs.Whole.{accepted_elaborated}
 use Rattle.accepted_laws.specs.TextLines.{IsVertexOfText, AreVerticesOfText, ElaboratedLinesStandInTextOrder}
 use Rattle.accepted_laws.proofs.Trees.{stand_in_order}
+use Rattle.syn_base.specs.Numbers.{numbers_below}
 
 module _ (ds : List Def) where
   -- the delays that keep outputs are no repetitions

@@ -2,16 +2,16 @@
 use Rattle.std.proofs.Common.{◌≡◌, ℕ, suc, ◌+◌, ◌*◌, Bool, true, false, not, cond, List, [], ◌∷◌, ◌++◌, length, map, refl, ap, ap₂, sym, subst, ◌∙◌, arith, append_assoc, length-append}
 use Rattle.std.specs.Str.{bytes_eq}
 use Rattle.std.specs.List.{flat_map, range_with_len}
-use Rattle.body_lang.specs.declared.expression.Port.{Port}
-use Rattle.algo_tree.specs.Well.{IsNewName, AreDistinctNames}
-use Rattle.algo_text.specs.declared.definition.Frontier.{Frontier}
-use Rattle.algo_text.specs.declared.definition.Frontier.TheVariants.{Fork, Diffuse, Iterate, Join}
-use Rattle.algo_text.specs.declared.definition.FrontierLine.{FrontierLine}
 use Rattle.syn_base.specs.Bytes.{Bytes}
-use Rattle.algo_rules.specs.Ports.{len_of, number_of, outer_ins}
-use Rattle.algo_rules.specs.WellRead.{port_names}
-use Rattle.algo_rules.specs.declared.ports.Ports.{Ports}
 use Rattle.flat_laws.specs.Lines.{outer_of}
+use Rattle.algo_laws.specs.declared.Port.{Port}
+use Rattle.algo_laws.specs.Well.{IsNewName, AreDistinctNames}
+use Rattle.algo_laws.specs.declared.Frontier.{Frontier}
+use Rattle.algo_laws.specs.declared.Frontier.TheVariants.{Fork, Diffuse, Iterate, Join}
+use Rattle.algo_laws.specs.declared.FrontierLine.{FrontierLine}
+use Rattle.algo_laws.specs.Ports.{len_of, number_of, outer_ins}
+use Rattle.algo_laws.specs.WellRead.{port_names}
+use Rattle.algo_laws.specs.declared.Ports.{Ports}
 use Rattle.algo_laws.proofs.Lengths.{turned, same_bytes}
 use Rattle.accepted_laws.specs.TextLines.{feeds_by, text_feeds}
 

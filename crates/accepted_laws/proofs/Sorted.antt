@@ -3,22 +3,22 @@ use Rattle.std.proofs.Common.{◌≡◌, ℕ, suc, ◌<◌, ◌≤◌, nat_le, B
 use Rattle.std.specs.Str.{bytes_eq}
 use Rattle.std.proofs.lemmas.Bool.{le-leb, lt-leb}
 use Rattle.std.proofs.lemmas.Slice.Eq.{bytes_eq-Decides}
-use Rattle.body_lang.specs.declared.expression.Port.{Port}
-use Rattle.level_meaning.specs.declared.frontier.Feed.{Feed}
-use Rattle.level_meaning.specs.declared.frontier.Feed.TheVariants as feed
-use Rattle.algo_tree.specs.Well.{IsNewName, AreDistinctNames}
-use Rattle.algo_text.specs.declared.definition.Frontier.{Frontier}
-use Rattle.algo_text.specs.declared.definition.Frontier.TheVariants.{Fork, Diffuse, Iterate, Join}
-use Rattle.algo_text.specs.declared.definition.FrontierLine.{FrontierLine}
 use Rattle.syn_base.specs.Bytes.{Bytes}
-use Rattle.algo_text.specs.Among.{is_among}
-use Rattle.algo_rules.specs.Ports.{has_port, len_of, number_of}
-use Rattle.algo_rules.specs.Frontiers.{used_by}
-use Rattle.algo_rules.specs.Resolved.{feed_by, first_feed, feed_of}
-use Rattle.algo_rules.specs.WellRead.{port_names}
-use Rattle.algo_rules.specs.declared.ports.Ports.{Ports}
 use Rattle.flat_laws.specs.Lines.{outer_of, put_line, in_line_order}
 use Rattle.flat_laws.proofs.Lines.{AllLines, all-lines}
+use Rattle.algo_laws.specs.declared.Port.{Port}
+use Rattle.algo_laws.specs.declared.Feed.{Feed}
+use Rattle.algo_laws.specs.declared.Feed.TheVariants as feed
+use Rattle.algo_laws.specs.Well.{IsNewName, AreDistinctNames}
+use Rattle.algo_laws.specs.declared.Frontier.{Frontier}
+use Rattle.algo_laws.specs.declared.Frontier.TheVariants.{Fork, Diffuse, Iterate, Join}
+use Rattle.algo_laws.specs.declared.FrontierLine.{FrontierLine}
+use Rattle.algo_laws.specs.Among.{is_among}
+use Rattle.algo_laws.specs.Ports.{has_port, len_of, number_of}
+use Rattle.algo_laws.specs.Frontiers.{used_by}
+use Rattle.algo_laws.specs.Resolved.{feed_by, first_feed, feed_of}
+use Rattle.algo_laws.specs.WellRead.{port_names}
+use Rattle.algo_laws.specs.declared.Ports.{Ports}
 use Rattle.algo_laws.proofs.Firsts.{Each}
 use Rattle.algo_laws.proofs.Lengths.{turned}
 use Rattle.algo_laws.proofs.Frontiers.{LinesFit, LineFits, IsFresh, AreFresh, uses_all, RepeatFits}

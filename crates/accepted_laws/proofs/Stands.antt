@@ -2,16 +2,16 @@
 use Rattle.std.proofs.Common.{◌≡◌, ℕ, zero, suc, ◌+◌, ◌≤◌, List, [], ◌∷◌, ◌++◌, map, length, Option, Some, None, refl, sym, ap, ap₂, ◌∙◌, subst, arith, zero-add, append_assoc, length-append}
 use Rattle.std.specs.Prelude.{slice_get, slice_index_or}
 use Rattle.std.proofs.lemmas.List.{get_or_at}
-use Rattle.body_lang.specs.Expr.{Expr}
-use Rattle.level_meaning.specs.declared.source.Source.{Source}
-use Rattle.level_meaning.specs.declared.source.Source.TheVariants.{Own, Of}
-use Rattle.level_meaning.specs.declared.source.Guard.{Guard}
-use Rattle.level_meaning.specs.Level.{Path, Vector}
-use Rattle.algo_tree.specs.Tree as tree
-use Rattle.algo_tree.specs.Tree.{Label, sensor, actuator, constant, delay, function, explode, implode, merge, graph, switch, repeat, vertex, Vertices, no_vertices, and_vertex}
-use Rattle.algo_tree.specs.Counted.{operations as count}
-use Rattle.algo_tree.specs.Typed.{AreLengths, AreGuardsTyped}
-use Rattle.algo_tree.specs.Valid.{IsTree}
+use Rattle.algo_laws.specs.Expr.{Expr}
+use Rattle.algo_laws.specs.declared.Source.{Source}
+use Rattle.algo_laws.specs.declared.Source.TheVariants.{Own, Of}
+use Rattle.algo_laws.specs.declared.Guard.{Guard}
+use Rattle.algo_laws.specs.Level.{Path}
+use Rattle.algo_laws.specs.Tree as tree
+use Rattle.algo_laws.specs.Tree.{Label, sensor, actuator, constant, delay, function, explode, implode, merge, graph, switch, repeat, vertex, Vertices, no_vertices, and_vertex}
+use Rattle.algo_laws.specs.Counted.{operations as count}
+use Rattle.algo_laws.specs.Typed.{AreLengths, AreGuardsTyped}
+use Rattle.algo_laws.specs.Valid.{IsTree}
 use Rattle.flat_graph.specs.declared.vertex.Vertex.{Vertex}
 use Rattle.flat_graph.specs.Graph.{with_vertex}
 use Rattle.flat_graph.specs.Meaning.{level_source, level_guard}
@@ -34,6 +34,7 @@ use Rattle.flat_laws.proofs.Fits.{AllFit, fit-main}
 use Rattle.flat_laws.proofs.Lengths.{Outs}
 use Rattle.flat_laws.proofs.Valid.{outs-from}
 use Rattle.accepted_laws.specs.Flat.{FlatOfStands, FlatTakesTheSame, TreesHaveFlat}
+use Rattle.syn_base.specs.Vectors.{Vector}
 
 -- A task that a vertex of a flat graph tells: no graph, switch, repetition or delay is run.
 abbrev IsSole : Task → Type 0

@@ -7,9 +7,9 @@ use Rattle.syn_base.specs.Integer.{integer_of}
 use Rattle.syn_base.specs.Limits.{bound_of}
 use Rattle.syn_base.specs.Rows.{Reactions, cut, AreCut}
 use Rattle.syn_base.specs.declared.limits.LimitKind.TheVariants as limit
-use Rattle.algo_tree.specs.Ends.{sensor_lengths}
 use Rattle.sensor_table.specs.declared.fault.SensorCause.TheVariants.{BadHeader, BadCount, BadIndex, BadNumber}
 use Rattle.sensor_table.specs.SensorTable.{Record, Row, refused, with_value, with_error, before, numbers_from, is_number, values_in, row_in, too_many, row_of, rows_from, reactions_of, is_header}
+use Rattle.algo_laws.specs.Ends.{sensor_lengths}
 use Rattle.accepted_laws.specs.Accepted.{TablesFit}
 
 module _ {A E : Type 0} where

@@ -3,9 +3,20 @@ use Rattle.std.proofs.Common.{◌≡◌, ℕ, suc, List, [], ◌∷◌, ◌++◌
 use Rattle.std.specs.Prelude.{codes, if◌then◌else◌}
 use Rattle.std.specs.Cmp.Lexicographic.{pointwise}
 use Rattle.std.specs.Str.{bytes_eq}
-use Rattle.level_meaning.specs.Level.{Values}
-use Rattle.level_meaning.specs.Parts.{name_of}
-use Rattle.algo_tree.specs.Tree.{
+use Rattle.multi_period.specs.declared.mark.Mark.{Mark}
+use Rattle.multi_period.specs.Marks.{mark_at, IsMarkable, MayHave, AreMarked}
+use Rattle.multi_period.specs.Meaning.{act_row_at}
+use Rattle.multi_period.specs.Periods.{period_by, all_periods, periods}
+use Rattle.multi_period.proofs.Main.{unmarked-stays, unmarked}
+use Rattle.act_text.specs.Names.{actuator_name, actuator_names_in, actuator_names}
+use Rattle.sensor_table.specs.Columns.{columns_of, columns_in, header_of}
+use Rattle.sensor_table.specs.declared.fault.SensorCause.TheVariants.{BadHeader}
+use Rattle.sensor_table.specs.SensorTable.{reactions_of, refused, rows_of}
+use Rattle.elaboration.specs.Laws.{IsElaborated}
+use Rattle.elaboration.proofs.Resolved.{sound}
+use Rattle.elaboration.proofs.Whole.{accepted_elaborated}
+use Rattle.algo_laws.specs.Parts.{name_of}
+use Rattle.algo_laws.specs.Tree.{
   Label,
   Kind,
   sensor,
@@ -25,22 +36,11 @@ use Rattle.algo_tree.specs.Tree.{
   no_vertices,
   and_vertex,
 }
-use Rattle.algo_tree.specs.Ends.{first_length, sensor_length, sensor_lengths, sensor_lengths_in}
-use Rattle.algo_tree.specs.Meaning.{vertices_in, act_row}
-use Rattle.multi_period.specs.declared.mark.Mark.{Mark}
-use Rattle.multi_period.specs.Marks.{mark_at, IsMarkable, MayHave, AreMarked}
-use Rattle.multi_period.specs.Meaning.{act_row_at}
-use Rattle.multi_period.specs.Periods.{period_by, all_periods, periods}
-use Rattle.multi_period.proofs.Main.{unmarked-stays, unmarked}
-use Rattle.act_text.specs.Names.{actuator_name, actuator_names_in, actuator_names}
-use Rattle.sensor_table.specs.Columns.{columns_of, columns_in, header_of}
-use Rattle.sensor_table.specs.declared.fault.SensorCause.TheVariants.{BadHeader}
-use Rattle.sensor_table.specs.SensorTable.{reactions_of, refused, rows_of}
-use Rattle.elaboration.specs.Laws.{IsElaborated}
-use Rattle.elaboration.proofs.Resolved.{sound}
-use Rattle.elaboration.proofs.Whole.{accepted_elaborated}
+use Rattle.algo_laws.specs.Ends.{first_length, sensor_length, sensor_lengths, sensor_lengths_in}
+use Rattle.algo_laws.specs.Meaning.{vertices_in, act_row}
 use Rattle.algo_laws.proofs.Lines.{accepted_well}
 use Rattle.accepted_laws.specs.Told.{Algorithm, DoesAsTold, AcceptedDoAsTold}
+use Rattle.syn_base.specs.Vectors.{Values}
 
 -- what may be marked is no sensor and no actuator
 no_actuator : (kind : Kind) (name : List ℕ) → IsMarkable kind → [] ≡ actuator_name kind name

@@ -2,31 +2,31 @@
 use Rattle.std.proofs.Common.{◌≡◌, ℕ, zero, suc, ◌+◌, List, [], ◌∷◌, ◌++◌, map, length, Option, Some, None, refl, ap, sym, subst, ◌∙◌}
 use Rattle.std.specs.Prelude.{codes, replicate}
 use Rattle.std.specs.List.{range_with_len}
-use Rattle.body_lang.specs.declared.expression.Port.{Port}
-use Rattle.level_meaning.specs.declared.source.Source.{Source}
-use Rattle.level_meaning.specs.declared.part.Part.{Part}
-use Rattle.level_meaning.specs.declared.part.Part.TheVariants.{Named, Numbered}
-use Rattle.level_meaning.specs.declared.frontier.Feed.{Feed}
-use Rattle.level_meaning.specs.Level.{Path}
-use Rattle.algo_tree.specs.Tree as tree
-use Rattle.algo_tree.specs.View.{vertices_of}
-use Rattle.algo_text.specs.declared.definition.Def.{Def}
-use Rattle.algo_text.specs.declared.definition.Body.{Body}
-use Rattle.algo_text.specs.declared.definition.Body.TheVariants.{Sensor, Actuator, Constant, Delay, Function, Graph, Switch, Repeat}
-use Rattle.algo_text.specs.declared.definition.Reference.{Reference}
-use Rattle.algo_text.specs.declared.definition.Edge.{Edge}
-use Rattle.algo_text.specs.declared.definition.Frontier.{Frontier}
-use Rattle.algo_text.specs.declared.definition.Frontier.TheVariants.{Fork, Diffuse, Iterate, Join}
-use Rattle.algo_text.specs.declared.definition.FrontierLine.{FrontierLine}
 use Rattle.syn_base.specs.Bytes.{Bytes}
-use Rattle.algo_rules.specs.Links.{definition}
-use Rattle.algo_rules.specs.Ports.{ports_of, len_of, number_of}
-use Rattle.algo_rules.specs.declared.ports.Ports.{Ports}
-use Rattle.algo_rules.specs.Resolved.{Making, vertex_within, vertex_by, references_from, cases_from, owns, kind_by, inner_by, is_sensor, is_actuator, feed_of}
 use Rattle.flat_laws.specs.Flat.{runs}
 use Rattle.flat_laws.specs.Lines.{outer_of}
 use Rattle.flat_laws.specs.Origins.{Origin, origin_at, port}
 use Rattle.flat_laws.specs.Table.{Condition, Row, row, explode_rows}
+use Rattle.algo_laws.specs.declared.Port.{Port}
+use Rattle.algo_laws.specs.declared.Source.{Source}
+use Rattle.algo_laws.specs.declared.Part.{Part}
+use Rattle.algo_laws.specs.declared.Part.TheVariants.{Named, Numbered}
+use Rattle.algo_laws.specs.declared.Feed.{Feed}
+use Rattle.algo_laws.specs.Level.{Path}
+use Rattle.algo_laws.specs.Tree as tree
+use Rattle.algo_laws.specs.View.{vertices_of}
+use Rattle.algo_laws.specs.declared.Def.{Def}
+use Rattle.algo_laws.specs.declared.Body.{Body}
+use Rattle.algo_laws.specs.declared.Body.TheVariants.{Sensor, Actuator, Constant, Delay, Function, Graph, Switch, Repeat}
+use Rattle.algo_laws.specs.declared.Reference.{Reference}
+use Rattle.algo_laws.specs.declared.Edge.{Edge}
+use Rattle.algo_laws.specs.declared.Frontier.{Frontier}
+use Rattle.algo_laws.specs.declared.Frontier.TheVariants.{Fork, Diffuse, Iterate, Join}
+use Rattle.algo_laws.specs.declared.FrontierLine.{FrontierLine}
+use Rattle.algo_laws.specs.RuleLinks.{definition}
+use Rattle.algo_laws.specs.Ports.{ports_of, len_of, number_of}
+use Rattle.algo_laws.specs.declared.Ports.{Ports}
+use Rattle.algo_laws.specs.Resolved.{Making, vertex_within, vertex_by, references_from, cases_from, owns, kind_by, inner_by, feed_of, sensor_count, actuator_count}
 use Rattle.algo_laws.proofs.Standing.{named}
 use Rattle.algo_laws.proofs.Refused.{has_none}
 use Rattle.algo_laws.proofs.Accepted.{Accepted, accepted, own_ports}
@@ -55,7 +55,7 @@ module _ (ds : List Def) (make : Making) where
   references_of_text : MakesOfText → (ins : List Port) (all : List Reference) (edges : List Edge) (s a : ℕ) (rs : List Reference) → AreVerticesOfText ds (vertices_of (references_from ds make ins all edges s a rs))
   references_of_text h ins all edges s a [] = tt
   references_of_text h ins all edges s a (r ∷ rs) =
-      (h (Named r.name) r.def _ s a, references_of_text h ins all edges (s + is_sensor (definition ds r.def)) (a + is_actuator (definition ds r.def)) rs)
+      (h (Named r.name) r.def _ s a, references_of_text h ins all edges (s + sensor_count (definition ds r.def)) (a + actuator_count (definition ds r.def)) rs)
 
   cases_of_text : MakesOfText → (ins c : ℕ) (ws : List Bytes) → AreVerticesOfText ds (vertices_of (cases_from ds make ins c ws))
   cases_of_text h ins c [] = tt

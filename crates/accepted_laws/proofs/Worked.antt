@@ -1,17 +1,17 @@
 -- A worked repetition: the lines `fork q w`, `diffuse p v`, `join z z` and `iterate r u y l` over a body with the inputs u, v and w and the
 -- outputs y and z. Its tree has them by the inputs of the body.
 use Rattle.std.proofs.Common.{◌≡◌, ℕ, List, [], ◌∷◌, map, refl, codes}
-use Rattle.body_lang.specs.declared.expression.Port.{Port}
-use Rattle.level_meaning.specs.declared.frontier.Feed.{Feed}
-use Rattle.level_meaning.specs.declared.frontier.Feed.TheVariants as feed
-use Rattle.level_meaning.specs.declared.part.Part.TheVariants as part
-use Rattle.algo_tree.specs.Tree.{explode}
-use Rattle.algo_text.specs.declared.definition.Frontier.TheVariants.{Fork, Diffuse, Iterate, Join}
-use Rattle.algo_text.specs.declared.definition.FrontierLine.{FrontierLine}
 use Rattle.syn_base.specs.Bytes.{Bytes}
-use Rattle.algo_rules.specs.Ports.{outer_ports}
-use Rattle.algo_rules.specs.declared.ports.Ports.{Ports}
-use Rattle.algo_rules.specs.Resolved.{feed_of}
+use Rattle.algo_laws.specs.declared.Port.{Port}
+use Rattle.algo_laws.specs.declared.Feed.{Feed}
+use Rattle.algo_laws.specs.declared.Feed.TheVariants as feed
+use Rattle.algo_laws.specs.declared.Part.TheVariants as part
+use Rattle.algo_laws.specs.Tree.{explode}
+use Rattle.algo_laws.specs.declared.Frontier.TheVariants.{Fork, Diffuse, Iterate, Join}
+use Rattle.algo_laws.specs.declared.FrontierLine.{FrontierLine}
+use Rattle.algo_laws.specs.Ports.{outer_ports}
+use Rattle.algo_laws.specs.declared.Ports.{Ports}
+use Rattle.algo_laws.specs.Resolved.{feed_of}
 use Rattle.flat_laws.specs.Lines.{in_line_order}
 use Rattle.flat_laws.specs.Flat.{runs}
 use Rattle.flat_laws.specs.Origins.{Origin, output_of}

@@ -3,14 +3,14 @@
 use Rattle.std.proofs.Common.{◌≡◌, ℕ, ℤ, pos, List, [], ◌∷◌, ◌++◌, map, Result, Ok, Err, refl}
 use Rattle.std.specs.Prelude.{codes}
 use Rattle.syn_base.specs.Bytes.{Bytes}
-use Rattle.level_meaning.specs.Level.{Values}
-use Rattle.algo_text.specs.declared.definition.Defs.{Defs}
 use Rattle.body_text.specs.Words.{form_of}
-use Rattle.algo_text.specs.Text.{definitions_of}
-use Rattle.algo_rules.specs.Resolved.{resolution_of, tree_of}
 use Rattle.multi_period.specs.declared.mark.Mark.{Mark}
+use Rattle.algo_laws.specs.declared.Defs.{Defs}
+use Rattle.algo_laws.specs.Text.{definitions_of}
+use Rattle.algo_laws.specs.Resolved.{resolution_of, tree_of}
 use Rattle.elaboration.specs.Marking.{marking_of}
 use Rattle.accepted_laws.specs.Told.{Algorithm, taken}
+use Rattle.syn_base.specs.Vectors.{Values}
 
 abbrev line : List ℕ → List ℕ → List ℕ
 line words rest = words ++ (codes "\n" ++ rest)

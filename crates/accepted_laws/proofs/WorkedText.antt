@@ -2,19 +2,19 @@
 -- v and w, so the explode of q stands first. The same with a mark on its reference.
 use Rattle.std.proofs.Common.{◌≡◌, ℕ, List, [], ◌∷◌, ◌++◌, decimal, map, Option, Some, None, Ok, refl, codes}
 use Rattle.syn_base.specs.declared.arithmetic.Op.TheVariants.{Add}
-use Rattle.level_meaning.specs.declared.part.Part.TheVariants.{Named, Numbered}
-use Rattle.level_meaning.specs.Level.{Path}
-use Rattle.algo_tree.specs.Tree.{explode, implode}
-use Rattle.body_lang.specs.declared.expression.Port.{Port}
-use Rattle.body_lang.specs.Expr.{sum_over, apply}
-use Rattle.algo_text.specs.declared.definition.Def.{Def}
-use Rattle.algo_text.specs.declared.definition.Body.TheVariants.{Sensor, Actuator, Function, Graph, Repeat}
-use Rattle.algo_text.specs.declared.definition.Reference.{Reference}
-use Rattle.algo_text.specs.declared.definition.Edge.{Edge}
-use Rattle.algo_text.specs.declared.definition.Frontier.TheVariants.{Fork, Join}
-use Rattle.algo_text.specs.declared.definition.FrontierLine.{FrontierLine}
 use Rattle.syn_base.specs.Bytes.{Bytes}
-use Rattle.algo_rules.specs.Resolved.{refusal, tree_of}
+use Rattle.algo_laws.specs.declared.Part.TheVariants.{Named, Numbered}
+use Rattle.algo_laws.specs.Level.{Path}
+use Rattle.algo_laws.specs.Tree.{explode, implode}
+use Rattle.algo_laws.specs.declared.Port.{Port}
+use Rattle.algo_laws.specs.Expr.{sum_over, apply}
+use Rattle.algo_laws.specs.declared.Def.{Def}
+use Rattle.algo_laws.specs.declared.Body.TheVariants.{Sensor, Actuator, Function, Graph, Repeat}
+use Rattle.algo_laws.specs.declared.Reference.{Reference}
+use Rattle.algo_laws.specs.declared.Edge.{Edge}
+use Rattle.algo_laws.specs.declared.Frontier.TheVariants.{Fork, Join}
+use Rattle.algo_laws.specs.declared.FrontierLine.{FrontierLine}
+use Rattle.algo_laws.specs.Resolved.{refusal, tree_of}
 use Rattle.flat_laws.specs.Flat.{runs}
 use Rattle.flat_laws.specs.FlatOf.{flat_of}
 use Rattle.multi_period.specs.declared.mark.Mark.{Mark}

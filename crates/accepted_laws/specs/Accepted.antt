@@ -2,11 +2,11 @@
 use Rattle.std.specs.Prelude.{◌≡◌, ℕ, List, Ok}
 use Rattle.syn_base.specs.Bytes.{Bytes}
 use Rattle.syn_base.specs.Rows.{Reactions, AreCut}
-use Rattle.algo_text.specs.declared.definition.Defs.{Defs}
-use Rattle.algo_text.specs.Text.{definitions_of}
-use Rattle.algo_tree.specs.Tree.{Vertex}
-use Rattle.algo_tree.specs.Ends.{sensor_lengths}
 use Rattle.sensor_table.specs.SensorTable.{rows_of}
+use Rattle.algo_laws.specs.declared.Defs.{Defs}
+use Rattle.algo_laws.specs.Text.{definitions_of}
+use Rattle.algo_laws.specs.Tree.{Vertex}
+use Rattle.algo_laws.specs.Ends.{sensor_lengths}
 use Rattle.elaboration.specs.Elaborated.{elaboration_of}
 use Rattle.accepted_laws.specs.Flat.{HasFlat}
 

@@ -1,20 +1,20 @@
 -- The flat graph of a tree by itself: it stands for the flat list, is valid, and keeps the meaning.
 use Rattle.std.specs.Prelude.{◌≡◌, ℕ, true, List}
-use Rattle.level_meaning.specs.Level.{Values}
-use Rattle.algo_tree.specs.Tree.{Vertex}
-use Rattle.algo_tree.specs.Valid.{IsTree}
-use Rattle.algo_tree.specs.Meaning.{act_row}
+use Rattle.algo_laws.specs.Tree.{Vertex}
+use Rattle.algo_laws.specs.Valid.{IsTree}
+use Rattle.algo_laws.specs.Meaning.{act_row}
+use Rattle.algo_laws.specs.Named.{HasNames}
+use Rattle.algo_laws.specs.Bounded.{HasBounds}
 use Rattle.flat_graph.specs.Graph.{Graph}
 use Rattle.flat_graph.specs.Valid.{is_flat}
 use Rattle.flat_graph.specs.Meaning.{initial_cells, flat_act_row}
 use Rattle.flat_laws.specs.Unrolled.{unroll}
 use Rattle.flat_laws.specs.Guarded.{guard}
 use Rattle.flat_laws.specs.Inlined.{operations}
-use Rattle.algo_tree.specs.Named.{HasNames}
-use Rattle.algo_tree.specs.Bounded.{HasBounds}
 use Rattle.flat_laws.specs.EndLengths.{HasEndLengths}
 use Rattle.flat_laws.specs.Stands.{Stands}
 use Rattle.flat_laws.specs.FlatOf.{flat_of}
+use Rattle.syn_base.specs.Vectors.{Values}
 
 -- the flat graph that is defined stands for the flat list
 abbrev pub FlatOfStands : Type 0

@@ -1,23 +1,23 @@
 -- The lines of a repetition of a text, and the repetition of a tree that has them.
 use Rattle.std.specs.Prelude.{◌≡◌, ℕ, List, [], ◌∷◌, length, map, replicate, Some, None, Ok}
 use Rattle.std.specs.List.{flat_map, range_with_len}
-use Rattle.level_meaning.specs.declared.frontier.Feed.{Feed}
-use Rattle.level_meaning.specs.declared.frontier.Feed.TheVariants as feed
-use Rattle.level_meaning.specs.Level.{Path}
-use Rattle.algo_tree.specs.Tree.{Kind, explode, repeat, Vertex, vertex, Vertices, no_vertices, and_vertex}
-use Rattle.algo_text.specs.declared.definition.Def.{Def}
-use Rattle.algo_text.specs.declared.definition.Body.TheVariants.{Repeat}
-use Rattle.algo_text.specs.declared.definition.Defs.{Defs}
-use Rattle.algo_text.specs.declared.definition.Frontier.{Frontier}
-use Rattle.algo_text.specs.declared.definition.Frontier.TheVariants.{Fork, Diffuse, Iterate, Join}
-use Rattle.algo_text.specs.declared.definition.FrontierLine.{FrontierLine}
 use Rattle.syn_base.specs.Bytes.{Bytes}
-use Rattle.algo_text.specs.Text.{definitions_of}
-use Rattle.algo_rules.specs.Links.{definition}
-use Rattle.algo_rules.specs.Ports.{ports_of, len_of, number_of}
-use Rattle.algo_rules.specs.declared.ports.Ports.{Ports}
-use Rattle.algo_rules.specs.Resolved.{refusal, tree_of}
-use Rattle.algo_rules.specs.WellRead.{AreWellRead}
+use Rattle.algo_laws.specs.declared.Feed.{Feed}
+use Rattle.algo_laws.specs.declared.Feed.TheVariants as feed
+use Rattle.algo_laws.specs.Level.{Path}
+use Rattle.algo_laws.specs.Tree.{Kind, explode, repeat, Vertex, vertex, Vertices, no_vertices, and_vertex}
+use Rattle.algo_laws.specs.declared.Def.{Def}
+use Rattle.algo_laws.specs.declared.Body.TheVariants.{Repeat}
+use Rattle.algo_laws.specs.declared.Defs.{Defs}
+use Rattle.algo_laws.specs.declared.Frontier.{Frontier}
+use Rattle.algo_laws.specs.declared.Frontier.TheVariants.{Fork, Diffuse, Iterate, Join}
+use Rattle.algo_laws.specs.declared.FrontierLine.{FrontierLine}
+use Rattle.algo_laws.specs.Text.{definitions_of}
+use Rattle.algo_laws.specs.RuleLinks.{definition}
+use Rattle.algo_laws.specs.Ports.{ports_of, len_of, number_of}
+use Rattle.algo_laws.specs.declared.Ports.{Ports}
+use Rattle.algo_laws.specs.Resolved.{refusal, tree_of}
+use Rattle.algo_laws.specs.WellRead.{AreWellRead}
 use Rattle.elaboration.specs.Elaborated.{elaboration_of}
 use Rattle.flat_laws.specs.Lines.{outer_of, in_line_order}
 use Rattle.flat_laws.specs.Flat.{runs}

@@ -1,19 +1,20 @@
 -- What the text of an algorithm says, and what the tree that is made of it does.
 use Rattle.std.specs.Prelude.{◌≡◌, ℕ, List, [], map, length, Ok}
 use Rattle.syn_base.specs.Bytes.{Bytes}
-use Rattle.level_meaning.specs.Level.{Values, numbers_below}
-use Rattle.algo_text.specs.declared.definition.Defs.{Defs}
-use Rattle.algo_text.specs.Text.{definitions_of}
-use Rattle.algo_rules.specs.Resolved.{resolution_of}
-use Rattle.algo_tree.specs.Tree.{Vertex}
-use Rattle.algo_tree.specs.Meaning.{act_row}
 use Rattle.multi_period.specs.declared.mark.Mark.{Mark}
 use Rattle.multi_period.specs.Meaning.{act_row_at}
+use Rattle.algo_laws.specs.declared.Defs.{Defs}
+use Rattle.algo_laws.specs.Text.{definitions_of}
+use Rattle.algo_laws.specs.Resolved.{resolution_of}
+use Rattle.algo_laws.specs.Tree.{Vertex}
+use Rattle.algo_laws.specs.Meaning.{act_row}
 use Rattle.elaboration.specs.Marking.{marking_of}
 use Rattle.elaboration.specs.Elaborated.{elaboration_of}
 use Rattle.act_text.specs.Names.{actuator_names}
 use Rattle.act_text.specs.Text.{output_text}
 use Rattle.sensor_table.specs.SensorTable.{rows_of}
+use Rattle.syn_base.specs.Vectors.{Values}
+use Rattle.syn_base.specs.Numbers.{numbers_below}
 
 -- The algorithm of a text: the tree to which its definitions resolve, and the marks on its references.
 pub record Algorithm (text : Bytes) : Type 0 where

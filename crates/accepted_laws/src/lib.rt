@@ -18,6 +18,10 @@ ghost use Rattle.accepted_laws.specs.Told.{AcceptedDoAsTold};
 
 pub use lines::lines_stand_in_text_order;
 
+// What the clauses here speak of: elaborated trees, their flat graphs, and the text of the actuators.
+pub use act_text::{acts_text, acts_text_from, actuators_of};
+pub use elaboration::elaborate;
+
 /// The flat graph that is defined for a tree stands for the tree's flat list.
 pub fn flat_of_stands()
     ensures { FlatOfStands }

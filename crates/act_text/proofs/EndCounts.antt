@@ -1,10 +1,10 @@
 -- There are as many names of actuators as lengths.
 use Rattle.std.proofs.Common.{◌≡◌, ◌∙◌, ◌+◌, ℕ, List, [], length, refl, sym, ap, map, length-append}
-use Rattle.level_meaning.specs.declared.source.Source.{Source}
+use Rattle.algo_tree.specs.declared.Source.{Source}
+use Rattle.algo_tree.specs.Parts.{name_of}
 use Rattle.algo_tree.specs.Tree.{Kind, sensor, actuator, constant, delay, function, explode, implode, merge, graph, switch, repeat, Vertex, vertex, Vertices, no_vertices, and_vertex}
 use Rattle.algo_tree.specs.Ends.{actuator_length, actuator_lengths_in, actuator_lengths}
 use Rattle.algo_tree.specs.Typed.{outs_of, source_length}
-use Rattle.level_meaning.specs.Parts.{name_of}
 use Rattle.act_text.specs.Names.{actuator_name, actuator_names_in, actuator_names}
 
 one_name : (k : Kind) (name : List ℕ) (lens : List ℕ) → length (actuator_name k name) ≡ length (actuator_length k lens)

@@ -1,6 +1,6 @@
 -- The names of the actuators of the main graph, in declared order.
 use Rattle.std.specs.Prelude.{ℕ, List, [], ◌∷◌, ◌++◌}
-use Rattle.level_meaning.specs.Parts.{name_of}
+use Rattle.algo_tree.specs.Parts.{name_of}
 use Rattle.algo_tree.specs.Tree.{Kind, actuator, Vertex, vertex, Vertices, no_vertices, and_vertex}
 
 -- An actuator has its name, any other kind has none.

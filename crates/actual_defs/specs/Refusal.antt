@@ -1,6 +1,6 @@
 -- The refusal of a text of actual durations as that of an architecture.
-use Rattle.archi_defs.specs.declared.fault.ArchiError.{ArchiError}
-use Rattle.archi_defs.specs.declared.fault.ArchiError.TheVariants as architecture
+use Rattle.archi_defs.specs.Refusals.{ArchiError}
+use Rattle.text_lines.specs.declared.fault.TextError.TheVariants as architecture
 use Rattle.actual_defs.specs.declared.fault.ActualFault.TheVariants.{Text}
 use Rattle.actual_defs.specs.declared.fault.ActualError.{ActualError}
 use Rattle.actual_defs.specs.declared.fault.ActualError.TheVariants.{Refused, Limit, OutOfMemory}

@@ -5,7 +5,7 @@ use Rattle.std.specs.List.{find}
 use Rattle.std.proofs.lemmas.Bool.{eqb-true, false≢true, eq-eqb}
 use Rattle.std.proofs.lemmas.List.{length-replicate, length-set}
 use Rattle.std.proofs.lemmas.List.FromFn.{fill_by_all}
-use Rattle.durations.specs.Given.{first_of}
+use Rattle.schedule.specs.Given.{first_of}
 use Rattle.schedule.specs.declared.decision.Decision.{Decision}
 use Rattle.actual_durations.specs.Actual.{operator_of, operators_of}
 

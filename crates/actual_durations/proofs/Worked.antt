@@ -1,14 +1,14 @@
 -- What worked texts of actual durations say beside a worked architecture and its schedule.
 use Rattle.std.proofs.Common.{◌≡◌, ℕ, refl, true, false, List, [], ◌∷◌, ◌++◌, Option, Some, None, Result, Ok, Err, codes, pos}
-use Rattle.flat_graph.specs.declared.vertex.Source.{Source}
-use Rattle.flat_graph.specs.declared.vertex.Vertex.{Vertex}
-use Rattle.flat_graph.specs.declared.vertex.Kind.{Kind}
-use Rattle.flat_graph.specs.declared.vertex.Kind.TheVariants.{Sensor, Actuator, Function, Constant, Get, Set}
-use Rattle.flat_graph.specs.Graph.{Graph}
-use Rattle.archi_graph.specs.Archi.{Architecture}
-use Rattle.archi_defs.specs.declared.fault.ArchiCause.TheVariants.{UnknownName, BadLine}
 use Rattle.syn_base.specs.Bytes.{Bytes}
-use Rattle.durations.specs.Table.{Table}
+use Rattle.schedule.specs.declared.Source.{Source}
+use Rattle.schedule.specs.declared.Vertex.{Vertex}
+use Rattle.schedule.specs.declared.Kind.{Kind}
+use Rattle.schedule.specs.declared.Kind.TheVariants.{Sensor, Actuator, Function, Constant, Get, Set}
+use Rattle.schedule.specs.Graph.{Graph}
+use Rattle.schedule.specs.Archi.{Architecture}
+use Rattle.schedule.specs.declared.ArchiCause.TheVariants.{UnknownName, BadLine}
+use Rattle.schedule.specs.Table.{Table}
 use Rattle.schedule.specs.declared.decision.Transfer.{Transfer}
 use Rattle.schedule.specs.declared.decision.Decision.{Decision}
 use Rattle.schedule.specs.declared.decision.Schedule.{Schedule}

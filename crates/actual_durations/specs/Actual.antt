@@ -30,17 +30,18 @@ use Rattle.std.specs.Prelude.{
 }
 use Rattle.std.specs.Bool.{beq}
 use Rattle.std.specs.Cmp.Lexicographic.{pointwise}
-use Rattle.std.specs.List.{find, flat_map, range_with_len}
+use Rattle.std.specs.List.{find, range_with_len}
 use Rattle.std.specs.Str.{bytes_eq}
-use Rattle.flat_graph.specs.declared.vertex.Vertex.{Vertex}
-use Rattle.flat_graph.specs.Graph.{Graph, len_of}
-use Rattle.archi_graph.specs.declared.medium.Medium.{Medium}
-use Rattle.archi_graph.specs.Archi.{Architecture}
-use Rattle.archi_defs.specs.declared.text.DurationLine.{DurationLine}
-use Rattle.archi_defs.specs.declared.fault.ArchiError.{ArchiError}
+use Rattle.text_lines.specs.Refusals.{error_of}
 use Rattle.syn_base.specs.Bytes.{Bytes}
-use Rattle.archi_defs.specs.Text.{Described, description_of}
-use Rattle.durations.specs.Table.{Table, entry, entry_in}
+use Rattle.schedule.specs.declared.Vertex.{Vertex}
+use Rattle.schedule.specs.Graph.{Graph, len_of}
+use Rattle.schedule.specs.declared.Medium.{Medium}
+use Rattle.schedule.specs.Archi.{Architecture}
+use Rattle.schedule.specs.declared.DurationLine.{DurationLine}
+use Rattle.schedule.specs.Refusals.{ArchiRefusal}
+use Rattle.schedule.specs.Text.{Described, description_of}
+use Rattle.schedule.specs.Table.{Table, entry, entry_in}
 use Rattle.schedule.specs.declared.decision.Transfer.{Transfer}
 use Rattle.schedule.specs.declared.decision.Decision.{Decision}
 use Rattle.schedule.specs.declared.decision.Schedule.{Schedule}
@@ -49,6 +50,7 @@ use Rattle.actual_defs.specs.declared.fault.ActualFault.TheVariants.{Differs, Lo
 use Rattle.actual_defs.specs.declared.fault.ActualError.{ActualError}
 use Rattle.actual_defs.specs.declared.fault.ActualError.TheVariants.{Refused}
 use Rattle.actual_defs.specs.Refusal.{text_error}
+use Rattle.schedule.specs.Acts.{transfers_of}
 
 -- of one name and kind, at which the same operators stand
 abbrev pub same_medium : Medium → Medium → Bool
@@ -125,10 +127,6 @@ carrying_ticks n (Some m) = m.fixed + n * m.per
 abbrev pub transfer_ticks : List Vertex → List Medium → Transfer → ℕ
 transfer_ticks vertices media t = carrying_ticks (len_of vertices t.source) (slice_get media t.medium)
 
--- The transfers of these decisions, in their order.
-abbrev pub transfers_of : List Decision → List Transfer
-transfers_of ds = flat_map (λ d. d.transfers) ds
-
 -- the ticks of each operation by number, and then of each transfer in the order of the decisions
 abbrev pub entries_ticks : Graph → Schedule → Described → List ℕ
 entries_ticks g s d =
@@ -147,10 +145,10 @@ actual_by g a t s d =
     Err (Refused Differs)
 
 -- What comes next for a text that describes an architecture, and otherwise the refusal of the text.
-abbrev pub if_described : Result Described ArchiError → (Described → Result (List ℕ) ActualError)
+abbrev pub if_described : Result Described ArchiRefusal → (Described → Result (List ℕ) ActualError)
     → Result (List ℕ) ActualError
 if_described (Ok d) next = next d
-if_described (Err e) next = Err (text_error e)
+if_described (Err e) next = Err (text_error (error_of e))
 
 -- what the bytes of a text of actual durations say
 abbrev pub actual_of : Graph → Architecture → Table → Schedule → Bytes → Result (List ℕ) ActualError

@@ -1,10 +1,10 @@
 //! The reading of a text of actual durations: `actual_of`, which the command `dates` calls.
 ghost use Rattle.std.specs.Prelude.{◌≤◌, IsTrue, length};
 ghost use Rattle.syn_base.specs.Limits.{most_in_text};
-ghost use Rattle.archi_defs.specs.Text.{described_by};
 ghost use Rattle.text_lines.specs.Text.{lines_of};
-ghost use Rattle.durations.specs.Lines.{AreDurations};
-ghost use Rattle.durations.specs.Table.{entry_in};
+ghost use Rattle.schedule.specs.Text.{described_by};
+ghost use Rattle.schedule.specs.DurationLines.{AreDurations};
+ghost use Rattle.schedule.specs.Table.{entry_in};
 ghost use Rattle.schedule.specs.Valid.{is_valid};
 ghost use Rattle.actual_durations.specs.Actual.{actual_by, actual_of, same_architecture};
 ghost use Rattle.actual_durations.specs.Answers.{Gives};
@@ -14,12 +14,8 @@ use crate::same::same_architecture;
 use crate::ticks::{append_operations, append_transfers};
 use crate::walk::{check_media, check_operations};
 use actual_defs::{ActualError, ActualFault};
-use archi_defs::ArchiText;
-use archi_graph::Archi;
 use archi_reader::read_archi;
-use durations::{Durations, Given, accepted_are_durations};
-use flat_graph::Flat;
-use schedule::Schedule;
+use schedule::{Archi, ArchiText, Durations, Flat, Given, Schedule, accepted_are_durations};
 use std::alloc::Global;
 
 /// How long each operation of a schedule, by number, and then each of its transfers, in the order of the

@@ -5,7 +5,7 @@ ghost use Rattle.std.specs.Cmp.Lexicographic.{pointwise};
 ghost use Rattle.std.specs.Str.{bytes_eq};
 ghost use Rattle.actual_durations.specs.Actual.{same_architecture, same_medium};
 
-use archi_graph::{Archi, Medium};
+use schedule::{Archi, Medium};
 use syn_base::Name;
 
 /// Whether both have the same operators, media, kinds, connections and depth, in the same order.

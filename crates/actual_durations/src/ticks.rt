@@ -1,12 +1,10 @@
 //! The ticks of operations and transfers, which `actual_of` lists.
 ghost use Rattle.std.specs.Prelude.{◌≡◌, ◌++◌, All, OnOk, length, map, slice_index_or};
-ghost use Rattle.actual_durations.specs.Actual.{operation_ticks, operations_ticks, transfer_ticks, transfers_of};
+ghost use Rattle.actual_durations.specs.Actual.{operation_ticks, operations_ticks, transfer_ticks};
 ghost use Rattle.actual_durations.specs.Answers.{IsOneOf};
+ghost use Rattle.schedule.specs.Acts.{transfers_of};
 
-use archi_graph::Medium;
-use durations::{Given, entry};
-use flat_graph::{Source, Vertex, len_of};
-use schedule::{Decision, Transfer};
+use schedule::{Decision, Given, Medium, Source, Transfer, Vertex, entry, len_of};
 use syn_base::OutOfMemory;
 
 /// Appends how long each of these operations lasts on its operator.

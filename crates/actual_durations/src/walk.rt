@@ -7,9 +7,7 @@ ghost use Rattle.actual_durations.specs.Actual.{duration_fault, is_slower, slowe
 ghost use Rattle.actual_durations.specs.Answers.{IsFault, IsOneOf, Tells};
 
 use actual_defs::{ActualError, ActualFault};
-use archi_graph::Medium;
-use durations::{Durations, Given, entry};
-use flat_graph::Vertex;
+use schedule::{Durations, Given, Medium, Vertex, entry};
 use std::alloc::Global;
 use syn_base::Name;
 

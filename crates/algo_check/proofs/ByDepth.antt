@@ -4,13 +4,13 @@ use Rattle.std.specs.Prelude.{slice_get}
 use Rattle.std.specs.List.{flat_map, range_with_len}
 use Rattle.std.proofs.lemmas.Bool.{eqb-false, ne_eqb}
 use Rattle.std.proofs.lemmas.List.FromFn.{get_or-map-range_with_len}
-use Rattle.algo_text.specs.declared.definition.Def.{Def}
-use Rattle.algo_text.specs.declared.fault.AlgoError.{AlgoError}
+use Rattle.algo_rules.specs.declared.Def.{Def}
+use Rattle.algo_rules.specs.declared.AlgoError.{AlgoError}
+use Rattle.algo_rules.specs.Returned.{Tells}
+use Rattle.algo_rules.specs.ReferenceLinks.{depths}
 use Rattle.algo_rules.specs.Links.{first_of, links_of}
 use Rattle.algo_rules.specs.Resolved.{body_fault, faults_at}
-use Rattle.algo_text.specs.Returned.{Tells}
 use Rattle.algo_check.proofs.Fresh.{from_here}
-use Rattle.reference_graph.specs.Links.{depths}
 use Rattle.algo_check.proofs.Inside.{links_count}
 use Rattle.algo_check.proofs.InOrder.{both_none, front_told, none_first, one_told, one_passes}
 use Rattle.algo_check.proofs.Stands.{deep}

@@ -7,20 +7,20 @@ use Rattle.std.proofs.lemmas.List.{get_or_default, length-append}
 use Rattle.std.proofs.lemmas.List.Sums.{sum_by-append, sum_by-cons, sum_by-le}
 use Rattle.std.proofs.lemmas.Nat.{mul-le}
 use Rattle.std.proofs.lemmas.Option.{get_or_from_slice_get, slice_get_past}
-use Rattle.algo_text.specs.declared.definition.Def.{Def}
-use Rattle.algo_text.specs.declared.definition.Body.{Body}
-use Rattle.algo_text.specs.declared.definition.Body.TheVariants.{Sensor, Actuator, Constant, Delay, Function, Graph, Switch, Repeat}
-use Rattle.algo_text.specs.declared.definition.Frontier.{Frontier}
-use Rattle.algo_text.specs.declared.definition.Frontier.TheVariants.{Fork, Diffuse, Iterate, Join}
-use Rattle.algo_text.specs.declared.definition.FrontierLine.{FrontierLine}
 use Rattle.syn_base.specs.Bytes.{Bytes}
+use Rattle.algo_rules.specs.declared.Def.{Def}
+use Rattle.algo_rules.specs.declared.Body.{Body}
+use Rattle.algo_rules.specs.declared.Body.TheVariants.{Sensor, Actuator, Constant, Delay, Function, Graph, Switch, Repeat}
+use Rattle.algo_rules.specs.declared.Frontier.{Frontier}
+use Rattle.algo_rules.specs.declared.Frontier.TheVariants.{Fork, Diffuse, Iterate, Join}
+use Rattle.algo_rules.specs.declared.FrontierLine.{FrontierLine}
 use Rattle.algo_rules.specs.Links.{definition, unknown}
-use Rattle.algo_rules.specs.Resolved.{count_by, count_in, count_within, is_fork, operations}
+use Rattle.algo_rules.specs.Resolved.{count_by, count_in, count_within, operations, vertices_of_line}
 use Rattle.algo_rules.specs.WellRead.{IsWellRead}
 use Rattle.algo_check.specs.Linked.{AreLinked, IsLinked, named}
 use Rattle.algo_check.proofs.Found.{found}
 use Rattle.algo_check.proofs.Leading.{all_lead}
-use Rattle.algo_check.specs.Counts.{AreCounts, count_here, most, next_from, row}
+use Rattle.algo_check.specs.Counts.{AreCounts, count_here, next_from, row, count_bound}
 use Rattle.algo_check.proofs.Inside.{as_many, linked_below, there}
 
 pub linked_count : (ds : List Def) (ws : List Bytes) (ps : List ℕ) → AreLinked ds ws ps → length ps ≡ length ws
@@ -43,22 +43,22 @@ pub sum_mapped : {A : Type 0} (g : Bytes → ℕ) (f : A → Bytes) (xs : List A
 sum_mapped g f [] = refl
 sum_mapped g f (x ∷ xs) = omega (arith, sum_by-cons g (f x) (map f xs), sum_by-cons (λ y. g (f y)) x xs, sum_mapped g f xs)
 
-one_fork : (f : Frontier) (n : ℕ) → is_fork (record { frontier = f; line = n }) ≤ 1
+one_fork : (f : Frontier) (n : ℕ) → vertices_of_line (record { frontier = f; line = n }) ≤ 1
 one_fork (Fork p x) n = omega arith
 one_fork (Diffuse p x) n = omega arith
 one_fork (Iterate p x y q) n = omega arith
 one_fork (Join y q) n = omega arith
 
-forks_few : (ls : List FrontierLine) → sum_by is_fork ls ≤ length ls
+forks_few : (ls : List FrontierLine) → sum_by vertices_of_line ls ≤ length ls
 forks_few [] = omega arith
-forks_few (l ∷ ls) = omega (arith, sum_by-cons is_fork l ls, forks_few ls, one_fork l.frontier l.line)
+forks_few (l ∷ ls) = omega (arith, sum_by-cons vertices_of_line l ls, forks_few ls, one_fork l.frontier l.line)
 
-some_most : (n : ℕ) → 1 ≤ most n
+some_most : (n : ℕ) → 1 ≤ count_bound n
 some_most zero = omega arith
 some_most (suc n) = omega (arith, some_most n)
 
 -- seven rounds
-pub most_upto : (n : ℕ) → n < 8 → most n ≤ 12800000000000000
+pub most_upto : (n : ℕ) → n < 8 → count_bound n ≤ 12800000000000000
 most_upto zero h = omega arith
 most_upto (suc zero) h = omega arith
 most_upto (suc (suc zero)) h = omega arith
@@ -108,16 +108,16 @@ module _ (ds : List Def) (n : ℕ) (counts : List ℕ) (a : AreCounts ds n count
       ap (λ (m : ℕ). m + length outs) all
   body_is (Repeat copies def lines) ps h =
       let all : sum_by (slice_index counts) ps ≡ of def = omega (arith, sums (def ∷ []) ps h, sum_by-cons of def []) in
-      ap (λ (m : ℕ). copies * m + sum_by is_fork lines) all
+      ap (λ (m : ℕ). copies * m + sum_by vertices_of_line lines) all
 
-  sum_most : (ws : List Bytes) (ps : List ℕ) → AreLinked ds ws ps → sum_by (slice_index counts) ps ≤ length ws * most n
-  sum_most ws ps h = subst (λ (m : ℕ). sum_by (slice_index counts) ps ≤ m * most n) (linked_count ds ws ps h)
-      (sum_by-le (slice_index counts) (most n) ps (λ k d low. a.bounded (get_or ps k d) 0 (omega (arith, linked_below ds ws ps h k d low, a.rows))))
+  sum_most : (ws : List Bytes) (ps : List ℕ) → AreLinked ds ws ps → sum_by (slice_index counts) ps ≤ length ws * count_bound n
+  sum_most ws ps h = subst (λ (m : ℕ). sum_by (slice_index counts) ps ≤ m * count_bound n) (linked_count ds ws ps h)
+      (sum_by-le (slice_index counts) (count_bound n) ps (λ k d low. a.bounded (get_or ps k d) 0 (omega (arith, linked_below ds ws ps h k d low, a.rows))))
 
-  times : (x y : ℕ) → x ≤ y → x * most n ≤ y * most n
-  times x y h = mul-le x (most n) y (most n) h (omega arith)
+  times : (x y : ℕ) → x ≤ y → x * count_bound n ≤ y * count_bound n
+  times x y h = mul-le x (count_bound n) y (count_bound n) h (omega arith)
 
-  body_most : (b : Body) (ps : List ℕ) → AreLinked ds (named b) ps → IsWellRead b → count_here (sum_by (slice_index counts) ps) b ≤ 200 * most n
+  body_most : (b : Body) (ps : List ℕ) → AreLinked ds (named b) ps → IsWellRead b → count_here (sum_by (slice_index counts) ps) b ≤ 200 * count_bound n
   body_most (Sensor m) ps h r = omega (arith, some_most n)
   body_most (Actuator m) ps h r = omega (arith, some_most n)
   body_most (Constant values) ps h r = omega (arith, some_most n)
@@ -128,11 +128,11 @@ module _ (ds : List Def) (n : ℕ) (counts : List ℕ) (a : AreCounts ds n count
   body_most (Switch on ins outs cases otherwise last) ps h r =
       omega (arith, sum_most _ ps h, times (length (map (λ c. c.def) cases ++ otherwise ∷ [])) 65 (named_few (Switch on ins outs cases otherwise last) r), some_most n, r.outputs.few)
   body_most (Repeat copies def lines) ps h r =
-      let one : sum_by (slice_index counts) ps ≤ most n = omega (arith, sum_most (def ∷ []) ps h) in
-      omega (arith, mul-le copies (sum_by (slice_index counts) ps) 64 (most n) r.most one, forks_few lines, r.few, some_most n)
+      let one : sum_by (slice_index counts) ps ≤ count_bound n = omega (arith, sum_most (def ∷ []) ps h) in
+      omega (arith, mul-le copies (sum_by (slice_index counts) ps) 64 (count_bound n) r.most one, forks_few lines, r.few, some_most n)
 
   module _ (none : unknown ds ≡ None) (read : All (λ d. IsWellRead d.body) ds) where
-    next_bounded : (k : ℕ) (d : Def) → slice_get ds k ≡ Some d → k < length ds → slice_index (next_from ds counts 0 ds) k ≤ 200 * most n
+    next_bounded : (k : ℕ) (d : Def) → slice_get ds k ≡ Some d → k < length ds → slice_index (next_from ds counts 0 ds) k ≤ 200 * count_bound n
     next_bounded k d at low =
         let here : zero + k ≡ k = omega arith in
         let well : IsWellRead d.body = subst (λ (e : Def). IsWellRead e.body) (get_or_from_slice_get ds k d d at) (read k d low) in
@@ -142,7 +142,7 @@ module _ (ds : List Def) (n : ℕ) (counts : List ℕ) (a : AreCounts ds n count
     pub next_round : AreCounts ds (suc n) (next_from ds counts 0 ds)
     next_round = record { rows = next_count ds counts 0 ds; bounded = bounded; within = within }
       where
-        bounded : All (λ m. m ≤ 200 * most n) (next_from ds counts 0 ds)
+        bounded : All (λ m. m ≤ 200 * count_bound n) (next_from ds counts 0 ds)
         bounded k e low =
             let inside : k < length ds = omega (arith, low, next_count ds counts 0 ds) in
             let d = there ds k inside in

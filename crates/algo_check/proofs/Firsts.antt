@@ -3,14 +3,14 @@ use Rattle.std.proofs.Common.{◌≡◌, ℕ, ◌+◌, ◌<◌, Bool, true, fals
 use Rattle.std.specs.Prelude.{slice_get}
 use Rattle.std.specs.List.{flat_map}
 use Rattle.std.proofs.lemmas.List.{get_or-map}
-use Rattle.algo_text.specs.declared.definition.Def.{Def}
-use Rattle.algo_text.specs.declared.fault.AlgoError.{AlgoError}
-use Rattle.algo_text.specs.declared.fault.AlgoError.TheVariants.{Refused, Limit, TooLarge, OutOfMemory}
-use Rattle.algo_text.specs.declared.fault.AlgoCause.TheVariants.{Misplaced}
 use Rattle.syn_base.specs.Bytes.{Bytes}
+use Rattle.algo_rules.specs.declared.Def.{Def}
+use Rattle.algo_rules.specs.declared.AlgoError.{AlgoError}
+use Rattle.algo_rules.specs.declared.AlgoError.TheVariants.{Refused, Limit, TooLarge, OutOfMemory}
+use Rattle.algo_rules.specs.declared.AlgoCause.TheVariants.{Misplaced}
+use Rattle.algo_rules.specs.Returned.{Tells}
 use Rattle.algo_rules.specs.Links.{fault, first_of, Mention, may_stand, misplaced_by, definition}
 use Rattle.algo_rules.specs.Placed.{Checks}
-use Rattle.algo_text.specs.Returned.{Tells}
 use Rattle.algo_check.specs.Placing.{place_of, places_of, misplaced_in}
 use Rattle.algo_check.proofs.Fresh.{from_here}
 use Rattle.algo_check.proofs.Found.{found}

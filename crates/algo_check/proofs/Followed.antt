@@ -2,18 +2,19 @@
 use Rattle.std.proofs.Common.{◌≡◌, ℕ, zero, suc, ◌≤◌, List, [], ◌∷◌, map, Some, None, refl, ap, sym, ◌∙◌, arith}
 use Rattle.std.specs.Prelude.{slice_get}
 use Rattle.std.proofs.Math.Nat.{le-max_left}
-use Rattle.algo_text.specs.declared.definition.Def.{Def}
-use Rattle.algo_text.specs.declared.definition.Body.{Body}
-use Rattle.algo_text.specs.declared.definition.Body.TheVariants.{Sensor, Actuator, Constant, Delay, Function, Graph, Switch, Repeat}
 use Rattle.syn_base.specs.Bytes.{Bytes}
+use Rattle.algo_rules.specs.declared.Def.{Def}
+use Rattle.algo_rules.specs.declared.Body.{Body}
+use Rattle.algo_rules.specs.declared.Body.TheVariants.{Sensor, Actuator, Constant, Delay, Function, Graph, Switch, Repeat}
+use Rattle.algo_rules.specs.ReferenceLinks.{first_recursive}
 use Rattle.algo_rules.specs.Links.{definition, unknown, links_of}
 use Rattle.algo_rules.specs.Ports.{outer_ports, ports_by, ports_in, ports_of, ports_within}
 use Rattle.algo_rules.specs.declared.ports.Ports.{Ports}
 use Rattle.algo_check.specs.Linked.{AreLinked, IsLinked, named}
 use Rattle.algo_check.proofs.Leading.{all_lead}
-use Rattle.reference_graph.specs.Links.{first_recursive, greatest}
 use Rattle.algo_check.proofs.Inside.{there}
 use Rattle.algo_check.proofs.Stands.{deep, row, one_more}
+use Rattle.syn_base.specs.Numbers.{greatest}
 
 module _ (ds : List Def) where
   -- the same ports for all that is named, and for what is not deeper than that

@@ -8,9 +8,9 @@ use Rattle.std.proofs.lemmas.Bool.{ltb-true}
 use Rattle.std.proofs.lemmas.Option.{slice_get_past}
 use Rattle.std.proofs.lemmas.List.{map-append}
 use Rattle.text_lines.proofs.Places.{missing_at, found_at}
-use Rattle.algo_text.specs.declared.definition.Def.{Def}
-use Rattle.algo_text.specs.declared.fault.AlgoError.{AlgoError}
 use Rattle.syn_base.specs.Bytes.{Bytes}
+use Rattle.algo_rules.specs.declared.Def.{Def}
+use Rattle.algo_rules.specs.declared.AlgoError.{AlgoError}
 use Rattle.algo_rules.specs.Links.{first_of, Mention, mentions, definition, unknown_by, unknown, links_of}
 use Rattle.algo_rules.specs.Placed.{Checks}
 use Rattle.algo_check.specs.Placing.{names_of, unknown_at, unknown_one, unknown_all, place_one, places_in, places_all, place_of, places_of}

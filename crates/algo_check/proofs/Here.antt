@@ -3,11 +3,11 @@ use Rattle.std.proofs.Common.{◌≡◌, ℕ, ◌<◌, List, [], length, get_or,
 use Rattle.std.specs.Prelude.{slice_get}
 use Rattle.std.proofs.lemmas.List.{get_or_default}
 use Rattle.std.proofs.lemmas.Option.{slice_get-get_or, get_or_from_slice_get}
-use Rattle.algo_text.specs.declared.definition.Def.{Def}
+use Rattle.algo_rules.specs.declared.Def.{Def}
+use Rattle.algo_rules.specs.ReferenceLinks.{Links}
 use Rattle.algo_rules.specs.Placed.{ArePlaced}
 use Rattle.algo_rules.specs.declared.ports.Ports.{Ports}
 use Rattle.algo_check.specs.Linked.{named}
-use Rattle.reference_graph.specs.Links.{Links}
 use Rattle.algo_check.specs.Leveled.{AreLeveled}
 use Rattle.algo_check.specs.Tables.{IsTable}
 use Rattle.algo_check.proofs.Inside.{links_count}

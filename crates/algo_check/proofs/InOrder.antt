@@ -1,8 +1,8 @@
 -- What is refused first, of checks in order.
 use Rattle.std.proofs.Common.{◌≡◌, List, [], ◌∷◌, ◌++◌, Option, Some, None, Err, refl, ap, sym, subst}
-use Rattle.algo_text.specs.declared.fault.AlgoError.{AlgoError}
-use Rattle.algo_text.specs.declared.fault.AlgoError.TheVariants.{Refused, Limit, TooLarge, OutOfMemory}
-use Rattle.algo_text.specs.Returned.{Tells}
+use Rattle.algo_rules.specs.declared.AlgoError.{AlgoError}
+use Rattle.algo_rules.specs.declared.AlgoError.TheVariants.{Refused, Limit, TooLarge, OutOfMemory}
+use Rattle.algo_rules.specs.Returned.{Tells}
 use Rattle.algo_rules.specs.Links.{first_of}
 use Rattle.algo_rules.specs.Placed.{Checks}
 

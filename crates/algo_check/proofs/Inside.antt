@@ -4,13 +4,13 @@ use Rattle.std.specs.Prelude.{slice_get}
 use Rattle.std.proofs.lemmas.List.{get_or_default}
 use Rattle.std.proofs.lemmas.Bool.{ltb-true}
 use Rattle.std.proofs.lemmas.List.FromFn.{length-range_with_len}
-use Rattle.algo_text.specs.declared.definition.Def.{Def}
 use Rattle.syn_base.specs.Bytes.{Bytes}
+use Rattle.algo_rules.specs.declared.Def.{Def}
+use Rattle.algo_rules.specs.ReferenceLinks.{Links, first_recursive}
+use Rattle.algo_rules.specs.Answer.{AreInside}
 use Rattle.algo_rules.specs.Links.{unknown, links_of}
 use Rattle.algo_check.specs.Linked.{AreLinked, named}
 use Rattle.algo_check.proofs.Leading.{all_lead}
-use Rattle.reference_graph.specs.Links.{Links, first_recursive}
-use Rattle.reference_graph.specs.Answer.{AreInside}
 
 pub there : {A : Type 0} (xs : List A) (i : ℕ) → i < length xs → (x : A) × (slice_get xs i ≡ Some x)
 there [] i h = absurd (omega (arith, h))

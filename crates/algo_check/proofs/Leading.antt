@@ -4,12 +4,12 @@ use Rattle.std.specs.Prelude.{slice_get}
 use Rattle.std.specs.List.{flat_map}
 use Rattle.std.proofs.lemmas.Option.{slice_get_within}
 use Rattle.std.proofs.lemmas.List.{map-append}
-use Rattle.algo_text.specs.declared.definition.Def.{Def}
-use Rattle.algo_text.specs.declared.definition.Body.{Body}
-use Rattle.algo_text.specs.declared.definition.Body.TheVariants.{Sensor, Actuator, Constant, Delay, Function, Graph, Switch, Repeat}
-use Rattle.algo_text.specs.declared.definition.Case.{Case}
-use Rattle.algo_text.specs.declared.fault.AlgoError.{AlgoError}
 use Rattle.syn_base.specs.Bytes.{Bytes}
+use Rattle.algo_rules.specs.declared.Def.{Def}
+use Rattle.algo_rules.specs.declared.Body.{Body}
+use Rattle.algo_rules.specs.declared.Body.TheVariants.{Sensor, Actuator, Constant, Delay, Function, Graph, Switch, Repeat}
+use Rattle.algo_rules.specs.declared.Case.{Case}
+use Rattle.algo_rules.specs.declared.AlgoError.{AlgoError}
 use Rattle.algo_rules.specs.Links.{first_of, Mention, mentions, mentions_in, definition, unknown_by, links_of}
 use Rattle.algo_check.specs.Placing.{place_of, places_of}
 use Rattle.algo_check.specs.Linked.{IsLinked, AreLinked, named, EachLeads, AllLead}

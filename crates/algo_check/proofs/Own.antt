@@ -6,15 +6,15 @@ use Rattle.std.specs.Str.{bytes_eq}
 use Rattle.std.proofs.lemmas.Bool.{ltb-false}
 use Rattle.std.proofs.lemmas.List.FromFn.{length-map-range_with_len}
 use Rattle.std.proofs.lemmas.Cmp.{nat_list_eq_equiv}
-use Rattle.algo_text.specs.declared.definition.Def.{Def}
-use Rattle.algo_text.specs.declared.fault.AlgoError.{AlgoError}
 use Rattle.syn_base.specs.Bytes.{Bytes}
-use Rattle.algo_tree.specs.Well.{AreDistinctNames, IsNewName}
+use Rattle.algo_rules.specs.declared.Def.{Def}
+use Rattle.algo_rules.specs.declared.AlgoError.{AlgoError}
+use Rattle.algo_rules.specs.Well.{AreDistinctNames, IsNewName}
+use Rattle.algo_rules.specs.ReferenceLinks.{depths}
 use Rattle.algo_rules.specs.Links.{definition, links_of, too_deep, too_deep_by}
 use Rattle.algo_rules.specs.Ports.{no_ports, ports_of}
 use Rattle.algo_rules.specs.declared.ports.Ports.{Ports}
 use Rattle.algo_check.specs.Placing.{names_of}
-use Rattle.reference_graph.specs.Links.{depths}
 use Rattle.algo_check.specs.Tables.{IsSmall, IsTable}
 use Rattle.algo_check.proofs.Inside.{links_count}
 use Rattle.algo_check.proofs.Stands.{deep}

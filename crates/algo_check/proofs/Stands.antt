@@ -2,17 +2,18 @@
 use Rattle.std.proofs.Common.{◌≡◌, ℕ, suc, ◌<◌, ◌≤◌, List, [], ◌∷◌, length, get_or, map, Some, None, arith}
 use Rattle.std.specs.Prelude.{slice_get}
 use Rattle.std.proofs.Math.Nat.{le-max_left, le-max_right}
-use Rattle.algo_text.specs.declared.definition.Def.{Def}
 use Rattle.syn_base.specs.Bytes.{Bytes}
+use Rattle.algo_rules.specs.declared.Def.{Def}
+use Rattle.algo_rules.specs.ReferenceLinks.{depth, first_recursive}
+use Rattle.algo_rules.proofs.Enough.{one_deeper}
 use Rattle.algo_rules.specs.Links.{unknown, links_of}
 use Rattle.algo_rules.specs.Placed.{ArePlaced}
 use Rattle.algo_rules.specs.declared.ports.Ports.{Ports}
 use Rattle.algo_check.specs.Linked.{AreLinked, named}
 use Rattle.algo_check.proofs.Leading.{all_lead}
-use Rattle.reference_graph.specs.Links.{depth, first_recursive, greatest}
-use Rattle.reference_graph.proofs.Enough.{one_deeper}
 use Rattle.algo_check.specs.Tables.{IsTable}
 use Rattle.algo_check.proofs.Inside.{links_inside, links_count}
+use Rattle.syn_base.specs.Numbers.{greatest}
 
 module _ (ds : List Def) where
   abbrev pub row : ℕ → List ℕ

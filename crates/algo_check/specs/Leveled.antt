@@ -1,8 +1,8 @@
 -- Definitions whose links and depths are known: every name is there, none reaches itself, and no depth is above 8.
 use Rattle.std.specs.Prelude.{◌≡◌, ℕ, List, None}
-use Rattle.algo_text.specs.declared.definition.Def.{Def}
+use Rattle.algo_rules.specs.declared.Def.{Def}
+use Rattle.algo_rules.specs.ReferenceLinks.{Links, depths, first_recursive}
 use Rattle.algo_rules.specs.Links.{links_of, unknown, too_deep}
-use Rattle.reference_graph.specs.Links.{Links, depths, first_recursive}
 
 pub record AreLeveled (ds : List Def) (links : Links) (levels : List ℕ) : Type 0 where
   pub linked : links ≡ links_of ds

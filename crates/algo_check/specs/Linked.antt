@@ -1,9 +1,9 @@
 -- What a link leads to, where every name is known.
 use Rattle.std.specs.Prelude.{◌≡◌, ℕ, ◌<◌, List, [], ◌∷◌, ◌++◌, length, map, None, Some, slice_get, slice_index_or}
-use Rattle.algo_text.specs.declared.definition.Def.{Def}
-use Rattle.algo_text.specs.declared.definition.Body.{Body}
-use Rattle.algo_text.specs.declared.definition.Body.TheVariants.{Graph, Switch, Repeat}
 use Rattle.syn_base.specs.Bytes.{Bytes}
+use Rattle.algo_rules.specs.declared.Def.{Def}
+use Rattle.algo_rules.specs.declared.Body.{Body}
+use Rattle.algo_rules.specs.declared.Body.TheVariants.{Graph, Switch, Repeat}
 use Rattle.algo_rules.specs.Links.{Mention, mentions, definition, unknown, links_of}
 
 -- The definition of a name stands at this place.

@@ -2,10 +2,10 @@
 use Rattle.std.specs.Prelude.{ℕ, List, map, position, Option, Some, None}
 use Rattle.std.specs.List.{flat_map, position_or_len}
 use Rattle.std.specs.Str.{bytes_eq}
-use Rattle.algo_text.specs.declared.definition.Def.{Def}
-use Rattle.algo_text.specs.declared.fault.AlgoError.{AlgoError}
-use Rattle.algo_text.specs.declared.fault.AlgoCause.TheVariants.{UnknownName}
 use Rattle.syn_base.specs.Bytes.{Bytes}
+use Rattle.algo_rules.specs.declared.Def.{Def}
+use Rattle.algo_rules.specs.declared.AlgoError.{AlgoError}
+use Rattle.algo_rules.specs.declared.AlgoCause.TheVariants.{UnknownName}
 use Rattle.algo_rules.specs.Links.{fault, first_of, Mention, mentions, misplaced_by}
 
 -- The names of the definitions, in order.

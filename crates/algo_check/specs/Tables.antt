@@ -1,14 +1,14 @@
 -- Tables of ports, which are filled depth by depth.
 use Rattle.std.specs.Prelude.{◌≡◌, ℕ, ◌<◌, ◌≤◌, List, length, slice_index_or}
 use Rattle.std.specs.List.{All}
-use Rattle.algo_text.specs.declared.definition.Def.{Def}
 use Rattle.syn_base.specs.Bytes.{Bytes}
 use Rattle.algo_check.specs.Linked.{IsLinked}
+use Rattle.algo_rules.specs.declared.Def.{Def}
+use Rattle.algo_rules.specs.ReferenceLinks.{depth}
 use Rattle.algo_rules.specs.Links.{links_of}
 use Rattle.algo_rules.specs.Ports.{no_ports, ports_of}
 use Rattle.algo_rules.specs.declared.ports.Ports.{Ports}
 use Rattle.body_check.specs.Bounds.{HasShortPorts}
-use Rattle.reference_graph.specs.Links.{depth}
 
 -- At most 65 inputs and as many outputs, each of at most 64 elements.
 pub record IsSmall (p : Ports) : Type 0 where

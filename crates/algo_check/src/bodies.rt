@@ -8,8 +8,7 @@ ghost use Rattle.algo_rules.specs.Resolved.{body_fault};
 ghost use Rattle.algo_rules.specs.WellRead.{IsWellRead};
 ghost use Rattle.algo_check.specs.Tables.{IsSmall};
 
-use algo_rules::Ports;
-use algo_text::{AlgoError, Body, Def};
+use algo_rules::{AlgoError, Body, Def, Ports};
 use body_check::{GraphParts, SwitchParts, check_graph, check_repeat, check_switch, ports_of_body};
 use std::alloc::Global;
 use syn_base::{Items, Name, OutOfMemory};

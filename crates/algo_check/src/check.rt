@@ -2,7 +2,7 @@
 ghost use Rattle.std.specs.Prelude.{◌≡◌, ◌≤◌, ◌∷◌, [], IfOk, length, map};
 ghost use Rattle.std.specs.List.{All};
 ghost use Rattle.syn_base.specs.Limits.{most_in_text};
-ghost use Rattle.algo_tree.specs.Well.{AreDistinctNames};
+ghost use Rattle.algo_rules.specs.Well.{AreDistinctNames};
 ghost use Rattle.algo_rules.specs.Links.{first_of};
 ghost use Rattle.algo_rules.specs.Placed.{Checks};
 ghost use Rattle.algo_rules.specs.Ports.{ports_of};
@@ -14,8 +14,7 @@ use crate::counts::check_operations;
 use crate::levels::{Levels, levels_of};
 use crate::main_graph::check_main;
 use crate::tables::ports_of_bodies;
-use algo_rules::Ports;
-use algo_text::{AlgoError, Def, Defs};
+use algo_rules::{AlgoError, Def, Defs, Ports};
 use std::alloc::Global;
 
 /// The first refusal of definitions in the order of the checks, or their ports, by place.

@@ -3,13 +3,13 @@ ghost use Rattle.std.specs.Prelude.{◌≡◌, ◌+◌, ◌<◌, ◌≤◌, IfOk
 ghost use Rattle.std.specs.List.{All, position_or_len, sum_by};
 ghost use Rattle.std.specs.Str.{bytes_eq};
 ghost use Rattle.algo_rules.specs.Placed.{Checks};
-ghost use Rattle.algo_rules.specs.Resolved.{is_fork, operations, too_many};
+ghost use Rattle.algo_rules.specs.Resolved.{operations, too_many, vertices_of_line};
 ghost use Rattle.algo_rules.specs.WellRead.{IsWellRead};
 ghost use Rattle.algo_check.specs.Counts.{AreCounts, count_here, next_from, row};
 ghost use Rattle.algo_check.specs.Leveled.{AreLeveled};
 
 use crate::levels::Levels;
-use algo_text::{AlgoError, Body, Def, Frontier, FrontierLine};
+use algo_rules::{AlgoError, Body, Def, Frontier, FrontierLine};
 use std::alloc::Global;
 use syn_base::{LimitFault, LimitKind, OutOfMemory};
 
@@ -163,7 +163,7 @@ fn count_of(body: &Body, inner: u128) -> u128
 /// How many of the lines of a repetition are fork or join lines.
 pub fn count_forks(lines: &[FrontierLine]) -> u128
     requires { length lines.now ≤ 64 }
-    ensures count { result ≡ sum_by is_fork lines.now }
+    ensures count { result ≡ sum_by vertices_of_line lines.now }
     ensures few { result ≤ 64 }
 {
     let mut total = 0;
@@ -175,7 +175,7 @@ pub fn count_forks(lines: &[FrontierLine]) -> u128
 
 /// How many fork or join lines a line is: 1 or 0.
 fn forks_of(line: &FrontierLine) -> u128
-    ensures is { result ≡ is_fork line.now }
+    ensures is { result ≡ vertices_of_line line.now }
     ensures one { result ≤ 1 }
 {
     match &line.frontier {

@@ -1,9 +1,9 @@
 //! The refusal of a line that names a definition, which `links_of` returns.
-ghost use Rattle.algo_text.specs.declared.fault.AlgoCause.TheVariants.{UnknownName, Misplaced};
+ghost use Rattle.algo_rules.specs.declared.AlgoCause.TheVariants.{UnknownName, Misplaced};
+ghost use Rattle.algo_rules.specs.Returned.{Tells};
 ghost use Rattle.algo_rules.specs.Links.{fault};
-ghost use Rattle.algo_text.specs.Returned.{Tells};
 
-use algo_text::{AlgoCause, AlgoError, AlgoFault};
+use algo_rules::{AlgoCause, AlgoError, AlgoFault};
 use std::alloc::Global;
 use syn_base::{Items, Name};
 

@@ -1,16 +1,15 @@
 //! The links and depths of definitions, with the checks that need no ports, which come first.
 ghost use Rattle.std.specs.Prelude.{◌≡◌, ◌<◌, ◌≤◌, ◌∷◌, [], IfOk, None, Some, length, map};
 ghost use Rattle.syn_base.specs.Limits.{most_in_text};
-ghost use Rattle.algo_tree.specs.Well.{AreDistinctNames};
-ghost use Rattle.algo_text.specs.Returned.{Tells};
+ghost use Rattle.algo_rules.specs.Well.{AreDistinctNames};
+ghost use Rattle.algo_rules.specs.Returned.{Tells};
+ghost use Rattle.algo_rules.specs.ReferenceLinks.{depths, first_recursive};
 ghost use Rattle.algo_rules.specs.Links.{first_of, links_of, misplaced, recursive, recursive_by, too_deep, too_deep_by, unknown};
 ghost use Rattle.algo_rules.specs.Placed.{Checks};
-ghost use Rattle.reference_graph.specs.Links.{depths, first_recursive};
 ghost use Rattle.algo_check.specs.Leveled.{AreLeveled};
 
 use crate::links::links_of;
-use algo_text::{AlgoCause, AlgoError, AlgoFault, Def, Defs};
-use reference_graph::{Depths, depths_of};
+use algo_rules::{AlgoCause, AlgoError, AlgoFault, Def, Defs, Depths, depths_of};
 use std::alloc::Global;
 use syn_base::{Items, LimitFault, LimitKind};
 

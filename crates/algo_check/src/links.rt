@@ -1,7 +1,7 @@
 //! The places of the definitions that definitions name: `links_of`, which the checks and the resolver call.
 ghost use Rattle.std.specs.Prelude.{◌≡◌, ◌≤◌, IfOk, length, map, ◌∷◌, []};
 ghost use Rattle.syn_base.specs.Limits.{most_in_text};
-ghost use Rattle.algo_tree.specs.Well.{AreDistinctNames};
+ghost use Rattle.algo_rules.specs.Well.{AreDistinctNames};
 ghost use Rattle.algo_rules.specs.Links.{first_of, unknown, misplaced, links_of, mentions};
 ghost use Rattle.algo_rules.specs.Placed.{Checks};
 ghost use Rattle.algo_check.specs.Placing.{names_of, unknown_in, unknown_all, places_in, places_all};
@@ -10,7 +10,7 @@ use crate::fault::unknown;
 use crate::mention::{Mention, mentions_of};
 use crate::names::names_of;
 use crate::standing::check_standing;
-use algo_text::{AlgoError, Def, Defs};
+use algo_rules::{AlgoError, Def, Defs};
 use std::alloc::Global;
 use syn_base::Items;
 use text_lines::Names;

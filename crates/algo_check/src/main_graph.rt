@@ -3,7 +3,7 @@ ghost use Rattle.std.specs.Prelude.{◌≡◌, None, Some};
 ghost use Rattle.algo_rules.specs.Placed.{Checks};
 ghost use Rattle.algo_rules.specs.Resolved.{is_main_graph, no_main, no_main_by};
 
-use algo_text::{AlgoCause, AlgoError, AlgoFault, Body, Def};
+use algo_rules::{AlgoCause, AlgoError, AlgoFault, Body, Def};
 
 /// Checks that there is a graph `main` without ports; the refusal is NoMain, at line 0. It takes no memory.
 pub fn check_main(defs: &[Def]) -> Result<(), AlgoError>

@@ -2,7 +2,7 @@
 ghost use Rattle.std.specs.Prelude.{◌≡◌, IfOk, map, true, false};
 ghost use Rattle.algo_rules.specs.Links.{mentions};
 
-use algo_text::{Body, Case, Def, Reference};
+use algo_rules::{Body, Case, Def, Reference};
 use std::alloc::Global;
 use std::marker::Model;
 use syn_base::{Name, OutOfMemory};

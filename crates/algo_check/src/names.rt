@@ -1,9 +1,9 @@
 //! The names of definitions, found by hash.
 ghost use Rattle.std.specs.Prelude.{◌≡◌, IfOk};
-ghost use Rattle.algo_tree.specs.Well.{AreDistinctNames};
+ghost use Rattle.algo_rules.specs.Well.{AreDistinctNames};
 ghost use Rattle.algo_check.specs.Placing.{names_of};
 
-use algo_text::Def;
+use algo_rules::Def;
 use std::alloc::Global;
 use syn_base::OutOfMemory;
 use text_lines::{Names, TableKey};

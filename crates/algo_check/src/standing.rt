@@ -6,7 +6,7 @@ ghost use Rattle.algo_check.specs.Placing.{places_of, misplaced_in, misplaced_al
 
 use crate::fault::misplaced;
 use crate::mention::{Mention, mentions_of};
-use algo_text::{AlgoError, Body, Def};
+use algo_rules::{AlgoError, Body, Def};
 use std::alloc::Global;
 use syn_base::{Items, Name};
 

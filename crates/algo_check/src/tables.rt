@@ -1,19 +1,18 @@
 //! The checks of all bodies, depth by depth, with a table of the ports that are known.
 ghost use Rattle.std.specs.Prelude.{◌≡◌, ◌+◌, ◌<◌, ◌≤◌, IfOk, None, OnOk, Some, length, map, replicate, slice_get, slice_index_or};
 ghost use Rattle.std.specs.List.{All};
+ghost use Rattle.algo_rules.specs.Well.{AreDistinctNames};
 ghost use Rattle.algo_rules.specs.Links.{first_of};
 ghost use Rattle.algo_rules.specs.Placed.{Checks};
 ghost use Rattle.algo_rules.specs.Ports.{no_ports, ports_of};
 ghost use Rattle.algo_rules.specs.Resolved.{bodies_fault, body_fault, faults_at};
 ghost use Rattle.algo_rules.specs.WellRead.{IsWellRead};
-ghost use Rattle.algo_tree.specs.Well.{AreDistinctNames};
 ghost use Rattle.algo_check.specs.Leveled.{AreLeveled};
 ghost use Rattle.algo_check.specs.Tables.{IsFilling, IsTable};
 
 use crate::bodies::{check_body, no_ports, ports_of_checked};
 use crate::levels::Levels;
-use algo_rules::Ports;
-use algo_text::{AlgoError, Def};
+use algo_rules::{AlgoError, Def, Ports};
 use std::alloc::Global;
 use syn_base::OutOfMemory;
 

@@ -1,9 +1,9 @@
 -- What is known of each definition of a text without a refusal.
 use Rattle.std.proofs.Common.{◌≡◌, ℕ, zero, suc, ◌<◌, ◌≤◌, List, [], ◌∷◌, Option, Some, None, refl, ap, subst, ◌∙◌, arith}
-use Rattle.algo_text.specs.declared.definition.Def.{Def}
-use Rattle.algo_text.specs.declared.definition.Body.{Body}
-use Rattle.algo_text.specs.declared.definition.Body.TheVariants.{Sensor, Actuator, Constant, Delay, Function, Graph, Switch, Repeat}
 use Rattle.syn_base.specs.Bytes.{Bytes}
+use Rattle.algo_rules.specs.declared.Def.{Def}
+use Rattle.algo_rules.specs.declared.Body.{Body}
+use Rattle.algo_rules.specs.declared.Body.TheVariants.{Sensor, Actuator, Constant, Delay, Function, Graph, Switch, Repeat}
 use Rattle.algo_rules.specs.Links.{Mention, mentions, mentions_in, definition, unknown, recursive, too_deep}
 use Rattle.algo_rules.specs.Ports.{ports_by, ports_in, ports_within, ports_of, outer_ports}
 use Rattle.algo_rules.specs.declared.ports.Ports.{Ports}

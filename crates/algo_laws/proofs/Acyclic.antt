@@ -4,7 +4,6 @@ use Rattle.std.specs.Prelude.{◌==◌, slice_get}
 use Rattle.std.specs.Str.{bytes_eq}
 use Rattle.std.specs.List.{list_any}
 use Rattle.std.proofs.lemmas.Slice.Eq.{bytes_eq-Decides}
-use Rattle.body_lang.specs.declared.expression.Port.{Port}
 use Rattle.level_meaning.specs.declared.source.Source.{Source}
 use Rattle.level_meaning.specs.declared.part.Part.{Part}
 use Rattle.level_meaning.specs.declared.part.Part.TheVariants.{Named}
@@ -13,24 +12,25 @@ use Rattle.level_meaning.specs.Order.{IsAcyclic}
 use Rattle.level_meaning.specs.Cycles.{IsOf, IsAmong, IsGuarding, Asks, Reaches, asks, goes, ReachesNoneItself, AllInRange}
 use Rattle.level_meaning.specs.Parts.{IsApart, HasDistinctParts}
 use Rattle.level_meaning.proofs.CyclesLemmas.{acyclic-from_reaching}
-use Rattle.algo_tree.specs.Tree.{Vertices}
-use Rattle.algo_tree.specs.View.{vertices_of}
-use Rattle.algo_tree.specs.Meaning.{node, nodes, asked_by}
-use Rattle.algo_tree.specs.Well.{IsNewName, AreDistinctNames}
-use Rattle.algo_text.specs.declared.definition.Def.{Def}
-use Rattle.algo_text.specs.declared.definition.Body.{Body}
-use Rattle.algo_text.specs.declared.definition.Body.TheVariants.{Sensor, Actuator, Constant, Delay, Function, Graph, Switch, Repeat}
-use Rattle.algo_text.specs.declared.definition.Reference.{Reference}
-use Rattle.algo_text.specs.declared.definition.Edge.{Edge}
-use Rattle.algo_text.specs.declared.definition.End.{End}
 use Rattle.syn_base.specs.Bytes.{Bytes}
-use Rattle.reference_graph.specs.Links.{Links, from, leads_within, reaches_itself}
-use Rattle.reference_graph.proofs.Enough.{enough}
+use Rattle.algo_rules.specs.declared.Port.{Port}
+use Rattle.algo_rules.specs.Tree.{Vertices}
+use Rattle.algo_rules.specs.View.{vertices_of}
+use Rattle.algo_rules.specs.Meaning.{node, nodes, asked_by}
+use Rattle.algo_rules.specs.Well.{IsNewName, AreDistinctNames}
+use Rattle.algo_rules.specs.declared.Def.{Def}
+use Rattle.algo_rules.specs.declared.Body.{Body}
+use Rattle.algo_rules.specs.declared.Body.TheVariants.{Sensor, Actuator, Constant, Delay, Function, Graph, Switch, Repeat}
+use Rattle.algo_rules.specs.declared.Reference.{Reference}
+use Rattle.algo_rules.specs.declared.Edge.{Edge}
+use Rattle.algo_rules.specs.declared.End.{End}
+use Rattle.algo_rules.specs.ReferenceLinks.{Links, from, leads_within, reaches_itself}
+use Rattle.algo_rules.proofs.Enough.{enough}
 use Rattle.algo_rules.specs.Links.{definition}
 use Rattle.algo_rules.specs.Ports.{ports_of}
 use Rattle.algo_rules.specs.Graphs.{same_owner, same_end, port_len, ports_at, givers, is_delay, place, source_of, leads_to, sources, dependences, names_of, cycle_by, cycle_fault}
 use Rattle.algo_rules.specs.declared.ports.Ports.{Ports}
-use Rattle.algo_rules.specs.Resolved.{Making, vertex_within, vertex_by, references_from, source_from, source_to, sources_to, kind_by, is_sensor, is_actuator}
+use Rattle.algo_rules.specs.Resolved.{Making, vertex_within, vertex_by, references_from, source_from, source_to, sources_to, kind_by, sensor_count, actuator_count}
 use Rattle.algo_laws.proofs.Firsts.{Each}
 use Rattle.algo_laws.proofs.Standing.{both}
 use Rattle.algo_laws.proofs.Anywhere.{neither, not_both, nor_second, or_left, or_right, any_left, any_right, is_at, any_at}
@@ -81,24 +81,24 @@ module _ (ds : List Def) (n : ℕ) (own : Ports) (all : List Reference) (edges :
   node_at s a (r ∷ rs) zero c h =
       let same = some_same (node (vertex_within ds (suc n) (Named r.name) r.def (fed r) s a)) c h in
       (r, (refl, subst (λ (x : Node). IsNodeOf r x) same (node_by ds (vertex_within ds n) (Named r.name) r.def (fed r) s a (definition ds r.def))))
-  node_at s a (r ∷ rs) (suc k) c h = node_at (s + is_sensor (definition ds r.def)) (a + is_actuator (definition ds r.def)) rs k c h
+  node_at s a (r ∷ rs) (suc k) c h = node_at (s + sensor_count (definition ds r.def)) (a + actuator_count (definition ds r.def)) rs k c h
 
   as_many : (s a : ℕ) (rs : List Reference) → length (nodes (made s a rs)) ≡ length rs
   as_many s a [] = refl
-  as_many s a (r ∷ rs) = ap suc (as_many (s + is_sensor (definition ds r.def)) (a + is_actuator (definition ds r.def)) rs)
+  as_many s a (r ∷ rs) = ap suc (as_many (s + sensor_count (definition ds r.def)) (a + actuator_count (definition ds r.def)) rs)
 
   apart : (w : Bytes) (s a : ℕ) (rs : List Reference) → IsNewName w (map (λ r. r.name) rs) → IsApart (Named w) (nodes (made s a rs))
   apart w s a [] h = tt
   apart w s a (r ∷ rs) h =
       let is = node_by ds (vertex_within ds n) (Named r.name) r.def (fed r) s a (definition ds r.def) in
-      (rw is.part_is h.0, apart w (s + is_sensor (definition ds r.def)) (a + is_actuator (definition ds r.def)) rs h.1)
+      (rw is.part_is h.0, apart w (s + sensor_count (definition ds r.def)) (a + actuator_count (definition ds r.def)) rs h.1)
 
   pub distinct_parts : (s a : ℕ) (rs : List Reference) → AreDistinctNames (map (λ r. r.name) rs) → HasDistinctParts (nodes (made s a rs))
   distinct_parts s a [] h = tt
   distinct_parts s a (r ∷ rs) h =
       let is = node_by ds (vertex_within ds n) (Named r.name) r.def (fed r) s a (definition ds r.def) in
-      let s' = s + is_sensor (definition ds r.def) in
-      let a' = a + is_actuator (definition ds r.def) in
+      let s' = s + sensor_count (definition ds r.def) in
+      let a' = a + actuator_count (definition ds r.def) in
       (subst (λ (p : Part). IsApart p (nodes (made s' a' rs))) (sym is.part_is) (apart r.name s' a' rs h.0), distinct_parts s' a' rs h.1)
 
   abbrev level : List Node

@@ -4,30 +4,30 @@ use Rattle.std.proofs.lemmas.List.{length-drop}
 use Rattle.std.proofs.Math.Nat.{div-add-mod, div-one}
 use Rattle.std.proofs.lemmas.List.Elements.{All-nil, All-push}
 use Rattle.syn_base.specs.Name.{is_name}
-use Rattle.body_lang.specs.Expr.{PortsBelow}
-use Rattle.algo_tree.specs.Typed.{IsLength}
-use Rattle.algo_text.specs.declared.definition.Def.{Def}
-use Rattle.algo_text.specs.declared.definition.Output.{Output}
-use Rattle.algo_text.specs.declared.definition.Reference.{Reference}
-use Rattle.algo_text.specs.declared.definition.Body.{Body}
-use Rattle.algo_text.specs.declared.definition.Body.TheVariants.{Sensor, Actuator, Constant, Delay}
 use Rattle.syn_base.specs.Bytes.{Bytes}
-use Rattle.algo_text.specs.Among.{is_among}
-use Rattle.algo_text.specs.Words.{word, number_of, count_of}
-use Rattle.algo_text.specs.Blocks.{Block, new_block}
-use Rattle.algo_text.specs.Text.{Stage, between, in_function, in_graph, in_switch, in_repeat, Reading, begins, numbers_of, defined, end_line, values_line, deep_delay, deep_line, delay_line, opened, opening_line, repeat_line, between_line}
-use Rattle.algo_text.proofs.Checks.{at_most, either, equal, found, held, neither, never, not_false, passed, read, same_ok}
-use Rattle.algo_text.specs.declared.part.Part.TheVariants.{Conditioning, Inputs}
 use Rattle.syn_base.specs.declared.limits.LimitKind.TheVariants.{PortLength, Copies}
 use Rattle.syn_base.specs.declared.limits.LimitKind.TheVariants as limits
 use Rattle.syn_base.specs.Limits.{bound_of}
-use Rattle.algo_text.specs.Blocks.{is_above}
-use Rattle.algo_text.specs.Text.{first_part}
+use Rattle.text_lines.specs.Refusals.{is_above}
+use Rattle.algo_rules.specs.Expr.{PortsBelow}
+use Rattle.algo_rules.specs.Typed.{IsLength}
+use Rattle.algo_rules.specs.declared.Def.{Def}
+use Rattle.algo_rules.specs.declared.Output.{Output}
+use Rattle.algo_rules.specs.declared.Reference.{Reference}
+use Rattle.algo_rules.specs.declared.Body.{Body}
+use Rattle.algo_rules.specs.declared.Body.TheVariants.{Sensor, Actuator, Constant, Delay}
+use Rattle.algo_rules.specs.Among.{is_among}
+use Rattle.algo_rules.specs.Words.{number_of, count_of}
+use Rattle.algo_rules.specs.Blocks.{Block, new_block}
+use Rattle.algo_rules.specs.Text.{Stage, between, in_function, in_graph, in_switch, in_repeat, Reading, numbers_of, defined, end_line, values_line, deep_delay, deep_line, delay_line, opened, opening_line, repeat_line, between_line, first_part}
+use Rattle.algo_rules.proofs.Checks.{at_most, either, equal, found, held, neither, never, not_false, passed, read, same_ok}
+use Rattle.algo_rules.specs.declared.Part.TheVariants.{Conditioning, Inputs}
 use Rattle.algo_rules.specs.WellRead.{IsName, IsWellRead}
 use Rattle.algo_laws.proofs.Checks.{count_positive}
 use Rattle.algo_laws.proofs.GivenOnce.{new_beside, distinct_behind}
-use Rattle.algo_laws.proofs.Ports.{no_ports}
+use Rattle.algo_laws.proofs.AddedPorts.{no_ports}
 use Rattle.algo_laws.proofs.Kept.{IsOpen, open_name, names_of, Kept, IsKept, reading, names_with}
+use Rattle.text_lines.specs.Text.{word, begins}
 
 numbers_length : (n : ℕ) (ws : List Bytes) (vs : List ℤ) → numbers_of n ws ≡ Ok vs → length vs ≡ length ws
 numbers_length n [] vs h = ap length (sym (same_ok [] vs h))

@@ -6,10 +6,10 @@ use Rattle.std.specs.Str.{bytes_eq}
 use Rattle.std.proofs.lemmas.Bool.{cases_lt}
 use Rattle.std.proofs.lemmas.List.{length-map}
 use Rattle.std.proofs.lemmas.List.FromFn.{length-map-range_with_len}
-use Rattle.algo_text.specs.declared.definition.Def.{Def}
-use Rattle.algo_text.specs.declared.fault.AlgoError.{AlgoError}
 use Rattle.syn_base.specs.Bytes.{Bytes}
-use Rattle.reference_graph.specs.Links.{depth, depths}
+use Rattle.algo_rules.specs.declared.Def.{Def}
+use Rattle.algo_rules.specs.declared.AlgoError.{AlgoError}
+use Rattle.algo_rules.specs.ReferenceLinks.{depth, depths}
 use Rattle.algo_rules.specs.Links.{first_of, definition, unknown, recursive, too_deep, links_of}
 use Rattle.algo_rules.specs.Resolved.{body_fault, faults_at, bodies_fault}
 use Rattle.algo_laws.proofs.Firsts.{Each, none_both, none_flat}

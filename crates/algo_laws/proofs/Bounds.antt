@@ -2,25 +2,25 @@
 use Rattle.std.proofs.Common.{◌≡◌, ℕ, zero, suc, ◌+◌, ◌≤◌, ◌^◌, List, [], ◌∷◌, ◌++◌, map, length, Option, Some, None, refl, ap, sym, subst, arith, length-append}
 use Rattle.std.specs.Prelude.{codes}
 use Rattle.std.proofs.lemmas.List.{length-map}
-use Rattle.body_lang.specs.declared.expression.Port.{Port}
 use Rattle.level_meaning.specs.declared.source.Source.{Source}
 use Rattle.level_meaning.specs.declared.part.Part.{Part}
 use Rattle.level_meaning.specs.declared.part.Part.TheVariants.{Named, Numbered}
-use Rattle.algo_tree.specs.Tree as tree
-use Rattle.algo_tree.specs.View.{vertices_of}
-use Rattle.algo_text.specs.declared.definition.Def.{Def}
-use Rattle.algo_text.specs.declared.definition.Body.{Body}
-use Rattle.algo_text.specs.declared.definition.Body.TheVariants.{Sensor, Actuator, Constant, Delay, Function, Graph, Switch, Repeat}
-use Rattle.algo_text.specs.declared.definition.Output.{Output}
-use Rattle.algo_text.specs.declared.definition.Reference.{Reference}
-use Rattle.algo_text.specs.declared.definition.Edge.{Edge}
 use Rattle.syn_base.specs.Bytes.{Bytes}
+use Rattle.algo_rules.specs.declared.Port.{Port}
+use Rattle.algo_rules.specs.Tree as tree
+use Rattle.algo_rules.specs.View.{vertices_of}
+use Rattle.algo_rules.specs.declared.Def.{Def}
+use Rattle.algo_rules.specs.declared.Body.{Body}
+use Rattle.algo_rules.specs.declared.Body.TheVariants.{Sensor, Actuator, Constant, Delay, Function, Graph, Switch, Repeat}
+use Rattle.algo_rules.specs.declared.Output.{Output}
+use Rattle.algo_rules.specs.declared.Reference.{Reference}
+use Rattle.algo_rules.specs.declared.Edge.{Edge}
+use Rattle.algo_rules.specs.Bounded.{IsPartBounded, IsKindBounded, IsBounded, AllBounded, HasBounds}
 use Rattle.algo_rules.specs.Links.{definition}
 use Rattle.algo_rules.specs.Ports.{ports_of, ports_by, lens_of}
 use Rattle.algo_rules.specs.declared.ports.Ports.{Ports}
-use Rattle.algo_rules.specs.Resolved.{Making, vertex_within, vertex_by, references_from, cases_from, owns, kind_by, inner_by, is_sensor, is_actuator, tree_of}
+use Rattle.algo_rules.specs.Resolved.{Making, vertex_within, vertex_by, references_from, cases_from, owns, kind_by, inner_by, tree_of, sensor_count, actuator_count}
 use Rattle.algo_rules.specs.WellRead.{IsWellRead}
-use Rattle.algo_tree.specs.Bounded.{IsPartBounded, IsKindBounded, IsBounded, AllBounded, HasBounds}
 use Rattle.algo_laws.specs.Central.{AcceptedHaveBounds}
 use Rattle.algo_laws.proofs.Refused.{has_none}
 use Rattle.algo_laws.proofs.Accepted.{Accepted, accepted, own_ports}
@@ -36,7 +36,7 @@ module _ (ds : List Def) (make : Making) where
   references_bounded : MakesBounded → (ins : List Port) (all : List Reference) (edges : List Edge) (s a : ℕ) (rs : List Reference) → AllBounded (vertices_of (references_from ds make ins all edges s a rs))
   references_bounded h ins all edges s a [] = tt
   references_bounded h ins all edges s a (r ∷ rs) =
-      (h (Named r.name) r.def _ s a tt, references_bounded h ins all edges (s + is_sensor (definition ds r.def)) (a + is_actuator (definition ds r.def)) rs)
+      (h (Named r.name) r.def _ s a tt, references_bounded h ins all edges (s + sensor_count (definition ds r.def)) (a + actuator_count (definition ds r.def)) rs)
 
   cases_bounded : MakesBounded → (ins c : ℕ) (ws : List Bytes) → c + length ws ≤ 2 ^ 32 → AllBounded (vertices_of (cases_from ds make ins c ws))
   cases_bounded h ins c [] few = tt

@@ -3,12 +3,12 @@ use Rattle.std.proofs.Common.{◌≡◌, ℕ, zero, suc, ◌+◌, Bool, true, fa
 use Rattle.std.specs.Prelude.{◌==◌}
 use Rattle.std.specs.Str.{bytes_eq}
 use Rattle.std.proofs.lemmas.Bool.{eqb-true}
-use Rattle.body_lang.specs.declared.expression.Port.{Port}
-use Rattle.algo_tree.specs.Typed.{source_length}
-use Rattle.algo_tree.specs.Well.{AreOwn}
-use Rattle.algo_text.specs.declared.definition.Case.{Case}
-use Rattle.algo_text.specs.declared.fault.AlgoCause.TheVariants.{BadCase}
 use Rattle.syn_base.specs.Bytes.{Bytes}
+use Rattle.algo_rules.specs.declared.Port.{Port}
+use Rattle.algo_rules.specs.Typed.{source_length}
+use Rattle.algo_rules.specs.Well.{AreOwn}
+use Rattle.algo_rules.specs.declared.Case.{Case}
+use Rattle.algo_rules.specs.declared.AlgoCause.TheVariants.{BadCase}
 use Rattle.algo_rules.specs.Links.{fault, first_of}
 use Rattle.algo_rules.specs.Ports.{lens_of, same_ports}
 use Rattle.algo_rules.specs.Frontiers.{fits, has_value, case_fault, case_faults, switch_fault}

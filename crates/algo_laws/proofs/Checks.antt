@@ -3,17 +3,18 @@ use Rattle.std.proofs.Common.{◌≡◌, ℕ, ◌≤◌, ◌==◌, Bool, nat_lt,
 use Rattle.std.specs.Prelude.{All, ℤ, pos, negsuc}
 use Rattle.std.proofs.lemmas.List.Elements.{All-cons, All-nil}
 use Rattle.syn_base.specs.Name.{is_name}
-use Rattle.body_lang.specs.declared.expression.Port.{Port}
-use Rattle.algo_tree.specs.Typed.{IsLength}
-use Rattle.algo_text.specs.declared.fault.AlgoError.{AlgoError}
 use Rattle.syn_base.specs.Bytes.{Bytes}
-use Rattle.algo_text.specs.Words.{word, number_of, count_by, count_of}
-use Rattle.algo_text.specs.Blocks.{Block, all_names, port_line}
-use Rattle.algo_text.proofs.Checks.{at_most, fewer, found, held, passed}
 use Rattle.syn_base.specs.declared.limits.LimitKind.TheVariants.{Ports, PortLength}
 use Rattle.syn_base.specs.Limits.{bound_of}
-use Rattle.algo_text.specs.Blocks.{is_above}
+use Rattle.text_lines.specs.Refusals.{is_above}
+use Rattle.algo_rules.specs.declared.Port.{Port}
+use Rattle.algo_rules.specs.Typed.{IsLength}
+use Rattle.algo_rules.specs.declared.AlgoError.{AlgoError}
+use Rattle.algo_rules.specs.Words.{number_of, count_by, count_of}
+use Rattle.algo_rules.specs.Blocks.{Block, all_names, port_line}
+use Rattle.algo_rules.proofs.Checks.{at_most, fewer, found, held, passed}
 use Rattle.algo_rules.specs.WellRead.{IsName}
+use Rattle.text_lines.specs.Text.{word}
 
 pub above_none : (m : ℕ) → nat_lt 0 m ≡ true → 1 ≤ m
 above_none m h = grind arith

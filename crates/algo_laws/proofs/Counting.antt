@@ -4,32 +4,32 @@ use Rattle.std.specs.Str.{bytes_eq}
 use Rattle.std.specs.List.{flat_map, sum_by}
 use Rattle.std.proofs.lemmas.List.Sums.{sum_by-cons}
 use Rattle.std.proofs.lemmas.Slice.Eq.{bytes_eq-Decides}
-use Rattle.body_lang.specs.declared.expression.Port.{Port}
 use Rattle.level_meaning.specs.declared.source.Source.{Source}
 use Rattle.level_meaning.specs.declared.part.Part.{Part}
 use Rattle.level_meaning.specs.declared.part.Part.TheVariants.{Named, Numbered}
 use Rattle.level_meaning.specs.declared.frontier.Feed.{Feed}
 use Rattle.level_meaning.specs.declared.frontier.Feed.TheVariants as feed
 use Rattle.level_meaning.specs.declared.frontier.Give.{Give}
-use Rattle.algo_tree.specs.View.{vertices_of}
-use Rattle.algo_tree.specs.Well.{IsNewName, AreDistinctNames, fork_names, join_names}
-use Rattle.algo_tree.specs.Counted as counted
-use Rattle.algo_text.specs.declared.definition.Def.{Def}
-use Rattle.algo_text.specs.declared.definition.Body.{Body}
-use Rattle.algo_text.specs.declared.definition.Body.TheVariants.{Sensor, Actuator, Constant, Delay, Function, Graph, Switch, Repeat}
-use Rattle.algo_text.specs.declared.definition.Reference.{Reference}
-use Rattle.algo_text.specs.declared.definition.Case.{Case}
-use Rattle.algo_text.specs.declared.definition.Edge.{Edge}
-use Rattle.algo_text.specs.declared.definition.Frontier.{Frontier}
-use Rattle.algo_text.specs.declared.definition.Frontier.TheVariants.{Fork, Diffuse, Iterate, Join}
-use Rattle.algo_text.specs.declared.definition.FrontierLine.{FrontierLine}
 use Rattle.syn_base.specs.Bytes.{Bytes}
-use Rattle.algo_text.specs.Among.{is_among}
+use Rattle.algo_rules.specs.declared.Port.{Port}
+use Rattle.algo_rules.specs.View.{vertices_of}
+use Rattle.algo_rules.specs.Well.{IsNewName, AreDistinctNames, fork_names, join_names}
+use Rattle.algo_rules.specs.Counted as counted
+use Rattle.algo_rules.specs.declared.Def.{Def}
+use Rattle.algo_rules.specs.declared.Body.{Body}
+use Rattle.algo_rules.specs.declared.Body.TheVariants.{Sensor, Actuator, Constant, Delay, Function, Graph, Switch, Repeat}
+use Rattle.algo_rules.specs.declared.Reference.{Reference}
+use Rattle.algo_rules.specs.declared.Case.{Case}
+use Rattle.algo_rules.specs.declared.Edge.{Edge}
+use Rattle.algo_rules.specs.declared.Frontier.{Frontier}
+use Rattle.algo_rules.specs.declared.Frontier.TheVariants.{Fork, Diffuse, Iterate, Join}
+use Rattle.algo_rules.specs.declared.FrontierLine.{FrontierLine}
+use Rattle.algo_rules.specs.Among.{is_among}
 use Rattle.algo_rules.specs.Links.{Mention, mentions, mentions_in, definition}
 use Rattle.algo_rules.specs.Ports.{ports_of, has_port, len_of, number_of}
 use Rattle.algo_rules.specs.declared.ports.Ports.{Ports}
 use Rattle.algo_rules.specs.Frontiers.{used_by}
-use Rattle.algo_rules.specs.Resolved.{Making, vertex_within, vertex_by, references_from, cases_from, sources_to, owns, kind_by, inner_by, feed_by, first_feed, feed_of, give_by, is_fork, count_by, count_in, count_within, is_sensor, is_actuator, body_fault}
+use Rattle.algo_rules.specs.Resolved.{Making, vertex_within, vertex_by, references_from, cases_from, sources_to, owns, kind_by, inner_by, feed_by, first_feed, feed_of, give_by, count_by, count_in, count_within, body_fault, vertices_of_line, sensor_count, actuator_count}
 use Rattle.algo_rules.specs.WellRead.{port_names}
 use Rattle.algo_laws.proofs.Firsts.{Each}
 use Rattle.algo_laws.proofs.Anywhere.{or_left, any_left, any_right}
@@ -134,21 +134,21 @@ module _ (copies : ℕ) (inner own : Ports) where
   abbrev AreCounted : ℕ → List FrontierLine → Frontier → Type 0
   AreCounted line ls f =
       sum_by (λ p. forks (first_feed inner own (feed_by inner own p.name f) (fed ls p.name))) inner.ins + length (join_names (give_by inner own f ++ gives ls))
-      ≡ is_fork (record { line = line; frontier = f }) + sum_by is_fork ls
+      ≡ vertices_of_line (record { line = line; frontier = f }) + sum_by vertices_of_line ls
 
   all_lines : (used : List Bytes) (ls : List FrontierLine) → LinesFit copies inner ls → AreFresh copies inner used ls → AreDistinctNames (port_names inner.ins)
-      → sum_by (λ p. forked ls p.name) inner.ins + length (join_names (gives ls)) ≡ sum_by is_fork ls
+      → sum_by (λ p. forked ls p.name) inner.ins + length (join_names (gives ls)) ≡ sum_by vertices_of_line ls
   all_lines used [] fit fresh distinct = no_forks_here
     where
       no_forks_here : sum_by (λ p. forked [] p.name) inner.ins + 0 ≡ 0
       no_forks_here = omega (arith, no_forks inner.ins)
   all_lines used (l ∷ ls) fit fresh distinct =
       by l.frontier fit.0 (λ x k. unused (used ++ used_by l.frontier) ls x fresh.1 k) (λ x e. subst (λ (xs : List Bytes). is_among x (used ++ xs) ≡ true) (sym e) (among_last x used)) refl
-      (all_lines (used ++ used_by l.frontier) ls fit.1 fresh.1 distinct) ∙ sym (sum_by-cons is_fork l ls)
+      (all_lines (used ++ used_by l.frontier) ls fit.1 fresh.1 distinct) ∙ sym (sum_by-cons vertices_of_line l ls)
     where
       by : (f : Frontier) → LineFits copies inner f → ((x : Bytes) → is_among x (used ++ used_by l.frontier) ≡ true → forked ls x ≡ 0)
           → ((x : Bytes) → used_by l.frontier ≡ x ∷ [] → is_among x (used ++ used_by l.frontier) ≡ true) → l.frontier ≡ f
-          → sum_by (λ p. forked ls p.name) inner.ins + length (join_names (gives ls)) ≡ sum_by is_fork ls → AreCounted l.line ls f
+          → sum_by (λ p. forked ls p.name) inner.ins + length (join_names (gives ls)) ≡ sum_by vertices_of_line ls → AreCounted l.line ls f
       by (Fork p x) k later known e rest =
           omega (arith, rest, used_first ls x (feed.Fork p (number_of own.ins p) (len_of inner.ins x)) (later x (known x (ap used_by e))) inner.ins distinct k.0)
       by (Diffuse p x) k later known e rest =
@@ -163,7 +163,7 @@ module _ (copies : ℕ) (inner own : Ports) where
       sum_by-cons forks (fed ls p.name) (map (λ p. fed ls p.name) ps) ∙ ap (λ (m : ℕ). forked ls p.name + m) (summed ls ps) ∙ sym (sum_by-cons (λ p. forked ls p.name) p ps)
 
   pub line_count : (ls : List FrontierLine) → LinesFit copies inner ls → AreFresh copies inner [] ls → AreDistinctNames (port_names inner.ins)
-      → length (fork_names (map (λ p. fed ls p.name) inner.ins)) + length (join_names (gives ls)) ≡ sum_by is_fork ls
+      → length (fork_names (map (λ p. fed ls p.name) inner.ins)) + length (join_names (gives ls)) ≡ sum_by vertices_of_line ls
   line_count ls fit fresh distinct = ap (λ (m : ℕ). m + length (join_names (gives ls))) (fork_count (map (λ p. fed ls p.name) inner.ins) ∙ summed ls inner.ins) ∙ all_lines [] ls fit fresh distinct
 
 pub arranged : (f c j t : ℕ) → f + j ≡ t → (f + c) + j ≡ c + t
@@ -177,7 +177,7 @@ module _ (ds : List Def) (make : Making) (count : Bytes → ℕ) (ih : MakesCoun
   references_counted ins all edges s a [] = refl
   references_counted ins all edges s a (r ∷ rs) =
       ap₂ (λ (m n : ℕ). m + n) (ih (Named r.name) r.def (sources_to (ports_of ds) ins all edges (Some r.name) (ports_of ds r.def).ins) s a)
-      (references_counted ins all edges (s + is_sensor (definition ds r.def)) (a + is_actuator (definition ds r.def)) rs)
+      (references_counted ins all edges (s + sensor_count (definition ds r.def)) (a + actuator_count (definition ds r.def)) rs)
       ∙ sym (sum_by-cons (λ r. count r.def) r rs)
 
   cases_counted : (ins c : ℕ) (otherwise : Bytes) (cs : List Case) → counted.operations_in (vertices_of (cases_from ds make ins c (map (λ c. c.def) cs ++ otherwise ∷ []))) ≡ sum_by (λ c. count c.def) cs + count otherwise
@@ -208,7 +208,7 @@ module _ (ds : List Def) (make : Making) (count : Bytes → ℕ) (ih : MakesCoun
       let feeds = map (λ p. feed_of body own lines p.name) body.ins in
       let gives = flat_map (λ l. give_by body own l.frontier) lines in
       ap (λ (m : ℕ). (length (fork_names feeds) + copies * m) + length (join_names gives)) inner
-      ∙ arranged (length (fork_names feeds)) (copies * count def) (length (join_names gives)) (sum_by is_fork lines) (line_count copies body own lines fits.lines fits.fresh h.0)
+      ∙ arranged (length (fork_names feeds)) (copies * count def) (length (join_names gives)) (sum_by vertices_of_line lines) (line_count copies body own lines fits.lines fits.fresh h.0)
 
 pub all_distinct : (ds : List Def) → Accepted ds → (n : ℕ) (ms : List Mention) → Each (λ m. IsLower ds n m.def) ms → Each (λ m. AreDistinctNames (port_names (ports_of ds m.def).ins)) ms
 all_distinct ds acc n [] h = tt

@@ -1,21 +1,21 @@
 -- Sensors and actuators stand in the main graph alone.
 use Rattle.std.proofs.Common.{◌≡◌, ℕ, zero, suc, ◌+◌, true, false, List, [], ◌∷◌, ◌++◌, map, length, Option, Some, None, refl}
-use Rattle.body_lang.specs.declared.expression.Port.{Port}
 use Rattle.level_meaning.specs.declared.source.Source.{Source}
 use Rattle.level_meaning.specs.declared.part.Part.{Part}
-use Rattle.algo_tree.specs.View.{vertices_of}
-use Rattle.algo_tree.specs.Ends.{HasNoEnds, AllNoEnds, IsNoEnd}
-use Rattle.algo_text.specs.declared.definition.Def.{Def}
-use Rattle.algo_text.specs.declared.definition.Body.{Body}
-use Rattle.algo_text.specs.declared.definition.Body.TheVariants.{Sensor, Actuator, Constant, Delay, Function, Graph, Switch, Repeat}
-use Rattle.algo_text.specs.declared.definition.Reference.{Reference}
-use Rattle.algo_text.specs.declared.definition.Case.{Case}
-use Rattle.algo_text.specs.declared.definition.Edge.{Edge}
 use Rattle.syn_base.specs.Bytes.{Bytes}
+use Rattle.algo_rules.specs.declared.Port.{Port}
+use Rattle.algo_rules.specs.View.{vertices_of}
+use Rattle.algo_rules.specs.Ends.{HasNoEnds, AllNoEnds, IsNoEnd}
+use Rattle.algo_rules.specs.declared.Def.{Def}
+use Rattle.algo_rules.specs.declared.Body.{Body}
+use Rattle.algo_rules.specs.declared.Body.TheVariants.{Sensor, Actuator, Constant, Delay, Function, Graph, Switch, Repeat}
+use Rattle.algo_rules.specs.declared.Reference.{Reference}
+use Rattle.algo_rules.specs.declared.Case.{Case}
+use Rattle.algo_rules.specs.declared.Edge.{Edge}
 use Rattle.algo_rules.specs.Links.{Mention, mentions, mentions_in, definition, is_main, is_end}
 use Rattle.algo_rules.specs.Ports.{ports_of}
 use Rattle.algo_rules.specs.declared.ports.Ports.{Ports}
-use Rattle.algo_rules.specs.Resolved.{Making, vertex_within, vertex_by, references_from, cases_from, inner_by as inner_of, kind_by, is_sensor, is_actuator}
+use Rattle.algo_rules.specs.Resolved.{Making, vertex_within, vertex_by, references_from, cases_from, inner_by as inner_of, kind_by, sensor_count, actuator_count}
 use Rattle.algo_laws.proofs.Firsts.{Each}
 use Rattle.algo_laws.proofs.Standing.{Stands, IsInner, inner_by}
 
@@ -34,7 +34,7 @@ module _ (ds : List Def) (make : Making) where
       → Each (Stands ds owner) (map reference_line rs) → AllNoEnds (vertices_of (references_from ds make ins all edges s a rs))
   references_no_ends h owner out ins all edges s a [] k = tt
   references_no_ends h owner out ins all edges s a (r ∷ rs) k =
-      (h _ r.def _ s a (inner_by owner (reference_line r) (definition ds r.def) out k.0), references_no_ends h owner out ins all edges (s + is_sensor (definition ds r.def)) (a + is_actuator (definition ds r.def)) rs k.1)
+      (h _ r.def _ s a (inner_by owner (reference_line r) (definition ds r.def) out k.0), references_no_ends h owner out ins all edges (s + sensor_count (definition ds r.def)) (a + actuator_count (definition ds r.def)) rs k.1)
 
   abbrev IsNamed : Bytes → Type 0
   IsNamed w = IsInner w (definition ds w)

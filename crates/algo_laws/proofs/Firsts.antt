@@ -1,7 +1,7 @@
 -- What it tells that a list of checks has no fault.
 use Rattle.std.proofs.Common.{◌≡◌, List, [], ◌∷◌, ◌++◌, map, Option, Some, None, refl, zero, suc, arith}
 use Rattle.std.specs.List.{All, flat_map}
-use Rattle.algo_text.specs.declared.fault.AlgoError.{AlgoError}
+use Rattle.algo_rules.specs.declared.AlgoError.{AlgoError}
 use Rattle.algo_rules.specs.Links.{first_of}
 
 -- it holds of each

@@ -8,20 +8,20 @@ use Rattle.std.proofs.lemmas.Bool.{ltb-false, eqb-true}
 use Rattle.std.proofs.lemmas.Slice.Eq.{bytes_eq-Decides}
 use Rattle.syn_base.specs.declared.limits.LimitKind.TheVariants.{PortLength}
 use Rattle.syn_base.specs.Limits.{bound_of}
-use Rattle.body_lang.specs.declared.expression.Port.{Port}
 use Rattle.level_meaning.specs.declared.frontier.Feed.{Feed}
 use Rattle.level_meaning.specs.declared.frontier.Feed.TheVariants as feed
-use Rattle.algo_tree.specs.Typed.{AreLengths, IsFed, AllFed, fed_length, given_length}
-use Rattle.algo_tree.specs.Well.{IsNewName, AreDistinctNames}
-use Rattle.algo_text.specs.declared.definition.Frontier.{Frontier}
-use Rattle.algo_text.specs.declared.definition.Frontier.TheVariants.{Fork, Diffuse, Iterate, Join}
-use Rattle.algo_text.specs.declared.definition.FrontierLine.{FrontierLine}
-use Rattle.algo_text.specs.declared.fault.AlgoError.{AlgoError}
-use Rattle.algo_text.specs.declared.fault.AlgoError.TheVariants.{Limit}
-use Rattle.algo_text.specs.declared.fault.AlgoCause.TheVariants.{BadRepeat}
 use Rattle.syn_base.specs.Bytes.{Bytes}
-use Rattle.algo_text.specs.Among.{is_among}
-use Rattle.algo_text.specs.Outer.{outer_names, all_outer}
+use Rattle.algo_rules.specs.declared.Port.{Port}
+use Rattle.algo_rules.specs.Typed.{AreLengths, IsFed, AllFed, fed_length, given_length}
+use Rattle.algo_rules.specs.Well.{IsNewName, AreDistinctNames}
+use Rattle.algo_rules.specs.declared.Frontier.{Frontier}
+use Rattle.algo_rules.specs.declared.Frontier.TheVariants.{Fork, Diffuse, Iterate, Join}
+use Rattle.algo_rules.specs.declared.FrontierLine.{FrontierLine}
+use Rattle.algo_rules.specs.declared.AlgoError.{AlgoError}
+use Rattle.algo_rules.specs.declared.AlgoError.TheVariants.{Limit}
+use Rattle.algo_rules.specs.declared.AlgoCause.TheVariants.{BadRepeat}
+use Rattle.algo_rules.specs.Among.{is_among}
+use Rattle.algo_rules.specs.Outer.{outer_names, all_outer}
 use Rattle.algo_rules.specs.Links.{fault, first_of}
 use Rattle.algo_rules.specs.Ports.{has_port, len_of, number_of, lens_of, outer_ins, outer_outs, outer_ports}
 use Rattle.algo_rules.specs.Frontiers.{too_long, used_by, is_open, frontier_fault, frontier_faults, unfed, repeat_fault}

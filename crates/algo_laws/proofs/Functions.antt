@@ -3,22 +3,23 @@ use Rattle.std.proofs.Common.{◌≡◌, ℕ, true, nat_lt, Ok, List, [], ◌∷
 use Rattle.std.specs.Prelude.{All}
 use Rattle.std.proofs.lemmas.List.{map-append, length-map}
 use Rattle.std.proofs.lemmas.List.Elements.{All-nil, All-push}
-use Rattle.body_lang.specs.declared.expression.Port.{Port}
-use Rattle.body_lang.specs.Expr.{PortsBelow}
-use Rattle.algo_text.specs.declared.definition.Def.{Def}
-use Rattle.algo_text.specs.declared.definition.Output.{Output}
-use Rattle.algo_text.specs.declared.definition.Body.TheVariants.{Function}
 use Rattle.syn_base.specs.Bytes.{Bytes}
-use Rattle.algo_text.specs.Blocks.{Block, in_line, result_line}
-use Rattle.algo_text.specs.Text.{in_function, Reading, begins, function_line}
-use Rattle.algo_text.proofs.Checks.{either, never}
 use Rattle.syn_base.specs.declared.limits.LimitKind.TheVariants.{Ports}
 use Rattle.syn_base.specs.Limits.{bound_of}
+use Rattle.algo_rules.specs.declared.Port.{Port}
+use Rattle.algo_rules.specs.Expr.{PortsBelow}
+use Rattle.algo_rules.specs.declared.Def.{Def}
+use Rattle.algo_rules.specs.declared.Output.{Output}
+use Rattle.algo_rules.specs.declared.Body.TheVariants.{Function}
+use Rattle.algo_rules.specs.Blocks.{Block, in_line, result_line}
+use Rattle.algo_rules.specs.Text.{in_function, Reading, function_line}
+use Rattle.algo_rules.proofs.Checks.{either, never}
 use Rattle.algo_rules.specs.WellRead.{port_names, ArePorts, ports_in, IsFunction}
 use Rattle.algo_laws.proofs.Checks.{above_none}
 use Rattle.algo_laws.proofs.GivenOnce.{new_both}
-use Rattle.algo_laws.proofs.Ports.{ports_with, input_put, output_put, put_between, put_behind, InAdded, in_added, ResultAdded, result_added}
+use Rattle.algo_laws.proofs.AddedPorts.{ports_with, input_put, output_put, put_between, put_behind, InAdded, in_added, ResultAdded, result_added}
 use Rattle.algo_laws.proofs.Kept.{IsOpenFunction, Kept, IsKept, Goes, reading, line_kept, end_kept}
+use Rattle.text_lines.specs.Text.{begins}
 
 input_goes : (b after : Block) → IsOpenFunction b → InAdded b after → Goes in_function b after
 input_goes b after o a =

@@ -1,10 +1,10 @@
 -- Names that are given once.
 use Rattle.std.proofs.Common.{◌≡◌, Bool, true, false, List, [], ◌∷◌, ◌++◌, refl, sym, subst, append-nil, bytes_eq}
 use Rattle.std.proofs.lemmas.Slice.Eq.{bytes_eq-Decides}
-use Rattle.algo_tree.specs.Well.{IsNewName, AreDistinctNames}
 use Rattle.syn_base.specs.Bytes.{Bytes}
-use Rattle.algo_text.specs.Among.{is_among}
-use Rattle.algo_text.proofs.Checks.{neither}
+use Rattle.algo_rules.specs.Well.{IsNewName, AreDistinctNames}
+use Rattle.algo_rules.specs.Among.{is_among}
+use Rattle.algo_rules.proofs.Checks.{neither}
 
 flipped : (x y : Bytes) → bytes_eq x y ≡ false → bytes_eq y x ≡ false
 flipped x y h = by (bytes_eq y x) refl

@@ -2,22 +2,23 @@
 use Rattle.std.proofs.Common.{◌≡◌, ℕ, ◌==◌, not, true, Ok, List, [], ◌∷◌, ◌++◌, length, map, refl, arith, subst, codes, ◌<◌}
 use Rattle.std.proofs.lemmas.List.{map-append, length-append}
 use Rattle.std.proofs.lemmas.List.Elements.{All-push}
-use Rattle.body_lang.specs.declared.expression.Port.{Port}
-use Rattle.algo_text.specs.declared.definition.Def.{Def}
-use Rattle.algo_text.specs.declared.definition.Reference.{Reference}
-use Rattle.algo_text.specs.declared.definition.Body.TheVariants.{Graph}
 use Rattle.syn_base.specs.Bytes.{Bytes}
-use Rattle.algo_text.specs.Words.{word, end_of}
-use Rattle.algo_text.specs.Blocks.{Block, in_line, out_line, reference_line, edge_line}
-use Rattle.algo_text.specs.Text.{in_graph, Reading, begins, graph_line}
-use Rattle.algo_text.proofs.Checks.{either, fewer, found, never, passed, same_ok}
-use Rattle.algo_text.proofs.References.{ReferenceRead, reference_read}
 use Rattle.syn_base.specs.declared.limits.LimitKind.TheVariants as limits
 use Rattle.syn_base.specs.Limits.{bound_of}
+use Rattle.algo_rules.specs.declared.Port.{Port}
+use Rattle.algo_rules.specs.declared.Def.{Def}
+use Rattle.algo_rules.specs.declared.Reference.{Reference}
+use Rattle.algo_rules.specs.declared.Body.TheVariants.{Graph}
+use Rattle.algo_rules.specs.Words.{end_of}
+use Rattle.algo_rules.specs.Blocks.{Block, in_line, out_line, reference_line, edge_line}
+use Rattle.algo_rules.specs.Text.{in_graph, Reading, graph_line}
+use Rattle.algo_rules.proofs.Checks.{either, fewer, found, never, passed, same_ok}
+use Rattle.algo_rules.proofs.References.{ReferenceRead, reference_read}
 use Rattle.algo_rules.specs.WellRead.{IsName, port_names, IsGraph}
 use Rattle.algo_laws.proofs.GivenOnce.{new_beside, new_both}
-use Rattle.algo_laws.proofs.Ports.{ports_with, input_put, output_put, put_between, put_behind, InAdded, in_added, OutAdded, out_added}
+use Rattle.algo_laws.proofs.AddedPorts.{ports_with, input_put, output_put, put_between, put_behind, InAdded, in_added, OutAdded, out_added}
 use Rattle.algo_laws.proofs.Kept.{Kept, IsKept, Goes, reading, line_kept, end_kept}
+use Rattle.text_lines.specs.Text.{word, begins}
 
 input_goes : (b after : Block) → IsGraph b.ins b.outs b.references → InAdded b after → Goes in_graph b after
 input_goes b after o a =

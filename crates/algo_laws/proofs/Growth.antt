@@ -1,21 +1,22 @@
 -- Each line adds at most one definition.
 use Rattle.std.proofs.Common.{◌≡◌, ℕ, ◌+◌, ◌≤◌, ◌==◌, Bool, not, ◌||◌, nat_lt, true, Option, Some, None, Result, Ok, Err, List, [], ◌∷◌, ◌++◌, length, drop, ap, arith, subst, length-append, codes, bytes_eq, ℤ}
 use Rattle.syn_base.specs.Name.{is_name}
-use Rattle.text_lines.specs.Text.{lines_of, words_of, code_of, foreign_place}
-use Rattle.algo_text.specs.declared.definition.Def.{Def}
-use Rattle.algo_text.specs.declared.definition.Defs.{Defs}
-use Rattle.algo_text.specs.declared.definition.Body.{Body}
-use Rattle.algo_text.specs.declared.definition.Body.TheVariants.{Sensor, Actuator, Constant, Delay, Function, Graph, Switch, Repeat}
-use Rattle.algo_text.specs.declared.fault.AlgoError.{AlgoError}
+use Rattle.text_lines.specs.Text.{lines_of, words_of, code_of, foreign_place, word, begins}
 use Rattle.syn_base.specs.Bytes.{Bytes}
-use Rattle.algo_text.specs.Among.{is_among}
-use Rattle.algo_text.specs.Words.{word, count_of}
-use Rattle.algo_text.specs.Parts.{is_whole}
-use Rattle.algo_text.specs.declared.part.Part.TheVariants.{Inputs}
 use Rattle.syn_base.specs.declared.limits.LimitKind.TheVariants.{PortLength, Copies}
-use Rattle.algo_text.specs.Blocks.{Block, new_block, is_above, in_line, out_line, result_line, reference_line, edge_line, on_line, case_line, otherwise_line, fork_line, diffuse_line, iterate_line, join_line}
-use Rattle.algo_text.specs.Text.{first_part, Stage, before_version, between, in_function, in_graph, in_switch, in_repeat, Reading, start, begins, defined, end_line, values_line, deep_delay, deep_line, delay_line, opened, opening_line, repeat_line, between_line, in_block, block_end, function_line, graph_line, switch_line, frontier_line, version_of, version_line, numbers_of, by_stage, line_by, next_line, at_end, defs_in, rest_of, definitions_of}
-use Rattle.algo_text.proofs.Checks.{passed, held, found, read, either, never, same_ok}
+use Rattle.text_lines.specs.Refusals.{is_above}
+use Rattle.algo_rules.specs.declared.Def.{Def}
+use Rattle.algo_rules.specs.declared.Defs.{Defs}
+use Rattle.algo_rules.specs.declared.Body.{Body}
+use Rattle.algo_rules.specs.declared.Body.TheVariants.{Sensor, Actuator, Constant, Delay, Function, Graph, Switch, Repeat}
+use Rattle.algo_rules.specs.declared.AlgoError.{AlgoError}
+use Rattle.algo_rules.specs.Among.{is_among}
+use Rattle.algo_rules.specs.Words.{count_of}
+use Rattle.algo_rules.specs.Parts.{is_whole}
+use Rattle.algo_rules.specs.declared.Part.TheVariants.{Inputs}
+use Rattle.algo_rules.specs.Blocks.{Block, new_block, in_line, out_line, result_line, reference_line, edge_line, on_line, case_line, otherwise_line, fork_line, diffuse_line, iterate_line, join_line}
+use Rattle.algo_rules.specs.Text.{first_part, Stage, before_version, between, in_function, in_graph, in_switch, in_repeat, Reading, start, defined, end_line, values_line, deep_delay, deep_line, delay_line, opened, opening_line, repeat_line, between_line, in_block, block_end, function_line, graph_line, switch_line, frontier_line, version_of, version_line, numbers_of, by_stage, line_by, next_line, at_end, defs_in, rest_of, definitions_of}
+use Rattle.algo_rules.proofs.Checks.{passed, held, found, read, either, never, same_ok}
 
 -- what was read after a line has at most one definition more
 abbrev Grows : Reading → Reading → Type 0

@@ -4,18 +4,19 @@ use Rattle.std.specs.Prelude.{◌==◌}
 use Rattle.std.specs.Str.{bytes_eq}
 use Rattle.std.proofs.lemmas.Bool.{eqb-true}
 use Rattle.std.proofs.lemmas.Slice.Eq.{bytes_eq-Decides}
-use Rattle.body_lang.specs.declared.expression.Port.{Port}
 use Rattle.level_meaning.specs.declared.source.Source.{Source}
-use Rattle.algo_tree.specs.Typed.{source_length}
-use Rattle.algo_tree.specs.Well.{IsNewName, AreDistinctNames}
-use Rattle.algo_text.specs.declared.definition.Reference.{Reference}
-use Rattle.algo_text.specs.declared.definition.Edge.{Edge}
-use Rattle.algo_text.specs.declared.definition.End.{End}
-use Rattle.algo_text.specs.declared.fault.AlgoCause.TheVariants.{WrongLength, TwiceConnected, Unconnected}
 use Rattle.syn_base.specs.Bytes.{Bytes}
+use Rattle.algo_rules.specs.declared.Port.{Port}
+use Rattle.algo_rules.specs.Typed.{source_length}
+use Rattle.algo_rules.specs.Well.{IsNewName, AreDistinctNames}
+use Rattle.algo_rules.specs.declared.Reference.{Reference}
+use Rattle.algo_rules.specs.declared.Edge.{Edge}
+use Rattle.algo_rules.specs.declared.End.{End}
+use Rattle.algo_rules.specs.declared.AlgoCause.TheVariants.{WrongLength, TwiceConnected, Unconnected}
+use Rattle.algo_rules.specs.Words.{end_word, owned}
 use Rattle.algo_rules.specs.Links.{fault, first_of}
 use Rattle.algo_rules.specs.Ports.{number_of, lens_of}
-use Rattle.algo_rules.specs.Graphs.{written, written_by, same_owner, same_end, is_connected, port_len, ports_at, givers, takers, joins, edge_fault, edge_faults, open_fault, open_faults, place}
+use Rattle.algo_rules.specs.Graphs.{same_owner, same_end, is_connected, port_len, ports_at, givers, takers, joins, edge_fault, edge_faults, open_fault, open_faults, place}
 use Rattle.algo_rules.specs.Resolved.{source_from, source_to, sources_to}
 use Rattle.algo_rules.specs.WellRead.{port_names}
 use Rattle.algo_rules.specs.declared.ports.Ports.{Ports}
@@ -74,7 +75,7 @@ module _ (of : Bytes → Ports) (own : Ports) (references : List Reference) wher
   joins_by before e (Some n) (Some m) h = by (n == m) refl h
     where
       by : (b : Bool) → (n == m) ≡ b
-          → (if not b then fault e.line (WrongLength (written e.to)) else (if is_connected before e.to then fault e.line (TwiceConnected (written e.to)) else None)) ≡ None
+          → (if not b then fault e.line (WrongLength (end_word e.to)) else (if is_connected before e.to then fault e.line (TwiceConnected (end_word e.to)) else None)) ≡ None
           → (k : ℕ) × ((Some n ≡ Some k) × (Some m ≡ Some k))
       by true i k = (n, (refl, ap (λ (j : ℕ). Some j) (sym (eqb-true n m i))))
       by false i k = cc
@@ -117,7 +118,7 @@ module _ (of : Bytes → Ports) (own : Ports) (references : List Reference) wher
   none_open edges line owner (p ∷ ps) h = by (λ k. none_open edges line owner ps k) (is_connected edges (record { owner = owner; port = p.name })) refl h
     where
       by : (open_fault of own references edges line owner ps ≡ None → Each (IsReached edges owner) ps) → (b : Bool) → is_connected edges (record { owner = owner; port = p.name }) ≡ b
-          → (if b then open_fault of own references edges line owner ps else fault line (Unconnected (written_by owner p.name))) ≡ None → Each (IsReached edges owner) (p ∷ ps)
+          → (if b then open_fault of own references edges line owner ps else fault line (Unconnected (owned owner p.name))) ≡ None → Each (IsReached edges owner) (p ∷ ps)
       by rest true e k = (e, rest k)
       by rest false e k = cc
 

@@ -3,19 +3,19 @@ use Rattle.std.proofs.Common.{◌≡◌, ℕ, ◌≤◌, Bool, not, ◌||◌, �
 use Rattle.std.specs.Prelude.{All}
 use Rattle.std.proofs.lemmas.List.{map-append}
 use Rattle.std.proofs.lemmas.List.Elements.{All-push}
-use Rattle.body_lang.specs.Expr.{PortsBelow}
-use Rattle.algo_tree.specs.Well.{AreDistinctNames}
-use Rattle.algo_text.specs.declared.definition.Body.{Body}
-use Rattle.algo_text.specs.declared.definition.Def.{Def}
-use Rattle.algo_text.specs.declared.fault.AlgoError.{AlgoError}
 use Rattle.syn_base.specs.Bytes.{Bytes}
 use Rattle.syn_base.specs.declared.limits.LimitKind.TheVariants as limits
-use Rattle.algo_text.specs.Blocks.{Block}
-use Rattle.algo_text.specs.Text.{Stage, before_version, between, in_function, in_graph, in_switch, in_repeat, Reading, in_block, block_end}
-use Rattle.algo_text.proofs.Checks.{neither, never, not_false, passed, same_ok}
-use Rattle.algo_text.specs.declared.part.Part.TheVariants.{Inputs}
-use Rattle.algo_text.specs.Parts.{admits, is_conditioning}
 use Rattle.syn_base.specs.Limits.{bound_of}
+use Rattle.algo_rules.specs.Expr.{PortsBelow}
+use Rattle.algo_rules.specs.Well.{AreDistinctNames}
+use Rattle.algo_rules.specs.declared.Body.{Body}
+use Rattle.algo_rules.specs.declared.Def.{Def}
+use Rattle.algo_rules.specs.declared.AlgoError.{AlgoError}
+use Rattle.algo_rules.specs.Blocks.{Block}
+use Rattle.algo_rules.specs.Text.{Stage, before_version, between, in_function, in_graph, in_switch, in_repeat, Reading, in_block, block_end}
+use Rattle.algo_rules.proofs.Checks.{neither, never, not_false, passed, same_ok}
+use Rattle.algo_rules.specs.declared.Part.TheVariants.{Inputs}
+use Rattle.algo_rules.specs.Parts.{admits, is_conditioning}
 use Rattle.algo_rules.specs.WellRead.{IsName, port_names, ArePorts, ports_in, IsGraph, IsRepetition, IsWellRead}
 
 -- no input may follow an output

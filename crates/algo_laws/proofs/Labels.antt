@@ -1,20 +1,20 @@
 -- What is said of the vertex that is made of a definition.
 use Rattle.std.proofs.Common.{◌≡◌, ℕ, zero, suc, ◌+◌, ◌≤◌, List, [], ◌∷◌, map, Option, Some, None, refl, ap₂, arith}
-use Rattle.body_lang.specs.declared.expression.Port.{Port}
 use Rattle.level_meaning.specs.declared.source.Source.{Source}
 use Rattle.level_meaning.specs.declared.part.Part.{Part}
 use Rattle.level_meaning.specs.declared.part.Part.TheVariants.{Named}
-use Rattle.algo_tree.specs.Tree.{Vertex, vertex}
-use Rattle.algo_tree.specs.View.{vertices_of}
-use Rattle.algo_tree.specs.Meaning.{node}
-use Rattle.algo_tree.specs.Typed.{label_of, outs_of}
-use Rattle.algo_text.specs.declared.definition.Def.{Def}
-use Rattle.algo_text.specs.declared.definition.Reference.{Reference}
-use Rattle.algo_text.specs.declared.definition.Edge.{Edge}
 use Rattle.syn_base.specs.Bytes.{Bytes}
+use Rattle.algo_rules.specs.declared.Port.{Port}
+use Rattle.algo_rules.specs.Tree.{Vertex, vertex}
+use Rattle.algo_rules.specs.View.{vertices_of}
+use Rattle.algo_rules.specs.Meaning.{node}
+use Rattle.algo_rules.specs.Typed.{label_of, outs_of}
+use Rattle.algo_rules.specs.declared.Def.{Def}
+use Rattle.algo_rules.specs.declared.Reference.{Reference}
+use Rattle.algo_rules.specs.declared.Edge.{Edge}
 use Rattle.algo_rules.specs.Links.{definition}
 use Rattle.algo_rules.specs.Ports.{ports_of, lens_of}
-use Rattle.algo_rules.specs.Resolved.{Making, vertex_within, vertex_by, references_from, sources_to, is_sensor, is_actuator}
+use Rattle.algo_rules.specs.Resolved.{Making, vertex_within, vertex_by, references_from, sources_to, sensor_count, actuator_count}
 use Rattle.algo_laws.proofs.Firsts.{Each}
 use Rattle.algo_laws.proofs.Ends.{reference_line}
 use Rattle.algo_laws.specs.Depths.{rank}
@@ -54,4 +54,4 @@ references_outs ds acc n ins all edges s a [] h = refl
 references_outs ds acc n ins all edges s a (r ∷ rs) h =
     ap₂ (λ (ns : List ℕ) (nss : List (List ℕ)). ns ∷ nss)
     (label_outs ds acc n (Named r.name) r.def h.0.0.0 (sources_to (ports_of ds) ins all edges (Some r.name) (ports_of ds r.def).ins) s a h.0.0.1 (omega (arith, h.0.1)))
-    (references_outs ds acc n ins all edges (s + is_sensor (definition ds r.def)) (a + is_actuator (definition ds r.def)) rs h.1)
+    (references_outs ds acc n ins all edges (s + sensor_count (definition ds r.def)) (a + actuator_count (definition ds r.def)) rs h.1)

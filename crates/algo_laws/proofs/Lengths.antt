@@ -4,10 +4,10 @@ use Rattle.std.specs.Str.{bytes_eq}
 use Rattle.std.specs.List.{All}
 use Rattle.std.proofs.lemmas.Cmp.{nat_list_eq_equiv}
 use Rattle.std.proofs.lemmas.Slice.Eq.{bytes_eq-Decides}
-use Rattle.body_lang.specs.declared.expression.Port.{Port}
-use Rattle.algo_tree.specs.Well.{IsNewName, AreDistinctNames}
-use Rattle.algo_tree.specs.Typed.{IsLength, AreLengths}
 use Rattle.syn_base.specs.Bytes.{Bytes}
+use Rattle.algo_rules.specs.declared.Port.{Port}
+use Rattle.algo_rules.specs.Well.{IsNewName, AreDistinctNames}
+use Rattle.algo_rules.specs.Typed.{IsLength, AreLengths}
 use Rattle.algo_rules.specs.Ports.{has_port, len_of, number_of, lens_of}
 use Rattle.algo_rules.specs.Graphs.{port_len}
 use Rattle.algo_rules.specs.WellRead.{port_names}

@@ -1,6 +1,6 @@
 pub mod Checks
 pub mod GivenOnce
-pub mod Ports
+pub mod AddedPorts
 pub mod Kept
 pub mod Between
 pub mod Functions
@@ -36,3 +36,6 @@ pub mod Trees
 pub mod Bounds
 pub mod Names
 pub mod Worked
+-- Lemmas from below, which proofs above cite with those of this crate.
+pub use Rattle.algo_rules.proofs.Capped
+pub use Rattle.algo_rules.proofs.Texts

@@ -3,16 +3,16 @@ use Rattle.std.proofs.Common.{◌≡◌, ℕ, Bool, true, false, List, [], ◌�
 use Rattle.std.specs.Str.{bytes_eq}
 use Rattle.std.specs.List.{flat_map}
 use Rattle.std.proofs.lemmas.Slice.Eq.{bytes_eq-Decides}
-use Rattle.body_lang.specs.declared.expression.Port.{Port}
 use Rattle.level_meaning.specs.declared.frontier.Feed.{Feed}
 use Rattle.level_meaning.specs.declared.frontier.Feed.TheVariants as feed
 use Rattle.level_meaning.specs.declared.frontier.Give.{Give}
-use Rattle.algo_tree.specs.Well.{IsNewName, AreDistinctNames, fork_names, join_names}
-use Rattle.algo_text.specs.declared.definition.Frontier.{Frontier}
-use Rattle.algo_text.specs.declared.definition.Frontier.TheVariants.{Fork, Diffuse, Iterate, Join}
-use Rattle.algo_text.specs.declared.definition.FrontierLine.{FrontierLine}
 use Rattle.syn_base.specs.Bytes.{Bytes}
-use Rattle.algo_text.specs.Outer.{outer_names, all_outer}
+use Rattle.algo_rules.specs.declared.Port.{Port}
+use Rattle.algo_rules.specs.Well.{IsNewName, AreDistinctNames, fork_names, join_names}
+use Rattle.algo_rules.specs.declared.Frontier.{Frontier}
+use Rattle.algo_rules.specs.declared.Frontier.TheVariants.{Fork, Diffuse, Iterate, Join}
+use Rattle.algo_rules.specs.declared.FrontierLine.{FrontierLine}
+use Rattle.algo_rules.specs.Outer.{outer_names, all_outer}
 use Rattle.algo_rules.specs.Ports.{len_of, number_of}
 use Rattle.algo_rules.specs.Resolved.{feed_by, first_feed, feed_of, give_by}
 use Rattle.algo_rules.specs.WellRead.{port_names}

@@ -2,15 +2,14 @@
 use Rattle.std.proofs.Common.{◌≡◌, ℕ, ◌+◌, ◌==◌, Bool, not, ◌||◌, true, false, cond, Option, Some, None, Ok, List, [], ◌∷◌, length, refl, ◌∙◌, subst, append-nil, codes}
 use Rattle.std.specs.Prelude.{All}
 use Rattle.std.proofs.lemmas.List.Elements.{All-cons, All-head, All-nil, All-tail}
-use Rattle.text_lines.specs.Text.{lines_of, words_of, code_of, foreign_place}
-use Rattle.algo_tree.specs.Well.{AreDistinctNames}
-use Rattle.algo_text.specs.declared.definition.Def.{Def}
-use Rattle.algo_text.specs.declared.definition.Defs.{Defs}
+use Rattle.text_lines.specs.Text.{lines_of, words_of, code_of, foreign_place, word, begins}
 use Rattle.syn_base.specs.Bytes.{Bytes}
-use Rattle.algo_text.specs.Words.{word}
-use Rattle.algo_text.specs.Blocks.{Block}
-use Rattle.algo_text.specs.Text.{Stage, before_version, between, in_function, in_graph, in_switch, in_repeat, Reading, start, begins, version_of, version_line, by_stage, line_by, next_line, at_end, rest_of, definitions_of}
-use Rattle.algo_text.proofs.Checks.{found, never, passed, read, same_ok}
+use Rattle.algo_rules.specs.Well.{AreDistinctNames}
+use Rattle.algo_rules.specs.declared.Def.{Def}
+use Rattle.algo_rules.specs.declared.Defs.{Defs}
+use Rattle.algo_rules.specs.Blocks.{Block}
+use Rattle.algo_rules.specs.Text.{Stage, before_version, between, in_function, in_graph, in_switch, in_repeat, Reading, start, version_of, version_line, by_stage, line_by, next_line, at_end, rest_of, definitions_of}
+use Rattle.algo_rules.proofs.Checks.{found, never, passed, read, same_ok}
 use Rattle.algo_rules.specs.WellRead.{IsName, IsWellRead, AreWellRead}
 use Rattle.algo_laws.proofs.Kept.{names_of, Kept, IsKept, reading}
 use Rattle.algo_laws.proofs.Between.{between_kept}

@@ -3,32 +3,32 @@
 use Rattle.std.proofs.Common.{◌≡◌, ℕ, zero, suc, ◌+◌, ◌≤◌, Bool, true, false, List, [], ◌∷◌, ◌++◌, map, length, Option, Some, None, refl, sym, subst, arith, if◌then◌else◌}
 use Rattle.std.specs.List.{flat_map}
 use Rattle.std.specs.Str.{bytes_eq}
-use Rattle.body_lang.specs.declared.expression.Port.{Port}
 use Rattle.level_meaning.specs.declared.source.Source.{Source}
 use Rattle.level_meaning.specs.declared.part.Part.{Part}
 use Rattle.level_meaning.specs.declared.part.Part.TheVariants.{Named, Numbered}
 use Rattle.level_meaning.specs.declared.frontier.Feed.{Feed}
 use Rattle.level_meaning.specs.declared.frontier.Feed.TheVariants as feed
 use Rattle.level_meaning.specs.declared.frontier.Give.{Give}
-use Rattle.algo_tree.specs.Tree as tree
-use Rattle.algo_tree.specs.View.{vertices_of}
-use Rattle.algo_tree.specs.Well.{fork_names, join_names}
-use Rattle.algo_tree.proofs.Texts.{name_word}
-use Rattle.algo_tree.specs.Named.{IsPartNamed, AreNames, IsKindNamed, IsNamed, AllNamed, HasNames}
-use Rattle.algo_text.specs.declared.definition.Def.{Def}
-use Rattle.algo_text.specs.declared.definition.Body.{Body}
-use Rattle.algo_text.specs.declared.definition.Body.TheVariants.{Sensor, Actuator, Constant, Delay, Function, Graph, Switch, Repeat}
-use Rattle.algo_text.specs.declared.definition.Reference.{Reference}
-use Rattle.algo_text.specs.declared.definition.Edge.{Edge}
-use Rattle.algo_text.specs.declared.definition.Frontier.{Frontier}
-use Rattle.algo_text.specs.declared.definition.Frontier.TheVariants.{Fork, Diffuse, Iterate, Join}
-use Rattle.algo_text.specs.declared.definition.FrontierLine.{FrontierLine}
-use Rattle.algo_text.specs.Outer.{outer_names, all_outer}
 use Rattle.syn_base.specs.Bytes.{Bytes}
+use Rattle.algo_rules.specs.declared.Port.{Port}
+use Rattle.algo_rules.specs.Tree as tree
+use Rattle.algo_rules.specs.View.{vertices_of}
+use Rattle.algo_rules.specs.Well.{fork_names, join_names}
+use Rattle.algo_rules.proofs.Texts.{name_word}
+use Rattle.algo_rules.specs.Named.{IsPartNamed, AreNames, IsKindNamed, IsNamed, AllNamed, HasNames}
+use Rattle.algo_rules.specs.declared.Def.{Def}
+use Rattle.algo_rules.specs.declared.Body.{Body}
+use Rattle.algo_rules.specs.declared.Body.TheVariants.{Sensor, Actuator, Constant, Delay, Function, Graph, Switch, Repeat}
+use Rattle.algo_rules.specs.declared.Reference.{Reference}
+use Rattle.algo_rules.specs.declared.Edge.{Edge}
+use Rattle.algo_rules.specs.declared.Frontier.{Frontier}
+use Rattle.algo_rules.specs.declared.Frontier.TheVariants.{Fork, Diffuse, Iterate, Join}
+use Rattle.algo_rules.specs.declared.FrontierLine.{FrontierLine}
+use Rattle.algo_rules.specs.Outer.{outer_names, all_outer}
 use Rattle.algo_rules.specs.Links.{mentions_in, definition}
 use Rattle.algo_rules.specs.Ports.{ports_of, len_of, number_of}
 use Rattle.algo_rules.specs.declared.ports.Ports.{Ports}
-use Rattle.algo_rules.specs.Resolved.{feed_by, first_feed, feed_of, give_by, vertex_within, vertex_by, references_from, cases_from, sources_to, owns, kind_by, inner_by, is_sensor, is_actuator}
+use Rattle.algo_rules.specs.Resolved.{feed_by, first_feed, feed_of, give_by, vertex_within, vertex_by, references_from, cases_from, sources_to, owns, kind_by, inner_by, sensor_count, actuator_count}
 use Rattle.algo_rules.specs.WellRead.{IsName, IsWellRead, AreWellRead}
 use Rattle.algo_laws.specs.Central.{AcceptedHaveNames}
 use Rattle.algo_laws.specs.Depths.{rank}
@@ -109,7 +109,7 @@ module _ (ds : List Def) (n : ℕ) where
   references_named ih ins all edges s a [] h names = tt
   references_named ih ins all edges s a (r ∷ rs) h names = (
     ih (Named r.name) r.def h.0.0.0 (sources_to (ports_of ds) ins all edges (Some r.name) (ports_of ds r.def).ins) s a (name_word r.name names.0) h.0.0.1 (omega (arith, h.0.1)),
-    references_named ih ins all edges (s + is_sensor (definition ds r.def)) (a + is_actuator (definition ds r.def)) rs h.1 names.1,
+    references_named ih ins all edges (s + sensor_count (definition ds r.def)) (a + actuator_count (definition ds r.def)) rs h.1 names.1,
   )
 
   named_body : MakesNamed → (own : Ports) (s a line : ℕ) (b : Body) → IsWellRead b → Each (λ m. IsLower ds (suc n) m.def) (mentions_in line b)

@@ -1,28 +1,28 @@
 -- The sensors and the actuators of the main graph: none stands inside another vertex, and they are numbered in order.
 use Rattle.std.proofs.Common.{◌≡◌, ℕ, suc, ◌+◌, true, false, List, [], ◌∷◌, ◌++◌, map, length, Option, Some, None, ◌⊎◌, inl, inr, refl, ap, sym, subst, ◌∙◌, arith, append_assoc, append-nil, add-zero, zero-add}
-use Rattle.body_lang.specs.declared.expression.Port.{Port}
 use Rattle.level_meaning.specs.declared.source.Source.{Source}
 use Rattle.level_meaning.specs.declared.part.Part.{Part}
 use Rattle.level_meaning.specs.declared.part.Part.TheVariants.{Named}
-use Rattle.level_meaning.specs.Level.{numbers_below}
-use Rattle.algo_tree.specs.Tree.{Vertex, vertex, Vertices, and_vertex}
-use Rattle.algo_tree.specs.View.{vertices_of}
-use Rattle.algo_tree.specs.Meaning.{vertices_in}
-use Rattle.algo_tree.specs.Typed.{label_of}
-use Rattle.algo_tree.specs.Ends.{AllNoEnds, NoneInside, AreEndsNumbered, sensor_number, sensor_numbers, actuator_number, actuator_numbers}
-use Rattle.algo_text.specs.declared.definition.Def.{Def}
-use Rattle.algo_text.specs.declared.definition.Body.{Body}
-use Rattle.algo_text.specs.declared.definition.Body.TheVariants.{Sensor, Actuator, Constant, Delay, Function, Graph, Switch, Repeat}
-use Rattle.algo_text.specs.declared.definition.Reference.{Reference}
-use Rattle.algo_text.specs.declared.definition.Edge.{Edge}
 use Rattle.syn_base.specs.Bytes.{Bytes}
+use Rattle.algo_rules.specs.declared.Port.{Port}
+use Rattle.algo_rules.specs.Tree.{Vertex, vertex, Vertices, and_vertex}
+use Rattle.algo_rules.specs.View.{vertices_of}
+use Rattle.algo_rules.specs.Meaning.{vertices_in}
+use Rattle.algo_rules.specs.Typed.{label_of}
+use Rattle.algo_rules.specs.Ends.{AllNoEnds, NoneInside, AreEndsNumbered, sensor_number, sensor_numbers, actuator_number, actuator_numbers}
+use Rattle.algo_rules.specs.declared.Def.{Def}
+use Rattle.algo_rules.specs.declared.Body.{Body}
+use Rattle.algo_rules.specs.declared.Body.TheVariants.{Sensor, Actuator, Constant, Delay, Function, Graph, Switch, Repeat}
+use Rattle.algo_rules.specs.declared.Reference.{Reference}
+use Rattle.algo_rules.specs.declared.Edge.{Edge}
 use Rattle.algo_rules.specs.Links.{definition, is_main, may_stand, mentions_in}
 use Rattle.algo_rules.specs.Ports.{ports_of}
 use Rattle.algo_rules.specs.declared.ports.Ports.{Ports}
-use Rattle.algo_rules.specs.Resolved.{Making, vertex_within, vertex_by, references_from, sources_to, kind_by, inner_by, is_sensor, is_actuator, is_main_graph}
+use Rattle.algo_rules.specs.Resolved.{Making, vertex_within, vertex_by, references_from, sources_to, kind_by, inner_by, is_main_graph, sensor_count, actuator_count}
 use Rattle.algo_laws.proofs.Firsts.{Each}
 use Rattle.algo_laws.proofs.Standing.{Stands, not_main}
 use Rattle.algo_laws.proofs.Ends.{AllStand, reference_line, inner_no_ends, no_ends}
+use Rattle.syn_base.specs.Numbers.{numbers_below}
 
 -- a definition of this name is not `main`
 abbrev pub IsOther : Bytes → Option Def → Type 0
@@ -48,7 +48,7 @@ module _ (ds : List Def) (n : ℕ) (ins : List Port) (all : List Reference) (edg
   references_none_inside : AllStand ds → (owner : Bytes) (s a : ℕ) (rs : List Reference) → Each (Stands ds owner) (map reference_line rs) → NoneInside (made s a rs)
   references_none_inside stand owner s a [] k = tt
   references_none_inside stand owner s a (r ∷ rs) k =
-      none_front _ _ (other_no_ends ds n stand _ r.def _ s a (definition ds r.def) refl (other_by owner r (definition ds r.def) k.0)) (references_none_inside stand owner (s + is_sensor (definition ds r.def)) (a + is_actuator (definition ds r.def)) rs k.1)
+      none_front _ _ (other_no_ends ds n stand _ r.def _ s a (definition ds r.def) refl (other_by owner r (definition ds r.def) k.0)) (references_none_inside stand owner (s + sensor_count (definition ds r.def)) (a + actuator_count (definition ds r.def)) rs k.1)
 
 -- a vertex has this number, or none
 abbrev Counts : List ℕ → ℕ → ℕ → Type 0
@@ -73,7 +73,7 @@ module _ (ds : List Def) (n : ℕ) where
   abbrev make : Making
   make = vertex_within ds n
 
-  sensor_by : (own : Ports) (s a : ℕ) (b : Body) (d : Def) → d.body ≡ b → Counts (sensor_number (kind_by ds make own s a b)) (is_sensor (Some (record { name = d.name; line = d.line; body = b }))) s
+  sensor_by : (own : Ports) (s a : ℕ) (b : Body) (d : Def) → d.body ≡ b → Counts (sensor_number (kind_by ds make own s a b)) (sensor_count (Some (record { name = d.name; line = d.line; body = b }))) s
   sensor_by own s a (Sensor len) d e = inl (refl, refl)
   sensor_by own s a (Actuator len) d e = inr (refl, refl)
   sensor_by own s a (Constant values) d e = inr (refl, refl)
@@ -83,7 +83,7 @@ module _ (ds : List Def) (n : ℕ) where
   sensor_by own s a (Switch on ins outs cases otherwise last) d e = inr (refl, refl)
   sensor_by own s a (Repeat copies def lines) d e = inr (refl, refl)
 
-  actuator_by : (own : Ports) (s a : ℕ) (b : Body) (d : Def) → d.body ≡ b → Counts (actuator_number (kind_by ds make own s a b)) (is_actuator (Some (record { name = d.name; line = d.line; body = b }))) a
+  actuator_by : (own : Ports) (s a : ℕ) (b : Body) (d : Def) → d.body ≡ b → Counts (actuator_number (kind_by ds make own s a b)) (actuator_count (Some (record { name = d.name; line = d.line; body = b }))) a
   actuator_by own s a (Sensor len) d e = inr (refl, refl)
   actuator_by own s a (Actuator len) d e = inl (refl, refl)
   actuator_by own s a (Constant values) d e = inr (refl, refl)
@@ -93,11 +93,11 @@ module _ (ds : List Def) (n : ℕ) where
   actuator_by own s a (Switch on ins outs cases otherwise last) d e = inr (refl, refl)
   actuator_by own s a (Repeat copies def lines) d e = inr (refl, refl)
 
-  sensor_of : (part : Part) (w : Bytes) (ins : List Source) (s a : ℕ) (o : Option Def) → Counts (sensor_number (label_of (vertex_by ds make part w ins s a o)).kind) (is_sensor o) s
+  sensor_of : (part : Part) (w : Bytes) (ins : List Source) (s a : ℕ) (o : Option Def) → Counts (sensor_number (label_of (vertex_by ds make part w ins s a o)).kind) (sensor_count o) s
   sensor_of part w ins s a None = inr (refl, refl)
   sensor_of part w ins s a (Some d) = sensor_by (ports_of ds w) s a d.body d refl
 
-  actuator_of : (part : Part) (w : Bytes) (ins : List Source) (s a : ℕ) (o : Option Def) → Counts (actuator_number (label_of (vertex_by ds make part w ins s a o)).kind) (is_actuator o) a
+  actuator_of : (part : Part) (w : Bytes) (ins : List Source) (s a : ℕ) (o : Option Def) → Counts (actuator_number (label_of (vertex_by ds make part w ins s a o)).kind) (actuator_count o) a
   actuator_of part w ins s a None = inr (refl, refl)
   actuator_of part w ins s a (Some d) = actuator_by (ports_of ds w) s a d.body d refl
 
@@ -120,14 +120,14 @@ module _ (ds : List Def) (n : ℕ) (ins : List Port) (all : List Reference) (edg
   sensors : (s a : ℕ) (rs : List Reference) → IsNumberedFrom s (sensor_numbers (made ds n ins all edges s a rs))
   sensors s a [] = append-nil (numbers_below s) ∙ ap numbers_below (sym (add-zero s))
   sensors s a (r ∷ rs) =
-      sensor_put (one r s a) (made ds n ins all edges (s + is_sensor (definition ds r.def)) (a + is_actuator (definition ds r.def)) rs) (is_sensor (definition ds r.def)) s
-      (sensor_of ds n (Named r.name) r.def (fed r) s a (definition ds r.def)) (sensors (s + is_sensor (definition ds r.def)) (a + is_actuator (definition ds r.def)) rs)
+      sensor_put (one r s a) (made ds n ins all edges (s + sensor_count (definition ds r.def)) (a + actuator_count (definition ds r.def)) rs) (sensor_count (definition ds r.def)) s
+      (sensor_of ds n (Named r.name) r.def (fed r) s a (definition ds r.def)) (sensors (s + sensor_count (definition ds r.def)) (a + actuator_count (definition ds r.def)) rs)
 
   actuators : (s a : ℕ) (rs : List Reference) → IsNumberedFrom a (actuator_numbers (made ds n ins all edges s a rs))
   actuators s a [] = append-nil (numbers_below a) ∙ ap numbers_below (sym (add-zero a))
   actuators s a (r ∷ rs) =
-      actuator_put (one r s a) (made ds n ins all edges (s + is_sensor (definition ds r.def)) (a + is_actuator (definition ds r.def)) rs) (is_actuator (definition ds r.def)) a
-      (actuator_of ds n (Named r.name) r.def (fed r) s a (definition ds r.def)) (actuators (s + is_sensor (definition ds r.def)) (a + is_actuator (definition ds r.def)) rs)
+      actuator_put (one r s a) (made ds n ins all edges (s + sensor_count (definition ds r.def)) (a + actuator_count (definition ds r.def)) rs) (actuator_count (definition ds r.def)) a
+      (actuator_of ds n (Named r.name) r.def (fed r) s a (definition ds r.def)) (actuators (s + sensor_count (definition ds r.def)) (a + actuator_count (definition ds r.def)) rs)
 
   numbered : (rs : List Reference) → AreEndsNumbered (made ds n ins all edges 0 0 rs)
   numbered rs = record {

@@ -10,16 +10,17 @@ use Rattle.std.proofs.lemmas.List.Quantifiers.{position-Some}
 use Rattle.std.proofs.lemmas.Option.{slice_get_within}
 use Rattle.syn_base.specs.declared.limits.LimitKind.TheVariants.{Depth}
 use Rattle.syn_base.specs.Limits.{bound_of}
-use Rattle.algo_text.specs.declared.definition.Def.{Def}
-use Rattle.algo_text.specs.declared.fault.AlgoError.TheVariants.{Limit}
 use Rattle.syn_base.specs.Bytes.{Bytes}
-use Rattle.reference_graph.specs.Links.{from, greatest, depth, depths, numbers, first_recursive, reaches_itself}
-use Rattle.reference_graph.specs.Answer.{AreInside}
-use Rattle.reference_graph.proofs.Enough.{one_deeper}
+use Rattle.algo_rules.specs.declared.Def.{Def}
+use Rattle.algo_rules.specs.declared.AlgoError.TheVariants.{Limit}
+use Rattle.algo_rules.specs.ReferenceLinks.{from, depth, depths, numbers, first_recursive, reaches_itself}
+use Rattle.algo_rules.specs.Answer.{AreInside}
+use Rattle.algo_rules.proofs.Enough.{one_deeper}
 use Rattle.algo_rules.specs.Links.{Mention, mentions, definition, unknown_by, unknown, links_of, recursive_by, recursive, too_deep_by, too_deep}
 use Rattle.algo_laws.specs.Depths.{place_of, rank}
 use Rattle.algo_laws.proofs.Firsts.{Each, none_each, each_flat, each_gives}
 use Rattle.algo_laws.proofs.Standing.{definition_by}
+use Rattle.syn_base.specs.Numbers.{greatest}
 
 -- The definition of a name stands at its place.
 found : (ds : List Def) (w : Bytes) → definition ds w ≡ slice_get ds (place_of ds w)

@@ -2,10 +2,10 @@
 use Rattle.std.proofs.Common.{◌≡◌, Bool, true, false, List, [], Option, Some, None, refl, if◌then◌else◌}
 use Rattle.std.specs.Prelude.{codes}
 use Rattle.level_meaning.specs.declared.part.Part.TheVariants.{Named}
-use Rattle.algo_tree.specs.Meaning.{vertices_in}
-use Rattle.algo_tree.specs.Ends.{NoneInside, AreEndsNumbered}
-use Rattle.algo_text.specs.declared.definition.Def.{Def}
-use Rattle.algo_text.specs.declared.fault.AlgoCause.TheVariants.{NoMain}
+use Rattle.algo_rules.specs.Meaning.{vertices_in}
+use Rattle.algo_rules.specs.Ends.{NoneInside, AreEndsNumbered}
+use Rattle.algo_rules.specs.declared.Def.{Def}
+use Rattle.algo_rules.specs.declared.AlgoCause.TheVariants.{NoMain}
 use Rattle.algo_rules.specs.Links.{fault, definition, unknown, misplaced, recursive, too_deep}
 use Rattle.algo_rules.specs.Resolved.{bodies_fault, no_main, no_main_by, is_main_graph, too_many, refusal, tree_of}
 use Rattle.algo_laws.proofs.Firsts.{none_both}

@@ -3,27 +3,27 @@ use Rattle.std.proofs.Common.{◌≡◌, ℕ, ◌==◌, not, true, false, cond, 
 use Rattle.std.specs.Prelude.{All}
 use Rattle.std.proofs.lemmas.List.{length-append}
 use Rattle.std.proofs.lemmas.List.Elements.{All-append, All-cons, All-head, All-nil, All-tail}
-use Rattle.algo_tree.specs.Well.{AreDistinctNames}
-use Rattle.algo_text.specs.declared.definition.Def.{Def}
-use Rattle.algo_text.specs.declared.definition.Body.TheVariants.{Repeat}
-use Rattle.algo_text.specs.declared.definition.Frontier.{Frontier}
-use Rattle.algo_text.specs.declared.definition.Frontier.TheVariants.{Fork, Diffuse, Iterate, Join}
-use Rattle.algo_text.specs.declared.definition.FrontierLine.{FrontierLine}
-use Rattle.algo_text.specs.declared.fault.AlgoError.{AlgoError}
 use Rattle.syn_base.specs.Bytes.{Bytes}
-use Rattle.algo_text.specs.Among.{is_among}
-use Rattle.algo_text.specs.Words.{word}
-use Rattle.algo_text.specs.Outer.{outer_names, all_outer}
-use Rattle.algo_text.specs.Blocks.{Block, all_names, with_frontier, fork_line, diffuse_line, iterate_line, join_line}
-use Rattle.algo_text.specs.Text.{in_repeat, Reading, begins, frontier_line}
-use Rattle.algo_text.proofs.Checks.{either, equal, fewer, neither, never, not_false, passed, same_ok}
 use Rattle.syn_base.specs.declared.limits.LimitKind.TheVariants.{Ports}
 use Rattle.syn_base.specs.Limits.{bound_of}
-use Rattle.algo_text.specs.Blocks.{is_above}
+use Rattle.text_lines.specs.Refusals.{is_above}
+use Rattle.algo_rules.specs.Well.{AreDistinctNames}
+use Rattle.algo_rules.specs.declared.Def.{Def}
+use Rattle.algo_rules.specs.declared.Body.TheVariants.{Repeat}
+use Rattle.algo_rules.specs.declared.Frontier.{Frontier}
+use Rattle.algo_rules.specs.declared.Frontier.TheVariants.{Fork, Diffuse, Iterate, Join}
+use Rattle.algo_rules.specs.declared.FrontierLine.{FrontierLine}
+use Rattle.algo_rules.specs.declared.AlgoError.{AlgoError}
+use Rattle.algo_rules.specs.Among.{is_among}
+use Rattle.algo_rules.specs.Outer.{outer_names, all_outer}
+use Rattle.algo_rules.specs.Blocks.{Block, all_names, with_frontier, fork_line, diffuse_line, iterate_line, join_line}
+use Rattle.algo_rules.specs.Text.{in_repeat, Reading, frontier_line}
+use Rattle.algo_rules.proofs.Checks.{either, equal, fewer, neither, never, not_false, passed, same_ok}
 use Rattle.algo_rules.specs.WellRead.{IsName, IsRepetition}
 use Rattle.algo_laws.proofs.Checks.{names_hold}
 use Rattle.algo_laws.proofs.GivenOnce.{new_beside, new_both, distinct_behind}
 use Rattle.algo_laws.proofs.Kept.{Kept, IsKept, Goes, reading, line_kept, end_kept}
+use Rattle.text_lines.specs.Text.{word, begins}
 
 all_outer_with : (ls : List FrontierLine) (l : FrontierLine) → all_outer (ls ++ l ∷ []) ≡ all_outer ls ++ outer_names l.frontier
 all_outer_with [] l = append-nil (outer_names l.frontier)

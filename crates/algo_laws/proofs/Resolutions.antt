@@ -4,15 +4,16 @@ use Rattle.level_meaning.specs.declared.source.Source.TheVariants.{Own, Of}
 use Rattle.level_meaning.specs.declared.part.Part.TheVariants.{Named, Numbered}
 use Rattle.level_meaning.specs.declared.frontier.Feed.TheVariants as feed
 use Rattle.level_meaning.specs.declared.frontier.Give.TheVariants as give
-use Rattle.algo_tree.specs.Tree as tree
-use Rattle.algo_text.specs.declared.fault.AlgoError.{AlgoError}
-use Rattle.algo_text.specs.declared.fault.AlgoError.TheVariants.{Limit}
-use Rattle.algo_text.specs.declared.fault.AlgoCause.TheVariants.{UnknownName, WrongLength, Unconnected, TwiceConnected, Recursive, Cycle, NoMain, BadCase, Misplaced, BadRepeat}
 use Rattle.syn_base.specs.declared.limits.LimitKind.TheVariants.{PortLength, Depth, Operations}
 use Rattle.syn_base.specs.Bytes.{Bytes}
-use Rattle.algo_text.specs.Blocks.{refused, and_then}
-use Rattle.algo_text.specs.Text.{definitions_of}
-use Rattle.body_lang.specs.declared.expression.Port.{Port}
+use Rattle.text_lines.specs.Refusals.{and_then}
+use Rattle.algo_rules.specs.Tree as tree
+use Rattle.algo_rules.specs.declared.AlgoError.{AlgoError}
+use Rattle.algo_rules.specs.declared.AlgoError.TheVariants.{Limit}
+use Rattle.algo_rules.specs.declared.AlgoCause.TheVariants.{UnknownName, WrongLength, Unconnected, TwiceConnected, Recursive, Cycle, NoMain, BadCase, Misplaced, BadRepeat}
+use Rattle.algo_rules.specs.Blocks.{refused}
+use Rattle.algo_rules.specs.Text.{definitions_of}
+use Rattle.algo_rules.specs.declared.Port.{Port}
 use Rattle.algo_rules.specs.Ports.{one_port, port}
 use Rattle.algo_rules.specs.Resolved.{resolution_of, vertex}
 
@@ -136,7 +137,7 @@ copies : read (repeated (codes "2") (codes "fork p x" ∷ codes "iterate z a y t
     ∷ vertex (Named (codes "z")) (codes "Z") [] (out (codes "o") 1) (tree.constant (pos 0 ∷ [])) []
     ∷ vertex (Named (codes "r")) (codes "R") (Of 0 0 ∷ Of 1 0 ∷ []) (port (codes "t") 1 ∷ port (codes "q") 2 ∷ [])
     (tree.repeat 2 (feed.Fork (codes "p") 0 2 ∷ feed.Iterate 1 0 ∷ []) (give.Last 0 ∷ give.Join (codes "q") 0 ∷ []))
-    (vertex (Numbered 0) (codes "F") (Own 0 ∷ Own 1 ∷ []) (out (codes "y") 1) (tree.function (Rattle.body_lang.specs.Expr.literal (pos 1) ∷ [])) [] ∷ []) ∷ []))
+    (vertex (Numbered 0) (codes "F") (Own 0 ∷ Own 1 ∷ []) (out (codes "y") 1) (tree.function (Rattle.algo_rules.specs.Expr.literal (pos 1) ∷ [])) [] ∷ []) ∷ []))
 copies = refl
 
 used_twice : read (repeated (codes "2") (codes "fork p x" ∷ codes "diffuse z x" ∷ [])) ≡ refused 11 BadRepeat

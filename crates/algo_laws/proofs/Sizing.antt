@@ -2,24 +2,24 @@
 use Rattle.std.proofs.Common.{◌≡◌, ℕ, zero, suc, ◌+◌, ◌*◌, List, [], ◌∷◌, ◌++◌, map, length, Option, Some, None, refl, ap, ap₂, sym, ◌∙◌, arith}
 use Rattle.std.specs.List.{flat_map, sum_by}
 use Rattle.std.proofs.lemmas.List.Sums.{sum_by-cons}
-use Rattle.body_lang.specs.declared.expression.Port.{Port}
 use Rattle.level_meaning.specs.declared.source.Source.{Source}
 use Rattle.level_meaning.specs.declared.part.Part.{Part}
 use Rattle.level_meaning.specs.declared.part.Part.TheVariants.{Named, Numbered}
-use Rattle.algo_tree.specs.View.{vertices_of}
-use Rattle.algo_tree.specs.Well.{AreDistinctNames, fork_names, join_names}
-use Rattle.algo_tree.specs.Size.{made_by, vertices_made, vertices_made_in}
-use Rattle.algo_text.specs.declared.definition.Def.{Def}
-use Rattle.algo_text.specs.declared.definition.Body.{Body}
-use Rattle.algo_text.specs.declared.definition.Body.TheVariants.{Sensor, Actuator, Constant, Delay, Function, Graph, Switch, Repeat}
-use Rattle.algo_text.specs.declared.definition.Reference.{Reference}
-use Rattle.algo_text.specs.declared.definition.Case.{Case}
-use Rattle.algo_text.specs.declared.definition.Edge.{Edge}
 use Rattle.syn_base.specs.Bytes.{Bytes}
+use Rattle.algo_rules.specs.declared.Port.{Port}
+use Rattle.algo_rules.specs.View.{vertices_of}
+use Rattle.algo_rules.specs.Well.{AreDistinctNames, fork_names, join_names}
+use Rattle.algo_rules.specs.Size.{made_by, vertices_made, vertices_made_in}
+use Rattle.algo_rules.specs.declared.Def.{Def}
+use Rattle.algo_rules.specs.declared.Body.{Body}
+use Rattle.algo_rules.specs.declared.Body.TheVariants.{Sensor, Actuator, Constant, Delay, Function, Graph, Switch, Repeat}
+use Rattle.algo_rules.specs.declared.Reference.{Reference}
+use Rattle.algo_rules.specs.declared.Case.{Case}
+use Rattle.algo_rules.specs.declared.Edge.{Edge}
 use Rattle.algo_rules.specs.Links.{definition, mentions, mentions_in}
 use Rattle.algo_rules.specs.Ports.{ports_of}
 use Rattle.algo_rules.specs.declared.ports.Ports.{Ports}
-use Rattle.algo_rules.specs.Resolved.{Making, vertex_within, vertex_by, references_from, cases_from, sources_to, owns, kind_by, inner_by, feed_of, give_by, is_fork, is_sensor, is_actuator, body_fault}
+use Rattle.algo_rules.specs.Resolved.{Making, vertex_within, vertex_by, references_from, cases_from, sources_to, owns, kind_by, inner_by, feed_of, give_by, body_fault, vertices_of_line, sensor_count, actuator_count}
 use Rattle.algo_rules.specs.WellRead.{port_names}
 use Rattle.algo_laws.specs.Depths.{rank}
 use Rattle.algo_laws.specs.Sizes.{made_of, made_in, made_within}
@@ -36,7 +36,7 @@ module _ (ds : List Def) (make : Making) (count : Bytes → ℕ) (ih : MakesAsMa
   references_made ins all edges s a [] = refl
   references_made ins all edges s a (r ∷ rs) =
       ap₂ (λ (m n : ℕ). m + n) (ih (Named r.name) r.def (sources_to (ports_of ds) ins all edges (Some r.name) (ports_of ds r.def).ins) s a)
-      (references_made ins all edges (s + is_sensor (definition ds r.def)) (a + is_actuator (definition ds r.def)) rs)
+      (references_made ins all edges (s + sensor_count (definition ds r.def)) (a + actuator_count (definition ds r.def)) rs)
       ∙ sym (sum_by-cons (λ r. count r.def) r rs)
 
   cases_made : (ins c : ℕ) (otherwise : Bytes) (cs : List Case) → vertices_made_in (vertices_of (cases_from ds make ins c (map (λ c. c.def) cs ++ otherwise ∷ []))) ≡ sum_by (λ c. count c.def) cs + count otherwise
@@ -63,7 +63,7 @@ module _ (ds : List Def) (make : Making) (count : Bytes → ℕ) (ih : MakesAsMa
       let feeds = map (λ p. feed_of body own lines p.name) body.ins in
       let gives = flat_map (λ l. give_by body own l.frontier) lines in
       ap (λ (m : ℕ). suc ((length (fork_names feeds) + copies * m) + length (join_names gives))) inner
-      ∙ ap suc (arranged (length (fork_names feeds)) (copies * count def) (length (join_names gives)) (sum_by is_fork lines) (line_count copies body own lines fits.lines fits.fresh h.0))
+      ∙ ap suc (arranged (length (fork_names feeds)) (copies * count def) (length (join_names gives)) (sum_by vertices_of_line lines) (line_count copies body own lines fits.lines fits.fresh h.0))
 
 one_made : (ds : List Def) → Accepted ds → (n : ℕ) → MakesAsMany (vertex_within ds n) (made_within ds n) → (part : Part) (w : Bytes) (ins : List Source) (s a : ℕ) (o : Option Def) → definition ds w ≡ o
     → vertices_made (vertex_by ds (vertex_within ds n) part w ins s a o) ≡ made_in (made_within ds n) o

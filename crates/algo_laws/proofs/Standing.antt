@@ -2,11 +2,11 @@
 use Rattle.std.proofs.Common.{◌≡◌, Bool, true, false, ◌&&◌, ◌||◌, not, List, [], ◌∷◌, map, Option, Some, None, refl, ap, sym, subst, ◌∙◌, if◌then◌else◌}
 use Rattle.std.specs.Str.{bytes_eq}
 use Rattle.std.proofs.lemmas.Slice.Eq.{bytes_eq-Decides}
-use Rattle.algo_text.specs.declared.definition.Def.{Def}
-use Rattle.algo_text.specs.declared.definition.Body.{Body}
-use Rattle.algo_text.specs.declared.definition.Body.TheVariants.{Sensor, Actuator, Constant, Delay, Function, Graph, Switch, Repeat}
-use Rattle.algo_text.specs.declared.fault.AlgoCause.TheVariants.{Misplaced}
 use Rattle.syn_base.specs.Bytes.{Bytes}
+use Rattle.algo_rules.specs.declared.Def.{Def}
+use Rattle.algo_rules.specs.declared.Body.{Body}
+use Rattle.algo_rules.specs.declared.Body.TheVariants.{Sensor, Actuator, Constant, Delay, Function, Graph, Switch, Repeat}
+use Rattle.algo_rules.specs.declared.AlgoCause.TheVariants.{Misplaced}
 use Rattle.algo_rules.specs.Links.{fault, first_of, Mention, mentions, definition, is_main, is_end, may_be_inner, may_stand, misplaced_by, misplaced}
 use Rattle.algo_laws.proofs.Firsts.{Each, none_each, none_flat, each_gives}
 

@@ -1,27 +1,28 @@
 -- Lines of switches.
 use Rattle.std.proofs.Common.{◌≡◌, ℕ, ◌==◌, not, ◌||◌, true, false, Ok, List, [], ◌∷◌, ◌++◌, length, refl, arith, sym, ap, ap₂, subst, codes, ◌<◌, ◌+◌, Bool}
 use Rattle.std.proofs.lemmas.List.{length-append}
-use Rattle.body_lang.specs.declared.expression.Port.{Port}
 use Rattle.syn_base.specs.Name.{is_name}
-use Rattle.algo_tree.specs.Well.{AreDistinctNames}
-use Rattle.algo_text.specs.declared.definition.Def.{Def}
-use Rattle.algo_text.specs.declared.definition.Case.{Case}
-use Rattle.algo_text.specs.declared.definition.Body.TheVariants.{Switch}
 use Rattle.syn_base.specs.Bytes.{Bytes}
-use Rattle.algo_text.specs.Words.{word, number_of}
-use Rattle.algo_text.specs.Blocks.{Block, in_line, out_line, on_line, case_line, otherwise_line}
-use Rattle.algo_text.specs.Text.{in_switch, Reading, begins, switch_line}
-use Rattle.algo_text.proofs.Checks.{either, fewer, found, held, neither, never, not_false, passed, same_ok}
-use Rattle.algo_text.specs.declared.part.Part.TheVariants.{Conditioning, Inputs, Outputs, Cases}
-use Rattle.algo_text.specs.declared.part.Part.{Part}
-use Rattle.algo_text.specs.Parts.{admits, is_conditioning, is_whole}
 use Rattle.syn_base.specs.declared.limits.LimitKind.TheVariants as limits
 use Rattle.syn_base.specs.Limits.{bound_of}
-use Rattle.algo_text.specs.Blocks.{is_above}
+use Rattle.text_lines.specs.Refusals.{is_above}
+use Rattle.algo_rules.specs.declared.Port.{Port}
+use Rattle.algo_rules.specs.Well.{AreDistinctNames}
+use Rattle.algo_rules.specs.declared.Def.{Def}
+use Rattle.algo_rules.specs.declared.Case.{Case}
+use Rattle.algo_rules.specs.declared.Body.TheVariants.{Switch}
+use Rattle.algo_rules.specs.Words.{number_of}
+use Rattle.algo_rules.specs.Blocks.{Block, in_line, out_line, on_line, case_line, otherwise_line}
+use Rattle.algo_rules.specs.Text.{in_switch, Reading, switch_line}
+use Rattle.algo_rules.proofs.Checks.{either, fewer, found, held, neither, never, not_false, passed, same_ok}
+use Rattle.algo_rules.specs.declared.Part.TheVariants.{Conditioning, Inputs, Outputs, Cases}
+use Rattle.algo_rules.specs.declared.Part.{Part}
+use Rattle.algo_rules.specs.Parts.{admits, is_conditioning, is_whole}
 use Rattle.algo_rules.specs.WellRead.{port_names, IsSwitch}
 use Rattle.algo_laws.proofs.GivenOnce.{new_both}
-use Rattle.algo_laws.proofs.Ports.{ports_with, input_put, output_put, put_between, put_behind, InAdded, in_added, OutAdded, out_added}
+use Rattle.algo_laws.proofs.AddedPorts.{ports_with, input_put, output_put, put_between, put_behind, InAdded, in_added, OutAdded, out_added}
 use Rattle.algo_laws.proofs.Kept.{IsOpenSwitch, Kept, IsKept, Goes, reading, line_kept, end_kept}
+use Rattle.text_lines.specs.Text.{word, begins}
 
 -- after the line `on`
 begun : (p next : Part) → admits p next ≡ true → is_conditioning p ≡ false

@@ -4,14 +4,15 @@ use Rattle.std.specs.Prelude.{codes}
 use Rattle.std.proofs.lemmas.Bool.{ltb-false}
 use Rattle.syn_base.specs.declared.limits.LimitKind.TheVariants.{Operations}
 use Rattle.syn_base.specs.Limits.{bound_of}
-use Rattle.body_lang.specs.declared.expression.Port.{Port}
 use Rattle.level_meaning.specs.declared.part.Part.TheVariants.{Named}
-use Rattle.algo_tree.specs.Typed.{label_of, IsTyped}
-use Rattle.algo_tree.specs.Valid.{HasNoPorts}
-use Rattle.algo_text.specs.declared.definition.Def.{Def}
-use Rattle.algo_text.specs.declared.definition.Body.{Body}
-use Rattle.algo_text.specs.declared.definition.Body.TheVariants.{Sensor, Actuator, Constant, Delay, Function, Graph, Switch, Repeat}
-use Rattle.algo_text.specs.declared.fault.AlgoError.TheVariants.{Limit}
+use Rattle.algo_rules.specs.declared.Port.{Port}
+use Rattle.algo_rules.specs.Typed.{label_of, IsTyped}
+use Rattle.algo_rules.specs.Valid.{HasNoPorts}
+use Rattle.algo_rules.specs.declared.Def.{Def}
+use Rattle.algo_rules.specs.declared.Body.{Body}
+use Rattle.algo_rules.specs.declared.Body.TheVariants.{Sensor, Actuator, Constant, Delay, Function, Graph, Switch, Repeat}
+use Rattle.algo_rules.specs.declared.AlgoError.TheVariants.{Limit}
+use Rattle.algo_rules.specs.Tree.{graph}
 use Rattle.algo_rules.specs.Links.{definition}
 use Rattle.algo_rules.specs.Ports.{ports_of, ports_by, lens_of}
 use Rattle.algo_rules.specs.declared.ports.Ports.{Ports}
@@ -25,7 +26,6 @@ use Rattle.algo_laws.proofs.Wellness.{well}
 use Rattle.algo_laws.proofs.Counting.{counted_within}
 use Rattle.algo_laws.proofs.Sizing.{made_to}
 use Rattle.syn_base.specs.Bytes.{Bytes}
-use Rattle.algo_tree.specs.Tree.{graph}
 
 abbrev pub main : Bytes
 main = codes "main"

@@ -2,27 +2,27 @@
 use Rattle.std.proofs.Common.{◌≡◌, false, ℕ, zero, suc, ◌+◌, ◌*◌, ◌/◌, ◌≤◌, ℤ, drop, List, [], ◌∷◌, ◌++◌, map, length, Option, Some, None, refl, ap, sym, subst, ◌∙◌, arith}
 use Rattle.std.specs.List.{All, flat_map}
 use Rattle.std.proofs.lemmas.List.{length-drop, length-map, length-take}
-use Rattle.body_lang.specs.Expr.{PortsBelow}
-use Rattle.body_lang.specs.declared.expression.Port.{Port}
 use Rattle.level_meaning.specs.declared.source.Source.{Source}
 use Rattle.level_meaning.specs.declared.part.Part.{Part}
 use Rattle.level_meaning.specs.declared.part.Part.TheVariants.{Named, Numbered}
-use Rattle.algo_tree.specs.View.{vertices_of}
-use Rattle.algo_tree.specs.Typed.{label_of, outs_of, source_length, AreGuardsTyped, AllPortsBelow, AreGroups, AllGive, AllFed, given_length, IsTyped, AllTyped}
-use Rattle.algo_tree.specs.Well.{AreDistinctNames}
-use Rattle.algo_text.specs.declared.definition.Def.{Def}
-use Rattle.algo_text.specs.declared.definition.Body.{Body}
-use Rattle.algo_text.specs.declared.definition.Body.TheVariants.{Sensor, Actuator, Constant, Delay, Function, Graph, Switch, Repeat}
-use Rattle.algo_text.specs.declared.definition.Output.{Output}
-use Rattle.algo_text.specs.declared.definition.Reference.{Reference}
-use Rattle.algo_text.specs.declared.definition.Case.{Case}
-use Rattle.algo_text.specs.declared.definition.Edge.{Edge}
 use Rattle.syn_base.specs.Bytes.{Bytes}
+use Rattle.algo_rules.specs.Expr.{PortsBelow}
+use Rattle.algo_rules.specs.declared.Port.{Port}
+use Rattle.algo_rules.specs.View.{vertices_of}
+use Rattle.algo_rules.specs.Typed.{label_of, outs_of, source_length, AreGuardsTyped, AllPortsBelow, AreGroups, AllGive, AllFed, given_length, IsTyped, AllTyped}
+use Rattle.algo_rules.specs.Well.{AreDistinctNames}
+use Rattle.algo_rules.specs.declared.Def.{Def}
+use Rattle.algo_rules.specs.declared.Body.{Body}
+use Rattle.algo_rules.specs.declared.Body.TheVariants.{Sensor, Actuator, Constant, Delay, Function, Graph, Switch, Repeat}
+use Rattle.algo_rules.specs.declared.Output.{Output}
+use Rattle.algo_rules.specs.declared.Reference.{Reference}
+use Rattle.algo_rules.specs.declared.Case.{Case}
+use Rattle.algo_rules.specs.declared.Edge.{Edge}
 use Rattle.algo_rules.specs.Links.{Mention, mentions, mentions_in, definition}
 use Rattle.algo_rules.specs.Ports.{ports_of, ports_by, lens_of, outer_ports}
 use Rattle.algo_rules.specs.declared.ports.Ports.{Ports}
 use Rattle.algo_rules.specs.Graphs.{edge_faults, open_faults, cycle_fault}
-use Rattle.algo_rules.specs.Resolved.{groups, vertex, vertex_within, vertex_by, references_from, cases_from, sources_to, owns, kind_by, inner_by, feed_of, give_by, is_sensor, is_actuator, body_fault}
+use Rattle.algo_rules.specs.Resolved.{groups, vertex, vertex_within, vertex_by, references_from, cases_from, sources_to, owns, kind_by, inner_by, feed_of, give_by, body_fault, sensor_count, actuator_count}
 use Rattle.algo_rules.specs.WellRead.{IsWellRead, IsGraph, port_names}
 use Rattle.algo_laws.proofs.Firsts.{Each, none_both, none_append}
 use Rattle.algo_laws.proofs.Lengths.{distinct_append}
@@ -100,7 +100,7 @@ module _ (ds : List Def) (acc : Accepted ds) (n : ℕ) where
   references_typed ih own all edges s a [] h fed = tt
   references_typed ih own all edges s a (r ∷ rs) h fed = (
     typed_at ih (lens_of own.ins) (out_lens (ports_of ds) all) (Named r.name) r.def (sources_to (ports_of ds) own.ins all edges (Some r.name) (ports_of ds r.def).ins) s a h.0 fed.0,
-    references_typed ih own all edges (s + is_sensor (definition ds r.def)) (a + is_actuator (definition ds r.def)) rs h.1 fed.1,
+    references_typed ih own all edges (s + sensor_count (definition ds r.def)) (a + actuator_count (definition ds r.def)) rs h.1 fed.1,
   )
 
   cases_typed : MakesTyped → (ins outs : List Port) (c : ℕ) (ws : List Bytes) → Each (IsLower ds (suc n)) ws → Each (IsAlike (ports_of ds) ins outs) ws

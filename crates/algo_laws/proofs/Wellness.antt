@@ -2,29 +2,29 @@
 use Rattle.std.proofs.Common.{◌≡◌, true, false, ℕ, zero, suc, ◌+◌, ◌<◌, ◌≤◌, Bool, List, [], ◌∷◌, ◌++◌, map, length, Option, Some, None, refl, ap, sym, subst, ◌∙◌, arith}
 use Rattle.std.specs.Prelude.{◌==◌}
 use Rattle.std.proofs.lemmas.Bool.{eqb-true}
-use Rattle.body_lang.specs.declared.expression.Port.{Port}
 use Rattle.level_meaning.specs.declared.source.Source.{Source}
 use Rattle.level_meaning.specs.declared.part.Part.{Part}
 use Rattle.level_meaning.specs.declared.part.Part.TheVariants.{Named, Numbered}
 use Rattle.level_meaning.specs.Level.{same_part}
 use Rattle.level_meaning.specs.Order.{IsAcyclic}
 use Rattle.level_meaning.specs.Parts.{IsApart, HasDistinctParts}
-use Rattle.algo_tree.specs.Tree as tree
-use Rattle.algo_tree.specs.View.{vertices_of}
-use Rattle.algo_tree.specs.Meaning.{node, nodes}
-use Rattle.algo_tree.specs.Typed.{label_of}
-use Rattle.algo_tree.specs.Well.{AreOwn, OwnGuards, AreCases, IsNumberedPart, AreNumbered, IsKindWell, IsWell, AllWell}
-use Rattle.algo_text.specs.declared.definition.Def.{Def}
-use Rattle.algo_text.specs.declared.definition.Body.{Body}
-use Rattle.algo_text.specs.declared.definition.Body.TheVariants.{Sensor, Actuator, Constant, Delay, Function, Graph, Switch, Repeat}
-use Rattle.algo_text.specs.declared.definition.Reference.{Reference}
-use Rattle.algo_text.specs.declared.definition.Case.{Case}
-use Rattle.algo_text.specs.declared.definition.Edge.{Edge}
 use Rattle.syn_base.specs.Bytes.{Bytes}
+use Rattle.algo_rules.specs.declared.Port.{Port}
+use Rattle.algo_rules.specs.Tree as tree
+use Rattle.algo_rules.specs.View.{vertices_of}
+use Rattle.algo_rules.specs.Meaning.{node, nodes}
+use Rattle.algo_rules.specs.Typed.{label_of}
+use Rattle.algo_rules.specs.Well.{AreOwn, OwnGuards, AreCases, IsNumberedPart, AreNumbered, IsKindWell, IsWell, AllWell}
+use Rattle.algo_rules.specs.declared.Def.{Def}
+use Rattle.algo_rules.specs.declared.Body.{Body}
+use Rattle.algo_rules.specs.declared.Body.TheVariants.{Sensor, Actuator, Constant, Delay, Function, Graph, Switch, Repeat}
+use Rattle.algo_rules.specs.declared.Reference.{Reference}
+use Rattle.algo_rules.specs.declared.Case.{Case}
+use Rattle.algo_rules.specs.declared.Edge.{Edge}
 use Rattle.algo_rules.specs.Links.{mentions_in, definition}
 use Rattle.algo_rules.specs.Ports.{ports_of}
 use Rattle.algo_rules.specs.declared.ports.Ports.{Ports}
-use Rattle.algo_rules.specs.Resolved.{vertex_within, vertex_by, references_from, cases_from, sources_to, owns, kind_by, inner_by, is_sensor, is_actuator, body_fault}
+use Rattle.algo_rules.specs.Resolved.{vertex_within, vertex_by, references_from, cases_from, sources_to, owns, kind_by, inner_by, body_fault, sensor_count, actuator_count}
 use Rattle.algo_rules.specs.WellRead.{IsWellRead, IsGraph, port_names}
 use Rattle.algo_laws.proofs.Firsts.{Each}
 use Rattle.algo_laws.proofs.Lengths.{distinct_append}
@@ -98,7 +98,7 @@ module _ (ds : List Def) (n : ℕ) where
   references_well ih ins all edges s a [] h = tt
   references_well ih ins all edges s a (r ∷ rs) h = (
     ih (Named r.name) r.def h.0.0.0 (sources_to (ports_of ds) ins all edges (Some r.name) (ports_of ds r.def).ins) s a h.0.0.1 (omega (arith, h.0.1)),
-    references_well ih ins all edges (s + is_sensor (definition ds r.def)) (a + is_actuator (definition ds r.def)) rs h.1,
+    references_well ih ins all edges (s + sensor_count (definition ds r.def)) (a + actuator_count (definition ds r.def)) rs h.1,
   )
 
 as_many_values : (otherwise : Bytes) (cs : List Case) → length (map (λ c. c.def) cs ++ otherwise ∷ []) ≡ suc (length (map (λ c. c.value) cs))

@@ -1,11 +1,11 @@
 -- Worked definitions without a refusal, as an accepted text has them: they make a tree.
 use Rattle.std.proofs.Common.{◌≡◌, refl, List, [], ◌∷◌, Some, arith, codes, None}
-use Rattle.algo_tree.specs.Typed.{IsLength}
-use Rattle.algo_tree.specs.Valid.{IsTree}
-use Rattle.algo_text.specs.declared.definition.Def.{Def}
-use Rattle.algo_text.specs.declared.definition.Body.TheVariants.{Sensor, Actuator, Graph}
-use Rattle.algo_text.specs.declared.definition.Reference.{Reference}
-use Rattle.algo_text.specs.declared.definition.Edge.{Edge}
+use Rattle.algo_rules.specs.Typed.{IsLength}
+use Rattle.algo_rules.specs.Valid.{IsTree}
+use Rattle.algo_rules.specs.declared.Def.{Def}
+use Rattle.algo_rules.specs.declared.Body.TheVariants.{Sensor, Actuator, Graph}
+use Rattle.algo_rules.specs.declared.Reference.{Reference}
+use Rattle.algo_rules.specs.declared.Edge.{Edge}
 use Rattle.algo_rules.specs.Resolved.{tree_of, refusal}
 use Rattle.algo_rules.specs.WellRead.{IsName, ArePorts, IsGraph, IsWellRead, AreWellRead}
 use Rattle.algo_laws.proofs.Firsts.{all_of}

@@ -1,8 +1,8 @@
 -- What reading guarantees whoever works on definitions.
 use Rattle.std.specs.Prelude.{◌≡◌, Ok}
-use Rattle.algo_text.specs.declared.definition.Defs.{Defs}
 use Rattle.syn_base.specs.Bytes.{Bytes}
-use Rattle.algo_text.specs.Text.{definitions_of}
+use Rattle.algo_rules.specs.declared.Defs.{Defs}
+use Rattle.algo_rules.specs.Text.{definitions_of}
 use Rattle.algo_rules.specs.WellRead.{AreWellRead}
 
 -- The definitions of every text that is accepted.

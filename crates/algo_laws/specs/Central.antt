@@ -1,11 +1,11 @@
 -- Definitions that are not refused make a tree.
 use Rattle.std.specs.Prelude.{◌≡◌, List, None}
-use Rattle.algo_text.specs.declared.definition.Def.{Def}
-use Rattle.algo_tree.specs.Counted as counted
-use Rattle.algo_tree.specs.Size.{vertices_made}
-use Rattle.algo_tree.specs.Valid.{IsTree}
-use Rattle.algo_tree.specs.Bounded.{HasBounds}
-use Rattle.algo_tree.specs.Named.{HasNames}
+use Rattle.algo_rules.specs.declared.Def.{Def}
+use Rattle.algo_rules.specs.Counted as counted
+use Rattle.algo_rules.specs.Size.{vertices_made}
+use Rattle.algo_rules.specs.Valid.{IsTree}
+use Rattle.algo_rules.specs.Bounded.{HasBounds}
+use Rattle.algo_rules.specs.Named.{HasNames}
 use Rattle.algo_rules.specs.Resolved.{refusal, tree_of, operations}
 use Rattle.algo_rules.specs.WellRead.{AreWellRead}
 use Rattle.algo_laws.specs.Sizes.{made}

@@ -2,9 +2,9 @@
 use Rattle.std.specs.Prelude.{◌≡◌, ℕ, ◌<◌, List, None, Some}
 use Rattle.std.specs.List.{All, position_or_len}
 use Rattle.std.specs.Str.{bytes_eq}
-use Rattle.algo_text.specs.declared.definition.Def.{Def}
 use Rattle.syn_base.specs.Bytes.{Bytes}
-use Rattle.reference_graph.specs.Links.{depth}
+use Rattle.algo_rules.specs.declared.Def.{Def}
+use Rattle.algo_rules.specs.ReferenceLinks.{depth}
 use Rattle.algo_rules.specs.Links.{definition, mentions, links_of, unknown, recursive, too_deep}
 use Rattle.algo_rules.specs.Ports.{ports_by, ports_of}
 

@@ -4,3 +4,31 @@ pub mod Periods
 pub mod Sizes
 pub mod Central
 pub mod Depths
+-- What the definitions here speak of: definitions, trees and the rules between them.
+pub use Rattle.algo_rules.specs.Among
+pub use Rattle.algo_rules.specs.Bounded
+pub use Rattle.algo_rules.specs.Counted
+pub use Rattle.algo_rules.specs.Ends
+pub use Rattle.algo_rules.specs.Expr
+pub use Rattle.algo_rules.specs.Frontiers
+pub use Rattle.algo_rules.specs.Graphs
+pub use Rattle.algo_rules.specs.Links as RuleLinks
+pub use Rattle.algo_rules.specs.Meaning
+pub use Rattle.algo_rules.specs.Named
+pub use Rattle.algo_rules.specs.Outer
+pub use Rattle.algo_rules.specs.Placed
+pub use Rattle.algo_rules.specs.Ports
+pub use Rattle.algo_rules.specs.ReferenceLinks
+pub use Rattle.algo_rules.specs.Resolved
+pub use Rattle.algo_rules.specs.Returned
+pub use Rattle.algo_rules.specs.Size
+pub use Rattle.algo_rules.specs.Text
+pub use Rattle.algo_rules.specs.Tree
+pub use Rattle.algo_rules.specs.TreeCode
+pub use Rattle.algo_rules.specs.Typed
+pub use Rattle.algo_rules.specs.Valid
+pub use Rattle.algo_rules.specs.View
+pub use Rattle.algo_rules.specs.Well
+pub use Rattle.algo_rules.specs.WellRead
+pub use Rattle.level_meaning.specs.Level
+pub use Rattle.level_meaning.specs.Parts

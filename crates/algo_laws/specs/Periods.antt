@@ -1,11 +1,11 @@
 -- The marks of accepted texts.
 use Rattle.std.specs.Prelude.{◌≡◌, ℕ, ◌≤◌, List, [], Option, Some, None, Ok, All}
-use Rattle.algo_text.specs.declared.definition.Body.{Body}
-use Rattle.algo_text.specs.declared.definition.Body.TheVariants.{Graph}
-use Rattle.algo_text.specs.declared.definition.Defs.{Defs}
-use Rattle.algo_text.specs.declared.definition.Reference.{Reference}
 use Rattle.syn_base.specs.Bytes.{Bytes}
-use Rattle.algo_text.specs.Text.{definitions_of}
+use Rattle.algo_rules.specs.declared.Body.{Body}
+use Rattle.algo_rules.specs.declared.Body.TheVariants.{Graph}
+use Rattle.algo_rules.specs.declared.Defs.{Defs}
+use Rattle.algo_rules.specs.declared.Reference.{Reference}
+use Rattle.algo_rules.specs.Text.{definitions_of}
 
 -- A mark stands in version 3 alone, and is a number from 1 to 16.
 abbrev pub IsPeriod : ℕ → Option ℕ → Type 0

@@ -15,3 +15,11 @@ pub use resolving::{
     accepted_have_bounds, accepted_have_names, accepted_make_a_tree, named_are_less_deep,
     operations_are_counted, ports_follow_from_bodies, vertices_are_counted,
 };
+
+// What the clauses here speak of: definitions, trees and the rules between them.
+pub use algo_rules::{
+    AlgoCause, AlgoError, AlgoFault, Body, Case, Def, Defs, Depths, Edge, End, Frontier,
+    FrontierLine, Kind, MOST_VERTICES, Output, Port, Ports, Reference, SizeError, Tree, Vertex,
+    are_inside, copy_numbers, depths_of, is_large, share_kind,
+};
+pub use level_meaning::{Feed, Give, Guard, Part, Source};

@@ -1,7 +1,7 @@
 -- One number more.
 use Rattle.std.proofs.Common.{◌≡◌, ℕ, ◌≤◌, List, ◌++◌, length, drop, Result, Ok, ap, sym, ◌∙◌, append-nil, ℤ}
 use Rattle.std.proofs.lemmas.List.{drop_all}
-use Rattle.algo_text.specs.Blocks.{and_then}
+use Rattle.text_lines.specs.Refusals.{and_then}
 use Rattle.algo_text.specs.Text.{numbers_of}
 use Rattle.algo_text.specs.declared.fault.AlgoError.{AlgoError}
 

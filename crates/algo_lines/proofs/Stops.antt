@@ -2,7 +2,7 @@
 use Rattle.std.proofs.Common.{◌≡◌, Result, Err, ap, ◌∙◌}
 use Rattle.algo_text.specs.declared.fault.AlgoError.{AlgoError}
 use Rattle.algo_text.specs.declared.fault.AlgoError.TheVariants.{Refused, Limit, TooLarge, OutOfMemory}
-use Rattle.algo_text.specs.Blocks.{and_then}
+use Rattle.text_lines.specs.Refusals.{and_then}
 use Rattle.algo_text.specs.Returned.{Fails}
 use Rattle.algo_lines.specs.Given.{IsStop}
 

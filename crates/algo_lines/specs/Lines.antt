@@ -3,12 +3,14 @@ use Rattle.std.specs.Prelude.{ℕ, ◌+◌, Bool, not, min, take, drop, List, Re
 use Rattle.std.specs.List.{position_or_len}
 use Rattle.syn_base.specs.Name.{is_name, is_name_byte}
 use Rattle.syn_base.specs.declared.limits.LimitKind.TheVariants.{PortLength, Ports}
-use Rattle.body_lang.specs.declared.expression.Port.{Port}
+use Rattle.algo_text.specs.declared.Port.{Port}
 use Rattle.algo_text.specs.declared.fault.AlgoError.{AlgoError}
 use Rattle.algo_text.specs.declared.fault.AlgoCause.TheVariants.{BadName, BadNumber}
 use Rattle.syn_base.specs.Bytes.{Bytes}
-use Rattle.algo_text.specs.Words.{word, count_of}
-use Rattle.algo_text.specs.Blocks.{refused, is_above, above, with_some}
+use Rattle.algo_text.specs.Words.{count_of}
+use Rattle.algo_text.specs.Blocks.{refused, above}
+use Rattle.text_lines.specs.Text.{word}
+use Rattle.text_lines.specs.Refusals.{is_above, with_some}
 
 -- P LEN after `in` or `out`, where this many such lines stand before.
 unfoldable pub port_of : ℕ → ℕ → List Bytes → Result Port AlgoError

@@ -6,8 +6,7 @@ ghost use Rattle.algo_text.specs.Returned.{Gives};
 ghost use Rattle.algo_lines.specs.Lines.{name_length, name_from, is_other};
 
 use crate::fault::{bad_expression, unknown};
-use algo_text::{AlgoError, Formula};
-use body_lang::Port;
+use algo_text::{AlgoError, Formula, Port};
 use body_text::{BodyFault, read_body};
 use std::alloc::Global;
 

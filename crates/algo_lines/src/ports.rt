@@ -8,8 +8,7 @@ ghost use Rattle.algo_lines.specs.Lines.{port_of};
 
 use crate::fault::bad_number;
 use crate::word::{line_name, read_count};
-use algo_text::AlgoError;
-use body_lang::Port;
+use algo_text::{AlgoError, Port};
 use std::alloc::Global;
 use std::marker::Model;
 use syn_base::{Items, LimitKind};
@@ -23,9 +22,9 @@ pub struct Ports {
 
 impl Model for Ports {
     ghost use Rattle.std.specs.Prelude.{List, length, ◌≤◌};
-    ghost use Rattle.body_lang.specs.declared.expression.Port.{Port};
     ghost use Rattle.syn_base.specs.Limits.{bound_of};
     ghost use Rattle.syn_base.specs.declared.limits.LimitKind.TheVariants.{Ports as PortCount};
+    ghost use Rattle.algo_text.specs.declared.Port.{Port};
 
     ghost Value = { List Port };
 

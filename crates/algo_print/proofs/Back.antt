@@ -4,16 +4,16 @@ use Rattle.std.specs.Str.{bytes_eq}
 use Rattle.std.specs.Fmt.{digits}
 use Rattle.std.proofs.lemmas.List.{map-append, length-map}
 use Rattle.std.proofs.lemmas.List.Elements.{All-nil}
-use Rattle.text_lines.specs.Text.{lines_of, words_of, code_of, foreign_place}
+use Rattle.text_lines.specs.Text.{lines_of, words_of, code_of, foreign_place, word, begins, count_text}
 use Rattle.algo_text.specs.declared.definition.Def.{Def}
 use Rattle.algo_text.specs.declared.definition.Defs.{Defs}
 use Rattle.algo_text.specs.declared.fault.AlgoError.{AlgoError}
 use Rattle.syn_base.specs.Bytes.{Bytes}
-use Rattle.algo_text.specs.Words.{word}
-use Rattle.algo_text.specs.Blocks.{Block, and_then}
-use Rattle.algo_text.specs.Text.{Stage, before_version, between, in_function, in_graph, in_switch, in_repeat, Reading, start, begins, version_of, version_line, by_stage, line_by, next_line, at_end, rest_of, definitions_of}
+use Rattle.algo_text.specs.Blocks.{Block}
+use Rattle.algo_text.specs.Text.{Stage, before_version, between, in_function, in_graph, in_switch, in_repeat, Reading, start, version_of, version_line, by_stage, line_by, next_line, at_end, rest_of, definitions_of}
+use Rattle.text_lines.specs.Refusals.{and_then}
 use Rattle.algo_text.proofs.Checks.{finds, found, never, passed, read, same_ok}
-use Rattle.algo_print.specs.Canonical.{count, joined, version_words, canonical_text, IsPrintable, ArePrintable}
+use Rattle.algo_print.specs.Canonical.{joined, version_words, canonical_text, IsPrintable, ArePrintable}
 use Rattle.algo_print.specs.ReadBack.{Says}
 use Rattle.algo_print.proofs.Pieces.{is_word, are_words, all_words, and_true, both, text_back}
 use Rattle.algo_print.proofs.State.{Lines, lines_at, Numbered, numbered, AreSame, Adds, IsOrdered, next_words}
@@ -25,8 +25,8 @@ use Rattle.algo_print.proofs.Repeats.{frontier_step}
 
 -- the number of a version is a word, which is read as it
 record VersionBack (v : ℕ) : Type 0 where
-  again : version_of (count v) ≡ Some v
-  plain : is_word (count v) ≡ true
+  again : version_of (count_text v) ≡ Some v
+  plain : is_word (count_text v) ≡ true
 
 version_back : (w : Bytes) (v : ℕ) → version_of w ≡ Some v → VersionBack v
 unfolding digits
@@ -58,7 +58,7 @@ module _ (k : Numbered) (version : ℕ) (names : List Bytes) (defs : List Def) (
       subst (λ (x : Reading). Adds k before_version version names defs b x) (same_ok _ r some.2)
       (record {
         words = version_words v;
-        plain = and_true (is_word (count v)) true back.plain refl;
+        plain = and_true (is_word (count_text v)) true back.plain refl;
         some = refl;
         lines = ap (λ (ds : List Def). lines_at between v ds b) none;
         next = λ m. k;

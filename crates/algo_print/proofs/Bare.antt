@@ -5,9 +5,10 @@ use Rattle.algo_text.specs.declared.definition.Defs.{Defs}
 use Rattle.algo_text.specs.declared.definition.Body.{Body}
 use Rattle.algo_text.specs.declared.definition.Body.TheVariants.{Sensor, Actuator, Constant, Delay, Function, Graph, Switch, Repeat}
 use Rattle.syn_base.specs.Bytes.{Bytes}
-use Rattle.algo_print.specs.Canonical.{count, port_words, reference_words, edge_words, case_words, frontier_words, end_words, otherwise_lines, body_lines, definition_lines, version_words, text_of, canonical_text}
+use Rattle.algo_print.specs.Canonical.{port_words, reference_words, edge_words, case_words, frontier_words, end_words, otherwise_lines, body_lines, definition_lines, version_words, text_of, canonical_text}
 use Rattle.algo_print.specs.ReadBack.{bare, bare_body, bare_reference, bare_edge, bare_case, bare_frontier}
 use Rattle.algo_print.proofs.State.{Lines}
+use Rattle.text_lines.specs.Text.{count_text}
 
 same_lines : {A : Type 0} (f : A → List Bytes) (g : A → A) (xs : List A) → ((x : A) → f (g x) ≡ f x) → map f (map g xs) ≡ map f xs
 same_lines f g [] each = refl
@@ -26,7 +27,7 @@ bare_lines version name (Switch on ins outs cases otherwise line) =
     ap (λ (cs : Lines). (codes "switch" ∷ name ∷ []) ∷ (((codes "on" ∷ on ∷ []) ∷ (map (port_words (codes "in")) ins ++ (map (port_words (codes "out")) outs ++ cs))) ++ otherwise_lines otherwise))
     (same_lines case_words bare_case cases (λ c. refl))
 bare_lines version name (Repeat copies def lines) =
-    ap (λ (ls : Lines). (codes "repeat" ∷ name ∷ count copies ∷ def ∷ []) ∷ (ls ++ end_words ∷ [])) (same_lines frontier_words bare_frontier lines (λ l. refl))
+    ap (λ (ls : Lines). (codes "repeat" ∷ name ∷ count_text copies ∷ def ∷ []) ∷ (ls ++ end_words ∷ [])) (same_lines frontier_words bare_frontier lines (λ l. refl))
 
 bare_definitions : (version : ℕ) (defs : List Def) → definition_lines version (map bare defs) ≡ definition_lines version defs
 bare_definitions version [] = refl

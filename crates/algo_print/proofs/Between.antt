@@ -10,20 +10,20 @@ use Rattle.algo_text.specs.declared.definition.Body.{Body}
 use Rattle.algo_text.specs.declared.definition.Body.TheVariants.{Sensor, Actuator, Constant, Delay}
 use Rattle.syn_base.specs.Bytes.{Bytes}
 use Rattle.algo_text.specs.Among.{is_among}
-use Rattle.algo_text.specs.Words.{word, count_of, number_of}
+use Rattle.algo_text.specs.Words.{count_of, number_of}
 use Rattle.algo_text.specs.Blocks.{Block, new_block}
-use Rattle.algo_text.specs.Text.{Stage, between, in_function, in_graph, in_switch, in_repeat, Reading, begins, end_line, numbers_of, values_line, deep_delay, deep_line, delay_line, opening_line, repeat_line, between_line}
+use Rattle.algo_text.specs.Text.{Stage, between, in_function, in_graph, in_switch, in_repeat, Reading, end_line, numbers_of, values_line, deep_delay, deep_line, delay_line, opening_line, repeat_line, between_line, first_part}
 use Rattle.algo_text.proofs.Checks.{either, finds, found, held, holds, neither, never, passed, passes, read, reads, same_ok}
 use Rattle.syn_base.specs.declared.limits.LimitKind.TheVariants.{PortLength, Copies}
 use Rattle.syn_base.specs.declared.limits.LimitKind.TheVariants as limits
-use Rattle.algo_text.specs.Blocks.{is_above}
-use Rattle.algo_text.specs.Text.{first_part}
-use Rattle.algo_print.specs.Canonical.{count, value_words, delay_words, body_lines, definition_lines, version_words, IsPrintable, ArePrintable}
+use Rattle.algo_print.specs.Canonical.{value_words, delay_words, body_lines, definition_lines, version_words, IsPrintable, ArePrintable}
+use Rattle.text_lines.specs.Refusals.{is_above}
 use Rattle.algo_print.specs.ReadBack.{bare}
 use Rattle.algo_print.proofs.Pieces.{is_word, are_words, and_true}
 use Rattle.algo_print.proofs.Fits.{number_fits}
 use Rattle.algo_print.proofs.Spelled.{name_word, number_word, number_back, count_back, count_word, count_positive}
 use Rattle.algo_print.proofs.State.{Lines, lines_at, Numbered, numbered, AreSame, Adds, IsOrdered, definitions_joined, more}
+use Rattle.text_lines.specs.Text.{word, begins, count_text}
 
 -- one definition more, of these lines
 pub definition_added : (version : ℕ) (defs : List Def) (d : Def) (ws : List Bytes) → body_lines version d.name d.body ≡ ws ∷ [] → definition_lines version (defs ++ d ∷ []) ≡ definition_lines version defs ++ ws ∷ []
@@ -68,7 +68,7 @@ module _ (k : Numbered) (version : ℕ) (names : List Bytes) (defs : List Def) (
   }
 
   end_step : (key : Bytes) (kind : ℕ → Body) (n : ℕ) (ws : List Bytes) (r : Reading) → is_word key ≡ true
-      → ((w : Bytes) (len : ℕ) → body_lines version w (kind len) ≡ (key ∷ w ∷ count len ∷ []) ∷ []) → ((len : ℕ) → IsPrintable (kind len))
+      → ((w : Bytes) (len : ℕ) → body_lines version w (kind len) ≡ (key ∷ w ∷ count_text len ∷ []) ∷ []) → ((len : ℕ) → IsPrintable (kind len))
       → ((m : ℕ) (w v : Bytes) → between_line there m (key ∷ w ∷ v ∷ []) ≡ end_line kind there m (key ∷ w ∷ v ∷ []))
       → end_line kind here n ws ≡ Ok r → Adds k between version names defs b r
   end_step key kind n ws r key_word one printable key_line h =
@@ -80,12 +80,12 @@ module _ (k : Numbered) (version : ℕ) (names : List Bytes) (defs : List Def) (
       let low = passed (is_above PortLength len) _ _ r counted.2 in
       let new = passed (is_among w names) _ _ r low.1 in
       let some : (len == 0) ≡ false = count_positive (word ws 2) len counted.1 in
-      let words : List Bytes = key ∷ w ∷ count len ∷ [] in
+      let words : List Bytes = key ∷ w ∷ count_text len ∷ [] in
       subst (λ (x : Reading). Adds k between version names defs b x) (same_ok _ r new.1)
       (one_line w n (kind len) words (one w len)
-      (and_true (is_word key) _ key_word (and_true (is_word w) _ (name_word w named.0) (and_true (is_word (count len)) true (count_word len low.0) refl)))
+      (and_true (is_word key) _ key_word (and_true (is_word w) _ (name_word w named.0) (and_true (is_word (count_text len)) true (count_word len low.0) refl)))
       refl (printable len)
-      (λ m. key_line m w (count len) ∙ holds _ _ _ _ named.0 (finds _ _ _ _ len (count_back len some low.0) (passes _ _ _ _ low.0 (passes _ _ _ _ new.0 refl)))))
+      (λ m. key_line m w (count_text len) ∙ holds _ _ _ _ named.0 (finds _ _ _ _ len (count_back len some low.0) (passes _ _ _ _ low.0 (passes _ _ _ _ new.0 refl)))))
 
 -- numbers that words are, again from their shortest form
 record AreRead (m : ℕ) (ws : List Bytes) (vs : List ℤ) : Type 0 where
@@ -183,13 +183,13 @@ module _ (k : Numbered) (version : ℕ) (names : List Bytes) (defs : List Def) (
       let long : 5 ≤ length ws = less_false (length ws) 5 (neither (nat_lt (length ws) 5) _ form.0).0 in
       let low : nat_lt 64 depth ≡ false = within_64 depth deep.low in
       let count_is : length (map signed_decimal vs) ≡ length vs = length-map vs signed_decimal in
-      let words : List Bytes = codes "delay" ∷ w ∷ count depth ∷ codes "=" ∷ map signed_decimal vs in
+      let words : List Bytes = codes "delay" ∷ w ∷ count_text depth ∷ codes "=" ∷ map signed_decimal vs in
       let size : 5 ≤ length words = omega (arith, (are 0).length_same, length-drop 4 ws) in
       let line_is : delay_words version w depth vs ≡ words = ap (λ (t : Bool). cond t (value_words (codes "delay") w vs) words) second in
       subst (λ (x : Reading). Adds k between version names defs b x)
       (ap (λ (d : Body). record (open_at version names defs b) { names = names ++ w ∷ []; defs = defs ++ defined_at w d n ∷ [] }) deep.body_is ∙ same_ok _ r new.1)
       (one_line k version names defs b same w n (Delay depth vs) words (ap (λ (l : List Bytes). l ∷ []) line_is)
-      (and_true (is_word w) _ (name_word w named.0) (and_true (is_word (count depth)) _ (count_word depth low) ((are 0).plain)))
+      (and_true (is_word w) _ (name_word w named.0) (and_true (is_word (count_text depth)) _ (count_word depth low) ((are 0).plain)))
       (not_none (length words) (omega arith)) tt
       (λ m. ap (λ (t : Bool). cond t (values_line (Delay 1) (numbered k (open_at version names defs b)) m words) (deep_line (numbered k (open_at version names defs b)) m words)) second
       ∙ passes _ _ _ _ (neither_holds (nat_lt (length words) 5) false (not_less _ 5 size) refl)
@@ -199,7 +199,7 @@ module _ (k : Numbered) (version : ℕ) (names : List Bytes) (defs : List Def) (
   delay_step : (t : Bool) (n : ℕ) (ws : List Bytes) (r : Reading) → (version == 1) ≡ t → delay_line (open_at version names defs b) n ws ≡ Ok r → Adds k between version names defs b r
   delay_step true n ws r first h =
       values_step (codes "delay") (Delay 1) n ws r refl
-      (λ w vs. ap (λ (t : Bool). cond t (value_words (codes "delay") w vs) (codes "delay" ∷ w ∷ count 1 ∷ codes "=" ∷ map signed_decimal vs) ∷ []) first) (λ vs. tt)
+      (λ w vs. ap (λ (t : Bool). cond t (value_words (codes "delay") w vs) (codes "delay" ∷ w ∷ count_text 1 ∷ codes "=" ∷ map signed_decimal vs) ∷ []) first) (λ vs. tt)
       (λ m w vs. ap (λ (t : Bool). cond t (values_line (Delay 1) (numbered k (open_at version names defs b)) m (codes "delay" ∷ w ∷ codes "=" ∷ vs)) (deep_line (numbered k (open_at version names defs b)) m (codes "delay" ∷ w ∷ codes "=" ∷ vs))) first)
       (sym (ap (λ (t : Bool). cond t (values_line (Delay 1) (open_at version names defs b) n ws) (deep_line (open_at version names defs b) n ws)) first) ∙ h)
   delay_step false n ws r second h =
@@ -255,8 +255,8 @@ module _ (k : Numbered) (version : ℕ) (names : List Bytes) (defs : List Def) (
       let new = passed (is_among w names) _ _ r low.1 in
       let some : (copies == 0) ≡ false = count_positive (word ws 2) copies counted.1 in
       subst (λ (x : Reading). Adds k between version names defs b x) (same_ok _ r new.1)
-      (opened_with in_repeat w n copies def (codes "repeat" ∷ w ∷ count copies ∷ def ∷ [])
-      (and_true (is_word w) _ (name_word w named.0) (and_true (is_word (count copies)) _ (count_word copies low.0) (and_true (is_word def) true (name_word def known.0) refl)))
+      (opened_with in_repeat w n copies def (codes "repeat" ∷ w ∷ count_text copies ∷ def ∷ [])
+      (and_true (is_word w) _ (name_word w named.0) (and_true (is_word (count_text copies)) _ (count_word copies low.0) (and_true (is_word def) true (name_word def known.0) refl)))
       refl refl tt
       (λ m. holds _ _ _ _ named.0 (holds _ _ _ _ known.0 (finds _ _ _ _ copies (count_back copies some low.0) (passes _ _ _ _ low.0 (passes _ _ _ _ new.0 refl))))))
 

@@ -2,7 +2,7 @@
 use Rattle.std.proofs.Common.{◌≡◌, ℕ, ◌==◌, not, ◌||◌, true, false, List, [], ◌∷◌, ◌++◌, length, map, Result, Ok, Err, refl, ap, ap₂, sym, ◌∙◌, append_assoc, append-nil, ◌+◌}
 use Rattle.std.proofs.lemmas.List.{map-append}
 use Rattle.syn_base.specs.Name.{is_name}
-use Rattle.body_lang.specs.declared.expression.Port.{Port}
+use Rattle.algo_text.specs.declared.Port.{Port}
 use Rattle.algo_text.specs.declared.definition.Def.{Def}
 use Rattle.algo_text.specs.declared.definition.Body.{Body}
 use Rattle.algo_text.specs.declared.definition.Reference.{Reference}
@@ -12,20 +12,21 @@ use Rattle.algo_text.specs.declared.definition.FrontierLine.{FrontierLine}
 use Rattle.algo_text.specs.declared.fault.AlgoError.{AlgoError}
 use Rattle.syn_base.specs.Bytes.{Bytes}
 use Rattle.algo_text.specs.Among.{is_among}
-use Rattle.algo_text.specs.Words.{word, count_of}
+use Rattle.algo_text.specs.Words.{count_of}
 use Rattle.algo_text.specs.Blocks.{Block, is_taken, port_line, in_line, with_in, out_line, with_out}
 use Rattle.algo_text.specs.Text.{Stage, between, Reading, in_block, by_stage}
 use Rattle.algo_text.proofs.Checks.{finds, found, held, holds, neither, not_false, passed, passes, same_ok}
 use Rattle.algo_text.specs.declared.part.Part.TheVariants.{Inputs, Outputs}
 use Rattle.algo_text.specs.Parts.{admits}
 use Rattle.syn_base.specs.declared.limits.LimitKind.TheVariants as limits
-use Rattle.algo_text.specs.Blocks.{is_above}
-use Rattle.algo_print.specs.Canonical.{joined, count, port_words, body_lines, definition_lines, version_words, end_words, IsPrintable}
+use Rattle.algo_print.specs.Canonical.{joined, port_words, body_lines, definition_lines, version_words, end_words, IsPrintable}
+use Rattle.text_lines.specs.Refusals.{is_above}
 use Rattle.algo_print.specs.ReadBack.{bare, bare_body, bare_reference, bare_edge, bare_case, bare_frontier}
 use Rattle.algo_print.proofs.Pieces.{is_word, are_words, and_true}
 use Rattle.algo_print.proofs.Spelled.{name_word, count_back, count_word, count_positive}
 use Rattle.algo_print.proofs.State.{Lines, open_lines, lines_at, Numbered, numbered_block, numbered, AreSame, Adds, IsOrdered, definitions_joined, more, same_outer}
 use Rattle.algo_print.proofs.Between.{one_printable}
+use Rattle.text_lines.specs.Text.{word, count_text}
 
 -- a list of lines with one more in front of nothing, and after others
 pub in_front : {A : Type 0} (f : A → List Bytes) (xs : List A) (x : A) (rest : Lines) → rest ≡ [] → map f (xs ++ x ∷ []) ++ rest ≡ (map f xs ++ rest) ++ f x ∷ []
@@ -130,7 +131,7 @@ port_read n before ws go after h =
     record { len = counted.0; named = named.0; few = few.0; some = count_positive (word ws 2) counted.0 counted.1; low = low.0; then = low.1 }
 
 pub port_again : (m before len : ℕ) (key w : Bytes) (go : Port → Result Block AlgoError) (after : Block) → is_name w ≡ true → is_above limits.Ports (before + 1) ≡ false → (len == 0) ≡ false → is_above limits.PortLength len ≡ false
-    → go (record { name = w; len = len }) ≡ Ok after → port_line m before (key ∷ w ∷ count len ∷ []) go ≡ Ok after
+    → go (record { name = w; len = len }) ≡ Ok after → port_line m before (key ∷ w ∷ count_text len ∷ []) go ≡ Ok after
 port_again m before len key w go after named few some low then =
     holds _ _ _ _ named (finds _ _ _ _ len (count_back len some low) (passes _ _ _ _ few (passes _ _ _ _ low then)))
 
@@ -159,7 +160,7 @@ in_read b n ws after h =
       port = record { name = w; len = p.len };
       at = at;
       after_is = same_ok _ after free.1;
-      plain = λ key word. key_words key w (count p.len) word (name_word w p.named) (count_word p.len p.low);
+      plain = λ key word. key_words key w (count_text p.len) word (name_word w p.named) (count_word p.len p.low);
       again = λ k defs m key same. passes _ _ _ _ (ap not at)
           (port_again m (length b.ins) p.len key w (with_in (numbered_block k b) m) _ p.named p.few p.some p.low (passes _ _ _ _ (taken_same k defs b w same ∙ free.0) refl));
     }
@@ -183,7 +184,7 @@ out_read b n ws after h =
       port = record { name = w; len = p.len };
       at = at;
       after_is = same_ok _ after free.1;
-      plain = λ key word. key_words key w (count p.len) word (name_word w p.named) (count_word p.len p.low);
+      plain = λ key word. key_words key w (count_text p.len) word (name_word w p.named) (count_word p.len p.low);
       again = λ k defs m key same. passes _ _ _ _ (ap not at)
           (port_again m (length b.outs) p.len key w (with_out (numbered_block k b) m) _ p.named p.few p.some p.low (passes _ _ _ _ (taken_same k defs b w same ∙ free.0) refl));
     }

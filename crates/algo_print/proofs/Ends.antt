@@ -5,8 +5,7 @@ use Rattle.std.proofs.lemmas.List.Sums.{split_at_first, passes_at_first}
 use Rattle.syn_base.specs.Name.{is_name}
 use Rattle.algo_text.specs.declared.definition.End.{End}
 use Rattle.syn_base.specs.Bytes.{Bytes}
-use Rattle.algo_text.specs.Words.{is_dot, end_of}
-use Rattle.algo_print.specs.Canonical.{end_word}
+use Rattle.algo_text.specs.Words.{is_dot, end_of, end_word}
 use Rattle.algo_print.proofs.Pieces.{is_plain, is_word, word_more, plain_word, joins}
 use Rattle.algo_print.proofs.Spelled.{name_word}
 

@@ -5,21 +5,21 @@ use Rattle.std.specs.List.{list_all}
 use Rattle.std.proofs.lemmas.List.{map-append, take_at, drop_at, length-append}
 use Rattle.std.proofs.lemmas.List.Elements.{All-append, All-cons, All-nil}
 use Rattle.syn_base.specs.Name.{is_name_byte}
-use Rattle.text_lines.specs.Text.{words_of}
-use Rattle.body_lang.specs.Expr.{Expr}
+use Rattle.text_lines.specs.Text.{words_of, word, begins, count_text}
 use Rattle.body_text.specs.Tokens.{Token, tokens}
 use Rattle.body_text.specs.Reads.{IsBody}
 use Rattle.body_text.specs.Canonical.{canonical, IsRead}
 use Rattle.body_text.proofs.CanonicalTokens.{without_places}
 use Rattle.body_text.proofs.CanonicalReads.{reads_back}
+use Rattle.algo_text.specs.Expr.{Expr}
 use Rattle.algo_text.specs.declared.definition.Def.{Def}
 use Rattle.algo_text.specs.declared.definition.Output.{Output}
 use Rattle.algo_text.specs.declared.definition.Body.TheVariants.{Function}
 use Rattle.syn_base.specs.Bytes.{Bytes}
-use Rattle.algo_text.specs.Words.{word}
 use Rattle.algo_text.specs.Formulas.{formula_of}
-use Rattle.algo_text.specs.Blocks.{Block, in_line, and_then, is_taken, is_equals, result_words, result_at, result_line, with_result}
-use Rattle.algo_text.specs.Text.{in_function, Reading, begins, in_block, block_end, function_line}
+use Rattle.algo_text.specs.Blocks.{Block, in_line, is_taken, is_equals, result_words, result_at, result_line, with_result}
+use Rattle.algo_text.specs.Text.{in_function, Reading, in_block, block_end, function_line}
+use Rattle.text_lines.specs.Refusals.{and_then}
 use Rattle.algo_text.proofs.Checks.{either, neither, never, not_false, passed, passes, read, reads, same_ok}
 use Rattle.algo_text.specs.declared.part.Part.TheVariants.{Outputs}
 use Rattle.algo_text.specs.Parts.{admits}
@@ -28,7 +28,7 @@ use Rattle.syn_base.specs.Limits.{bound_of}
 use Rattle.algo_text.specs.Grammatical.{IsFormula}
 use Rattle.algo_text.proofs.Judged.{formula_law}
 use Rattle.algo_text.proofs.Grammars.{body_formula}
-use Rattle.algo_print.specs.Canonical.{spaced, joined, count, port_words, output_words, function_lines}
+use Rattle.algo_print.specs.Canonical.{spaced, joined, port_words, output_words, function_lines}
 use Rattle.algo_print.proofs.Pieces as pieces
 use Rattle.algo_print.proofs.Pieces.{is_word, are_words, and_true, joins, words_then, first_stands}
 use Rattle.algo_print.proofs.Spelled.{name_word, name_bytes, count_word, count_bytes, name_byte_no_equals, expression_word}
@@ -115,9 +115,9 @@ result_read b n code after h =
       at = not_false (admits b.part Outputs) order.1;
       printable = is;
       after_is = same_ok _ after free.1;
-      plain = and_true (is_word w) _ (name_word w p.named) (and_true (is_word (count p.len)) _ (count_word p.len p.low) (and_true (is_word (canonical names e)) true (expression_word names e is) refl));
+      plain = and_true (is_word w) _ (name_word w p.named) (and_true (is_word (count_text p.len)) _ (count_word p.len p.low) (and_true (is_word (canonical names e)) true (expression_word names e is) refl));
       again = λ k defs m same.
-          cut_line (numbered_block k b) m w (count p.len) (canonical names e) (name_word w p.named) (count_word p.len p.low) (name_bytes w p.named) (count_bytes p.len p.low)
+          cut_line (numbered_block k b) m w (count_text p.len) (canonical names e) (name_word w p.named) (count_word p.len p.low) (name_bytes w p.named) (count_bytes p.len p.low)
           ∙ passes _ _ _ _ order.1
           (port_again m (length b.results) p.len (codes "out") w (λ q. and_then (formula_of m names (32 ∷ canonical names e)) (with_result (numbered_block k b) m q)) _ p.named p.few p.some p.low
           (reads _ _ _ e (body_formula m names (32 ∷ canonical names e) e (behind_blank names (canonical names e) e (reads_back names e is)))

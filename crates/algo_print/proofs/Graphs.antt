@@ -2,7 +2,7 @@
 use Rattle.std.proofs.Common.{◌≡◌, ℕ, ◌<◌, ◌≤◌, ◌==◌, Bool, not, ◌&&◌, ◌||◌, true, false, cond, List, [], ◌∷◌, ◌++◌, length, map, Option, Some, None, Result, Ok, refl, arith, ap, ap₂, ◌∙◌, subst, codes, ◌+◌}
 use Rattle.std.proofs.lemmas.List.{map-append}
 use Rattle.syn_base.specs.Name.{is_name}
-use Rattle.body_lang.specs.declared.expression.Port.{Port}
+use Rattle.algo_text.specs.declared.Port.{Port}
 use Rattle.algo_text.specs.declared.definition.Def.{Def}
 use Rattle.algo_text.specs.declared.definition.Body.TheVariants.{Graph}
 use Rattle.algo_text.specs.declared.definition.End.{End}
@@ -11,23 +11,24 @@ use Rattle.algo_text.specs.declared.definition.Reference.{Reference}
 use Rattle.algo_text.specs.declared.fault.AlgoError.{AlgoError}
 use Rattle.syn_base.specs.Bytes.{Bytes}
 use Rattle.algo_text.specs.Among.{is_among}
-use Rattle.algo_text.specs.Words.{word, period_of, end_of}
+use Rattle.algo_text.specs.Words.{period_of, end_of, end_word}
 use Rattle.algo_text.specs.Blocks.{Block, in_line, out_line, reference_of, with_reference, plain_line, marked_line, reference_line, edge_line}
-use Rattle.algo_text.specs.Text.{in_graph, Reading, begins, in_block, block_end, graph_line}
+use Rattle.algo_text.specs.Text.{in_graph, Reading, in_block, block_end, graph_line}
 use Rattle.algo_text.proofs.Checks.{either, finds, found, holds, never, passed, passes, reads, same_ok}
 use Rattle.algo_text.proofs.References.{IsMark, ReferenceRead, reference_read}
 use Rattle.algo_text.specs.declared.part.Part.TheVariants.{Inputs, Outputs, References, Edges}
 use Rattle.algo_text.specs.Parts.{rank, admits}
 use Rattle.algo_text.proofs.Parts.{admitted}
 use Rattle.syn_base.specs.declared.limits.LimitKind.TheVariants as limits
-use Rattle.algo_text.specs.Blocks.{is_above}
-use Rattle.algo_print.specs.Canonical.{count, port_words, reference_words, edge_words, end_word}
+use Rattle.algo_print.specs.Canonical.{port_words, reference_words, edge_words}
+use Rattle.text_lines.specs.Refusals.{is_above}
 use Rattle.algo_print.specs.ReadBack.{bare_reference, bare_edge}
 use Rattle.algo_print.proofs.Pieces.{is_word, are_words, and_true}
 use Rattle.algo_print.proofs.Spelled.{name_word, count_word, PeriodRead, period_read}
 use Rattle.algo_print.proofs.Ends.{end_read, end_again}
 use Rattle.algo_print.proofs.State.{Lines, GraphOrder, Numbered, numbered_block, numbered, AreSame, Adds, more, same_length, same_names}
 use Rattle.algo_print.proofs.BlockLines.{in_front, behind, no_lines, key_words, IntoBlock, into_block, alike, block_adds, end_adds, InRead, in_read, OutRead, out_read}
+use Rattle.text_lines.specs.Text.{word, begins, count_text}
 
 and_false : (t : Bool) → (t && false) ≡ false
 and_false true = refl
@@ -141,11 +142,11 @@ module _ (k : Numbered) (version : ℕ) (names : List Bytes) (defs : List Def) (
       ap (λ (t : Bool). cond t (marked_line (numbered_block k b) m ws) (plain_line (numbered_block k b) m ws)) (and_false (version == 3))
       ∙ passes _ _ _ _ (ap not admits_it) (reads _ _ _ (referred w def None m) (names_again m w def [] named known) put)
 
-  marked_again : (w def : Bytes) (n : ℕ) → is_name w ≡ true → is_name def ≡ true → admits b.part References ≡ true → (version == 3) ≡ true → period_of (count n) ≡ Some n → IsReferred w def (Some n)
+  marked_again : (w def : Bytes) (n : ℕ) → is_name w ≡ true → is_name def ≡ true → admits b.part References ≡ true → (version == 3) ≡ true → period_of (count_text n) ≡ Some n → IsReferred w def (Some n)
   marked_again w def n named known admits_it third period m c put =
-      let ws : List Bytes = codes "ref" ∷ w ∷ def ∷ codes "every" ∷ count n ∷ [] in
+      let ws : List Bytes = codes "ref" ∷ w ∷ def ∷ codes "every" ∷ count_text n ∷ [] in
       ap (λ (t : Bool). cond t (marked_line (numbered_block k b) m ws) (plain_line (numbered_block k b) m ws)) (and_true (version == 3) true third refl)
-      ∙ passes _ _ _ _ (ap not admits_it) (reads _ _ _ (referred w def None m) (names_again m w def (codes "every" ∷ count n ∷ []) named known) (finds _ _ _ _ n period put))
+      ∙ passes _ _ _ _ (ap not admits_it) (reads _ _ _ (referred w def None m) (names_again m w def (codes "every" ∷ count_text n ∷ []) named known) (finds _ _ _ _ n period put))
 
   reference_made : (n : ℕ) (ws : List Bytes) (every : Option ℕ) → IsMark version ws every → admits b.part References ≡ true → is_name (word ws 1) ≡ true → is_name (word ws 2) ≡ true
       → is_above limits.References (length b.references + 1) ≡ false → is_among (word ws 1) (map (λ x. x.name) b.references) ≡ false
@@ -157,7 +158,7 @@ module _ (k : Numbered) (version : ℕ) (names : List Bytes) (defs : List Def) (
   reference_made n ws (Some period) mark admits_it named known few free =
       let back : PeriodRead period = period_read (word ws 4) period mark.1 in
       reference_adds n (word ws 1) (word ws 2) (Some period) admits_it few free
-      (and_true (is_word (word ws 1)) _ (name_word (word ws 1) named) (and_true (is_word (word ws 2)) _ (name_word (word ws 2) known) (and_true (is_word (count period)) true (count_word period back.low) refl)))
+      (and_true (is_word (word ws 1)) _ (name_word (word ws 1) named) (and_true (is_word (word ws 2)) _ (name_word (word ws 2) known) (and_true (is_word (count_text period)) true (count_word period back.low) refl)))
       refl (marked_again (word ws 1) (word ws 2) period named known admits_it mark.0 back.again)
 
   reference_step : (n : ℕ) (ws : List Bytes) (r : Reading) → in_block here (reference_line version b n ws) ≡ Ok r → Adds k in_graph version names defs b r

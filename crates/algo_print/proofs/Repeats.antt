@@ -12,18 +12,18 @@ use Rattle.algo_text.specs.declared.fault.AlgoCause.TheVariants.{BadLine, Duplic
 use Rattle.syn_base.specs.declared.limits.LimitKind.TheVariants.{Ports}
 use Rattle.syn_base.specs.Bytes.{Bytes}
 use Rattle.algo_text.specs.Among.{is_among}
-use Rattle.algo_text.specs.Words.{word}
 use Rattle.algo_text.specs.Outer.{all_outer}
 use Rattle.algo_text.specs.Blocks.{Block, refused, above, all_names, with_frontier}
-use Rattle.algo_text.specs.Text.{in_repeat, Reading, begins, in_block, block_end, frontier_line}
+use Rattle.algo_text.specs.Text.{in_repeat, Reading, in_block, block_end, frontier_line}
 use Rattle.algo_text.proofs.Checks.{either, equal, held, holds, never, passed, passes, same_ok}
-use Rattle.algo_text.specs.Blocks.{is_above}
+use Rattle.text_lines.specs.Refusals.{is_above}
 use Rattle.algo_print.specs.Canonical.{words_of_frontier, frontier_words}
 use Rattle.algo_print.specs.ReadBack.{bare_frontier}
 use Rattle.algo_print.proofs.Pieces.{is_word, are_words, and_true}
 use Rattle.algo_print.proofs.Spelled.{name_word}
 use Rattle.algo_print.proofs.State.{Numbered, numbered_block, numbered, AreSame, Adds, more, same_length, same_outer}
 use Rattle.algo_print.proofs.BlockLines.{behind, key_words, IntoBlock, into_block, block_adds, end_adds}
+use Rattle.text_lines.specs.Text.{word, begins}
 
 -- a line of two names, of which one is an outer one
 abbrev pair_line : Block → ℕ → Frontier → Bytes → Result Block AlgoError

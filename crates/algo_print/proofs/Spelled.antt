@@ -9,20 +9,18 @@ use Rattle.syn_base.specs.Integer.{number_after}
 use Rattle.syn_base.proofs.Decimal as integers
 use Rattle.syn_base.specs.declared.arithmetic.Op.{Op}
 use Rattle.syn_base.specs.declared.arithmetic.Op.TheVariants.{Add, Sub, Mul, Div, Rem, Eq, Ne, Lt, Le, Gt, Ge, Min, Max, Neg}
-use Rattle.text_lines.specs.Text.{is_feed, is_blank, is_hash, is_foreign}
-use Rattle.body_lang.specs.Expr.{Expr}
+use Rattle.text_lines.specs.Text.{is_feed, is_blank, is_hash, is_foreign, count_text}
 use Rattle.body_text.specs.Tokens.{tokens}
-use Rattle.body_text.specs.Grammar.{Written, literal, index, element, sum_over, negation, apply, select, word_of}
+use Rattle.body_text.specs.Grammar.{Written, literal, index, element, sum_over, negation, apply, select, word_of, written}
 use Rattle.body_text.specs.Canonical.{canonical, IsRead}
 use Rattle.body_text.proofs.CanonicalTokens.{name_byte-not_blank}
 use Rattle.body_text.proofs.CanonicalSound.{AreSound, IsSoundTree, tokens_sound, tree_sound}
 use Rattle.body_text.proofs.CanonicalText.{text_of}
 use Rattle.body_text.proofs.CanonicalPorts.{known, same_text}
-use Rattle.body_text.specs.Grammar.{written}
 use Rattle.syn_base.specs.Bytes.{Bytes}
+use Rattle.algo_text.specs.Expr.{Expr}
 use Rattle.algo_text.specs.Words.{number_of, number_by, count_of, count_by, period_of, period_by}
 use Rattle.algo_text.specs.Blocks.{is_equals}
-use Rattle.algo_print.specs.Canonical.{count}
 use Rattle.algo_print.proofs.Pieces.{is_plain, is_word, both, plain_word, passes, joins, word_more}
 use Rattle.algo_print.proofs.Fits.{number_fits}
 use Rattle.syn_base.specs.declared.integer.NumFault.{NumFault}
@@ -143,13 +141,13 @@ expression_word ports e (text, body) =
 small_fits : (n : ℕ) → nat_lt 64 n ≡ false → FitsSigned w64 (pos n)
 small_fits n h = let low : n ≤ 64 = grind arith in record { sfits = omega arith }
 
-pub count_back : (n : ℕ) → (n == 0) ≡ false → nat_lt 64 n ≡ false → count_of (count n) ≡ Some n
+pub count_back : (n : ℕ) → (n == 0) ≡ false → nat_lt 64 n ≡ false → count_of (count_text n) ≡ Some n
 count_back n some low = ap (λ (r : Result ℤ NumFault). count_by (number_by r)) (integers.reads_back (pos n) (small_fits n low)) ∙ ap (λ c. if c then None else Some n) some
 
-pub count_word : (n : ℕ) → nat_lt 64 n ≡ false → is_word (count n) ≡ true
+pub count_word : (n : ℕ) → nat_lt 64 n ≡ false → is_word (count_text n) ≡ true
 count_word n low = number_word (pos n) (small_fits n low)
 
-pub count_bytes : (n : ℕ) → nat_lt 64 n ≡ false → list_all is_name_byte (count n) ≡ true
+pub count_bytes : (n : ℕ) → nat_lt 64 n ≡ false → list_all is_name_byte (count_text n) ≡ true
 count_bytes n low = let small : n ≤ 64 = grind arith in digits_bytes n (omega arith)
 
 count_some : (o : Option ℤ) (n : ℕ) → count_by o ≡ Some n → (n == 0) ≡ false
@@ -171,7 +169,7 @@ within_16 n h = grind arith
 -- what is read as the number of a mark, which is read back
 pub record PeriodRead (n : ℕ) : Type 0 where
   pub low : nat_lt 64 n ≡ false
-  pub again : period_of (count n) ≡ Some n
+  pub again : period_of (count_text n) ≡ Some n
 
 period_kept : (m n : ℕ) (c : Bool) → nat_le m 16 ≡ c → (m == 0) ≡ false → (if c then Some m else None) ≡ Some n → PeriodRead n
 period_kept m n true most some h =

@@ -2,7 +2,7 @@
 use Rattle.std.proofs.Common.{◌≡◌, ℕ, ◌<◌, ◌==◌, true, false, cond, List, [], ◌∷◌, ◌++◌, length, map, Ok, refl, ap, ap₂, sym, ◌∙◌, append_assoc, codes}
 use Rattle.std.specs.Prelude.{All}
 use Rattle.std.proofs.lemmas.List.{map-append, length-map}
-use Rattle.text_lines.specs.Text.{words_of}
+use Rattle.text_lines.specs.Text.{words_of, count_text}
 use Rattle.body_text.specs.Canonical.{IsRead}
 use Rattle.algo_text.specs.declared.definition.Def.{Def}
 use Rattle.algo_text.specs.declared.definition.Reference.{Reference}
@@ -16,7 +16,7 @@ use Rattle.algo_text.specs.declared.part.Part.TheVariants.{Conditioning, Inputs,
 use Rattle.algo_text.specs.Parts.{rank, admits}
 use Rattle.algo_text.specs.Blocks.{Block}
 use Rattle.algo_text.specs.Text.{Stage, before_version, between, in_function, in_graph, in_switch, in_repeat, Reading, by_stage, line_by, next_line}
-use Rattle.algo_print.specs.Canonical.{joined, count, body_lines, definition_lines, version_words, function_lines, graph_lines, port_words, case_words, frontier_words, ArePrintable}
+use Rattle.algo_print.specs.Canonical.{joined, body_lines, definition_lines, version_words, function_lines, graph_lines, port_words, case_words, frontier_words, ArePrintable}
 use Rattle.algo_print.specs.ReadBack.{bare, bare_reference, bare_edge, bare_case, bare_frontier}
 use Rattle.algo_print.proofs.Pieces.{are_words, joined_back, code_back, foreign_back}
 
@@ -35,7 +35,7 @@ open_lines between b = []
 open_lines in_function b = (codes "function" ∷ b.name ∷ []) ∷ function_lines b.ins b.results
 open_lines in_graph b = (codes "graph" ∷ b.name ∷ []) ∷ graph_lines b.ins b.outs b.references b.edges
 open_lines in_switch b = (codes "switch" ∷ b.name ∷ []) ∷ open_switch b.part b.on (map (port_words (codes "in")) b.ins ++ (map (port_words (codes "out")) b.outs ++ map case_words b.cases)) b.otherwise
-open_lines in_repeat b = (codes "repeat" ∷ b.name ∷ count b.copies ∷ b.def ∷ []) ∷ map frontier_words b.frontier
+open_lines in_repeat b = (codes "repeat" ∷ b.name ∷ count_text b.copies ∷ b.def ∷ []) ∷ map frontier_words b.frontier
 
 abbrev pub lines_at : Stage → ℕ → List Def → Block → Lines
 lines_at before_version version defs b = []

@@ -3,22 +3,22 @@ use Rattle.std.proofs.Common.{◌≡◌, ℕ, ◌<◌, ◌≤◌, ◌==◌, not,
 use Rattle.std.specs.Fmt.{signed_decimal}
 use Rattle.std.proofs.lemmas.List.{map-append}
 use Rattle.syn_base.specs.Name.{is_name}
-use Rattle.body_lang.specs.declared.expression.Port.{Port}
+use Rattle.algo_text.specs.declared.Port.{Port}
 use Rattle.algo_text.specs.declared.definition.Def.{Def}
 use Rattle.algo_text.specs.declared.definition.Body.TheVariants.{Switch}
 use Rattle.algo_text.specs.declared.definition.Case.{Case}
 use Rattle.algo_text.specs.declared.fault.AlgoError.{AlgoError}
 use Rattle.syn_base.specs.Bytes.{Bytes}
-use Rattle.algo_text.specs.Words.{word, number_of}
+use Rattle.algo_text.specs.Words.{number_of}
 use Rattle.algo_text.specs.Blocks.{Block, in_line, out_line, on_line, case_line, otherwise_line}
-use Rattle.algo_text.specs.Text.{in_switch, Reading, begins, in_block, block_end, switch_line}
+use Rattle.algo_text.specs.Text.{in_switch, Reading, in_block, block_end, switch_line}
 use Rattle.algo_text.proofs.Checks.{either, finds, found, held, holds, neither, never, not_false, passed, passes, same_ok}
 use Rattle.algo_text.specs.declared.part.Part.TheVariants.{Conditioning, Inputs, Outputs, Edges, Cases, Whole}
 use Rattle.algo_text.specs.declared.part.Part.{Part}
 use Rattle.algo_text.specs.Parts.{rank, admits, is_conditioning, is_whole}
 use Rattle.algo_text.proofs.Parts.{admitted}
 use Rattle.syn_base.specs.declared.limits.LimitKind.TheVariants as limits
-use Rattle.algo_text.specs.Blocks.{is_above}
+use Rattle.text_lines.specs.Refusals.{is_above}
 use Rattle.algo_print.specs.Canonical.{port_words, case_words, switch_lines, end_words}
 use Rattle.algo_print.specs.ReadBack.{bare_case}
 use Rattle.algo_print.proofs.Pieces.{is_word, and_true}
@@ -26,6 +26,7 @@ use Rattle.algo_print.proofs.Fits.{number_fits}
 use Rattle.algo_print.proofs.Spelled.{name_word, number_word, number_back}
 use Rattle.algo_print.proofs.State.{Lines, open_switch, SwitchOrder, Numbered, numbered, AreSame, Adds, more, same_length}
 use Rattle.algo_print.proofs.BlockLines.{in_front, behind, no_lines, key_words, IntoBlock, into_block, alike, block_adds, end_adds, InRead, in_read, OutRead, out_read}
+use Rattle.text_lines.specs.Text.{word, begins}
 
 -- the lines of an open switch, by its part
 before_on : (part : Part) (on : Bytes) (lines : Lines) (otherwise : Bytes) → is_conditioning part ≡ true → open_switch part on lines otherwise ≡ []

@@ -1,9 +1,9 @@
 -- The canonical text of definitions: the one form of each line, words separated by one space, no empty lines and no
 -- comments.
-use Rattle.std.specs.Prelude.{ℕ, ◌==◌, if◌then◌else◌, List, [], ◌∷◌, ◌++◌, map, All, Option, Some, None, codes, ℤ, pos}
+use Rattle.std.specs.Prelude.{ℕ, ◌==◌, if◌then◌else◌, List, [], ◌∷◌, ◌++◌, map, All, Option, Some, None, codes, ℤ}
 use Rattle.std.specs.Fmt.{signed_decimal}
-use Rattle.body_lang.specs.declared.expression.Port.{Port}
 use Rattle.body_text.specs.Canonical.{canonical, IsRead}
+use Rattle.algo_text.specs.declared.Port.{Port}
 use Rattle.algo_text.specs.declared.definition.Def.{Def}
 use Rattle.algo_text.specs.declared.definition.Defs.{Defs}
 use Rattle.algo_text.specs.declared.definition.Body.{Body}
@@ -19,13 +19,14 @@ use Rattle.algo_text.specs.declared.definition.Body.TheVariants.{
 }
 use Rattle.algo_text.specs.declared.definition.Output.{Output}
 use Rattle.algo_text.specs.declared.definition.Reference.{Reference}
-use Rattle.algo_text.specs.declared.definition.End.{End}
 use Rattle.algo_text.specs.declared.definition.Edge.{Edge}
 use Rattle.algo_text.specs.declared.definition.Case.{Case}
 use Rattle.algo_text.specs.declared.definition.Frontier.{Frontier}
 use Rattle.algo_text.specs.declared.definition.Frontier.TheVariants.{Fork, Diffuse, Iterate, Join}
 use Rattle.algo_text.specs.declared.definition.FrontierLine.{FrontierLine}
 use Rattle.syn_base.specs.Bytes.{Bytes}
+use Rattle.text_lines.specs.Text.{count_text}
+use Rattle.algo_text.specs.Words.{end_word}
 
 -- words, each after a space
 abbrev pub spaced : List Bytes → Bytes
@@ -46,37 +47,23 @@ abbrev pub text_of : List (List Bytes) → Bytes
 text_of [] = []
 text_of (ws ∷ lines) = line_of ws ++ text_of lines
 
--- The word of a natural number, in decimal.
-abbrev pub count : ℕ → Bytes
-count n = signed_decimal (pos n)
-
 -- The words of the line of a port: the key, `in` or `out`, and then its name and its length.
 abbrev pub port_words : Bytes → Port → List Bytes
-port_words key p = key ∷ p.name ∷ count p.len ∷ []
+port_words key p = key ∷ p.name ∷ count_text p.len ∷ []
 
 -- the output of a function with these inputs
 abbrev pub output_words : List Port → Output → List Bytes
 output_words ins o =
-    codes "out" ∷ o.port.name ∷ count o.port.len ∷ codes "=" ∷ canonical (map (λ p. p.name) ins) o.formula ∷ []
+    codes "out" ∷ o.port.name ∷ count_text o.port.len ∷ codes "=" ∷ canonical (map (λ p. p.name) ins) o.formula ∷ []
 
 -- a mark, where there is one
 abbrev pub mark_words : Option ℕ → List Bytes
 mark_words None = []
-mark_words (Some n) = codes "every" ∷ count n ∷ []
+mark_words (Some n) = codes "every" ∷ count_text n ∷ []
 
 -- The words of the line of a reference, with `every N` at the end if it has a mark.
 abbrev pub reference_words : Reference → List Bytes
 reference_words r = codes "ref" ∷ r.name ∷ r.def ∷ mark_words r.every
-
--- The word of a port: `OWNER.PORT` if a reference owns it, and only `PORT` if none does.
-abbrev pub owned : Option Bytes → Bytes → Bytes
-owned None port = port
-owned (Some owner) port = owner ++ 46 ∷ port
-
--- The word of an end of an edge: the name of a port, with its reference and a dot in
--- front if it has one.
-abbrev pub end_word : End → Bytes
-end_word e = owned e.owner e.port
 
 -- The words of the line of an edge.
 abbrev pub edge_words : Edge → List Bytes
@@ -105,13 +92,13 @@ value_words key name values = key ∷ name ∷ codes "=" ∷ map signed_decimal 
 abbrev pub delay_words : ℕ → Bytes → ℕ → List ℤ → List Bytes
 delay_words version name depth values =
     if version == 1 then value_words (codes "delay") name values else
-    codes "delay" ∷ name ∷ count depth ∷ codes "=" ∷ map signed_decimal values
+    codes "delay" ∷ name ∷ count_text depth ∷ codes "=" ∷ map signed_decimal values
 
 -- The one word of the last line of a block.
 abbrev pub end_words : List Bytes
 end_words = codes "end" ∷ []
 
--- the lines of a function or a graph between its first and its last, each kind of line in its order
+-- The lines of a function between its first and its last: inputs and outputs.
 abbrev pub function_lines : List Port → List Output → List (List Bytes)
 function_lines ins outs = map (port_words (codes "in")) ins ++ map (output_words ins) outs
 
@@ -148,12 +135,12 @@ whole_graph name ins outs references edges =
 -- All lines of a repetition of this name, `end` included.
 abbrev pub whole_repeat : Bytes → ℕ → Bytes → List FrontierLine → List (List Bytes)
 whole_repeat name copies def lines =
-    (codes "repeat" ∷ name ∷ count copies ∷ def ∷ []) ∷ (map frontier_words lines ++ end_words ∷ [])
+    (codes "repeat" ∷ name ∷ count_text copies ∷ def ∷ []) ∷ (map frontier_words lines ++ end_words ∷ [])
 
 -- the lines of a definition of this name in a text of this version
 abbrev pub body_lines : ℕ → Bytes → Body → List (List Bytes)
-body_lines version name (Sensor len) = (codes "sensor" ∷ name ∷ count len ∷ []) ∷ []
-body_lines version name (Actuator len) = (codes "actuator" ∷ name ∷ count len ∷ []) ∷ []
+body_lines version name (Sensor len) = (codes "sensor" ∷ name ∷ count_text len ∷ []) ∷ []
+body_lines version name (Actuator len) = (codes "actuator" ∷ name ∷ count_text len ∷ []) ∷ []
 body_lines version name (Constant values) = value_words (codes "constant") name values ∷ []
 body_lines version name (Delay depth values) = delay_words version name depth values ∷ []
 body_lines version name (Function ins outs) = whole_function name ins outs
@@ -168,7 +155,7 @@ definition_lines version (d ∷ ds) = body_lines version d.name d.body ++ defini
 
 -- The words of the first line of a text of this version.
 abbrev pub version_words : ℕ → List Bytes
-version_words version = codes "algorithm" ∷ count version ∷ []
+version_words version = codes "algorithm" ∷ count_text version ∷ []
 
 -- the canonical text, of the version that was read
 abbrev pub canonical_text : Defs → Bytes

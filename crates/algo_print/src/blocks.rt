@@ -2,12 +2,12 @@
 ghost use Rattle.std.specs.Prelude.{◌≡◌, ◌++◌, ◌∷◌, [], All, OnOk, codes, map};
 ghost use Rattle.std.specs.Fmt.{signed_decimal};
 ghost use Rattle.body_text.specs.Canonical.{IsRead};
-ghost use Rattle.algo_print.specs.Canonical.{text_of, line_of, spaced, port_words, output_words, reference_words, edge_words, case_words, frontier_words, value_words, delay_words, switch_lines, whole_function, whole_graph, whole_switch, whole_repeat, count};
+ghost use Rattle.algo_print.specs.Canonical.{text_of, line_of, spaced, port_words, output_words, reference_words, edge_words, case_words, frontier_words, value_words, delay_words, switch_lines, whole_function, whole_graph, whole_switch, whole_repeat};
+ghost use Rattle.text_lines.specs.Text.{count_text};
 
 use crate::lines::{print_case, print_edge, print_frontier, print_output, print_reference};
 use crate::words::{print_named, print_sized, put, put_count, put_number, put_word};
-use algo_text::{Case, Edge, FrontierLine, Output, Reference};
-use body_lang::Port;
+use algo_text::{Case, Edge, FrontierLine, Output, Port, Reference};
 use syn_base::OutOfMemory;
 
 /// Appends the line of a constant, or of a delay in version 1.
@@ -213,7 +213,7 @@ fn print_repeated(
     text: &mut Vec<u8>,
 ) -> Result<(), OutOfMemory>
     ensures { OnOk result (text.new.items ≡ text.old.items ++
-        line_of (codes "repeat" ∷ name.now ∷ count copies ∷ def.now ∷ [])) }
+        line_of (codes "repeat" ∷ name.now ∷ count_text copies ∷ def.now ∷ [])) }
 {
     put(b"repeat", text)?;
     put_word(name, text)?;

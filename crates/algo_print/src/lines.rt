@@ -1,11 +1,11 @@
 //! The printer of a line of a block, each kind by itself.
 ghost use Rattle.std.specs.Prelude.{◌≡◌, ◌++◌, ◌∷◌, OnOk, map};
 ghost use Rattle.body_text.specs.Canonical.{IsRead};
-ghost use Rattle.algo_print.specs.Canonical.{end_word, line_of, spaced, mark_words, output_words, reference_words, edge_words, case_words, words_of_frontier};
+ghost use Rattle.algo_print.specs.Canonical.{line_of, spaced, mark_words, output_words, reference_words, edge_words, case_words, words_of_frontier};
+ghost use Rattle.algo_text.specs.Words.{end_word};
 
 use crate::words::{print_pair, put, put_count, put_number, put_word};
-use algo_text::{Case, Edge, End, Frontier, Output, Reference};
-use body_lang::Port;
+use algo_text::{Case, Edge, End, Frontier, Output, Port, Reference};
 use body_text::print_body;
 use syn_base::OutOfMemory;
 

@@ -1,7 +1,8 @@
 //! The printer of a word, and of a short line, which the others call.
 ghost use Rattle.std.specs.Prelude.{◌≡◌, ◌++◌, ◌∷◌, [], OnOk};
 ghost use Rattle.std.specs.Fmt.{signed_decimal};
-ghost use Rattle.algo_print.specs.Canonical.{count, line_of};
+ghost use Rattle.algo_print.specs.Canonical.{line_of};
+ghost use Rattle.text_lines.specs.Text.{count_text};
 
 use syn_base::{OutOfMemory, print_int};
 
@@ -31,7 +32,7 @@ pub(crate) fn put_number(number: i64, text: &mut Vec<u8>) -> Result<(), OutOfMem
 
 /// Appends a space and a length or a number of copies.
 pub(crate) fn put_count(number: u32, text: &mut Vec<u8>) -> Result<(), OutOfMemory>
-    ensures { OnOk result (text.new.items ≡ text.old.items ++ 32 ∷ count number) }
+    ensures { OnOk result (text.new.items ≡ text.old.items ++ 32 ∷ count_text number) }
 {
     put_number(i64::from(number), text)
 }
@@ -67,7 +68,7 @@ pub(crate) fn print_sized(
     len: u32,
     text: &mut Vec<u8>,
 ) -> Result<(), OutOfMemory>
-    ensures { OnOk result (text.new.items ≡ text.old.items ++ line_of (key.now ∷ name.now ∷ count len ∷ [])) }
+    ensures { OnOk result (text.new.items ≡ text.old.items ++ line_of (key.now ∷ name.now ∷ count_text len ∷ [])) }
 {
     put(key, text)?;
     put_word(name, text)?;

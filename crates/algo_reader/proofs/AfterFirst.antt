@@ -1,7 +1,7 @@
 -- The words after the first.
 use Rattle.std.proofs.Common.{◌≡◌, List, [], ◌∷◌, length, drop, refl, arith}
 use Rattle.syn_base.specs.Bytes.{Bytes}
-use Rattle.algo_text.specs.Words.{word}
+use Rattle.text_lines.specs.Text.{word}
 
 pub after_two : (ws : List Bytes) → length ws ≡ 3 → drop 1 ws ≡ word ws 1 ∷ word ws 2 ∷ []
 after_two (a ∷ b ∷ c ∷ []) h = refl

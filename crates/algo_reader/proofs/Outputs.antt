@@ -1,7 +1,7 @@
 -- A conditioned definition at its outputs.
 use Rattle.std.proofs.Common.{◌≡◌, true, Option, Some, None, List, refl}
-use Rattle.body_lang.specs.declared.expression.Port.{Port}
 use Rattle.syn_base.specs.Bytes.{Bytes}
+use Rattle.algo_text.specs.declared.Port.{Port}
 use Rattle.algo_text.specs.declared.part.Part.TheVariants as parts
 use Rattle.algo_text.specs.Parts.{admits}
 use Rattle.algo_text.specs.Blocks.{Block}

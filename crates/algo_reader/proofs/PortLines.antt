@@ -4,21 +4,23 @@ use Rattle.std.specs.Prelude.{if◌then◌else◌}
 use Rattle.syn_base.specs.Name.{is_name}
 use Rattle.syn_base.specs.Limits.{bound_of}
 use Rattle.syn_base.specs.declared.limits.LimitKind.TheVariants.{PortLength, Ports}
-use Rattle.body_lang.specs.declared.expression.Port.{Port}
-use Rattle.body_lang.specs.Expr.{Expr}
+use Rattle.algo_text.specs.declared.Port.{Port}
+use Rattle.algo_text.specs.Expr.{Expr}
 use Rattle.algo_text.specs.declared.fault.AlgoError.{AlgoError}
 use Rattle.algo_text.specs.declared.fault.AlgoError.TheVariants.{Limit}
 use Rattle.algo_text.specs.declared.fault.AlgoCause.TheVariants.{BadLine, BadName, BadNumber, DuplicateName}
 use Rattle.syn_base.specs.Bytes.{Bytes}
-use Rattle.algo_text.specs.Words.{word, count_of}
+use Rattle.algo_text.specs.Words.{count_of}
 use Rattle.algo_text.specs.Formulas.{formula_of}
 use Rattle.algo_text.specs.declared.part.Part.TheVariants.{Inputs, Outputs}
 use Rattle.algo_text.specs.Parts.{admits}
-use Rattle.algo_text.specs.Blocks.{Block, is_above, refused, with_some, and_then, port_line, is_taken, in_line, with_in, out_line, with_out, result_words, with_result}
+use Rattle.algo_text.specs.Blocks.{Block, refused, port_line, is_taken, in_line, with_in, out_line, with_out, result_words, with_result}
+use Rattle.text_lines.specs.Refusals.{is_above, with_some, and_then}
 use Rattle.algo_text.specs.Returned.{Fails}
 use Rattle.algo_lines.specs.Given.{IsStop, stop}
 use Rattle.algo_lines.specs.Lines.{port_of}
 use Rattle.algo_lines.proofs.Stops.{fails_on, stops_at}
+use Rattle.text_lines.specs.Text.{word}
 
 length_shape : (long : Bool) (e : AlgoError) (p : Port) (go : Port → Result Block AlgoError)
     → cond long (Err e) (go p) ≡ and_then (cond long (Err e) (Ok p)) go

@@ -2,7 +2,7 @@
 use Rattle.std.proofs.Common.{◌≡◌, ℕ, ◌+◌, ◌==◌, Bool, not, ◌||◌, nat_lt, true, false, cond, Option, Some, None, List, [], ◌∷◌, ◌++◌, length, drop, Result, Ok, Err, refl, ap, sym, ◌∙◌, subst, ℤ, codes}
 use Rattle.syn_base.specs.Name.{is_name}
 use Rattle.std.specs.Str.{bytes_eq}
-use Rattle.text_lines.specs.Text.{words_of, code_of, foreign_place}
+use Rattle.text_lines.specs.Text.{words_of, code_of, foreign_place, word, begins}
 use Rattle.algo_text.specs.declared.definition.Body.{Body}
 use Rattle.algo_text.specs.declared.definition.Body.TheVariants.{Sensor, Actuator, Constant, Delay}
 use Rattle.algo_text.specs.declared.definition.Defs.{Defs}
@@ -10,11 +10,12 @@ use Rattle.algo_text.specs.declared.fault.AlgoError.{AlgoError}
 use Rattle.algo_text.specs.declared.fault.AlgoError.TheVariants.{Refused, Limit, TooLarge, OutOfMemory}
 use Rattle.syn_base.specs.Bytes.{Bytes}
 use Rattle.algo_text.specs.Among.{is_among}
-use Rattle.algo_text.specs.Words.{word, count_of}
+use Rattle.algo_text.specs.Words.{count_of}
 use Rattle.syn_base.specs.declared.limits.LimitKind.TheVariants.{PortLength}
 use Rattle.algo_text.specs.declared.part.Part.TheVariants.{Inputs}
-use Rattle.algo_text.specs.Blocks.{Block, new_block, is_above, and_then, with_some}
-use Rattle.algo_text.specs.Text.{Stage, before_version, between, in_function, in_graph, in_switch, in_repeat, Reading, numbers_of, defined, end_line, values_line, deep_delay, deep_line, delay_line, between_line, begins, by_stage, next_line, line_by, rest_of}
+use Rattle.algo_text.specs.Blocks.{Block, new_block}
+use Rattle.algo_text.specs.Text.{Stage, before_version, between, in_function, in_graph, in_switch, in_repeat, Reading, numbers_of, defined, end_line, values_line, deep_delay, deep_line, delay_line, between_line, by_stage, next_line, line_by, rest_of}
+use Rattle.text_lines.specs.Refusals.{is_above, and_then, with_some}
 use Rattle.algo_reader.specs.declared.reader.Reader.{Reader}
 use Rattle.algo_reader.specs.declared.reader.Place.{Place}
 use Rattle.algo_reader.specs.declared.reader.Place.TheVariants.{BeforeVersion, Between, InFunction, InGraph, InSwitch, InRepeat}

@@ -2,13 +2,13 @@
 use Rattle.std.proofs.Common.{◌≡◌, Bool, true, false, ◌&&◌, List, [], ◌∷◌, map, Option, refl, ap, ap₂, if◌then◌else◌}
 use Rattle.std.specs.Str.{bytes_eq}
 use Rattle.body_lang.specs.declared.expression.Port.{Port}
-use Rattle.level_meaning.specs.declared.source.Source.{Source}
-use Rattle.algo_text.specs.declared.definition.Reference.{Reference}
-use Rattle.algo_text.specs.declared.definition.Edge.{Edge}
 use Rattle.syn_base.specs.Bytes.{Bytes}
-use Rattle.algo_rules.specs.Graphs.{same_owner}
-use Rattle.algo_rules.specs.Resolved.{source_from, source_to, sources_to}
-use Rattle.algo_rules.specs.declared.ports.Ports.{Ports}
+use Rattle.algo_laws.specs.declared.Source.{Source}
+use Rattle.algo_laws.specs.declared.Reference.{Reference}
+use Rattle.algo_laws.specs.declared.Edge.{Edge}
+use Rattle.algo_laws.specs.Graphs.{same_owner}
+use Rattle.algo_laws.specs.Resolved.{source_from, source_to, sources_to}
+use Rattle.algo_laws.specs.declared.Ports.{Ports}
 use Rattle.algo_resolve.specs.Wiring.{into, source_among}
 
 module _ (of : Bytes → Ports) (ins : List Port) (references : List Reference) (owner : Option Bytes) where

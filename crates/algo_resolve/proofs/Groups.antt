@@ -1,6 +1,6 @@
 -- One group of a delay's values more.
 use Rattle.std.proofs.Common.{◌≡◌, ℕ, suc, ◌+◌, ◌-◌, ◌<◌, ◌≤◌, ℤ, List, [], ◌∷◌, ◌++◌, take, drop, ap, sym, ◌∙◌, append_assoc, append-nil, arith}
-use Rattle.algo_rules.specs.Resolved.{groups}
+use Rattle.algo_laws.specs.Resolved.{groups}
 
 pub one_group : (depth counter len : ℕ) (done : List (List ℤ)) (new rest : List ℤ) (whole : List (List ℤ)) → counter < depth → new ≡ take len rest
     → done ++ groups (depth - counter) len rest ≡ whole → (done ++ new ∷ []) ++ groups (depth - (counter + 1)) len (drop len rest) ≡ whole

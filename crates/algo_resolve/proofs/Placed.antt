@@ -5,19 +5,19 @@ use Rattle.std.specs.Str.{bytes_eq}
 use Rattle.std.proofs.lemmas.Slice.Eq.{bytes_eq-Decides}
 use Rattle.std.proofs.lemmas.List.{get_or_default}
 use Rattle.std.proofs.lemmas.Option.{slice_get-get_or}
-use Rattle.algo_text.specs.declared.definition.Def.{Def}
-use Rattle.algo_text.specs.declared.definition.Reference.{Reference}
 use Rattle.syn_base.specs.Bytes.{Bytes}
-use Rattle.algo_rules.specs.Links.{definition, links_of}
-use Rattle.algo_rules.specs.Placed.{IsPlaced, ArePlaced}
-use Rattle.algo_rules.specs.Ports.{no_ports, ports_of}
-use Rattle.algo_rules.specs.declared.ports.Ports.{Ports}
 use Rattle.algo_check.specs.Linked.{AreLinked, IsLinked, named}
 use Rattle.algo_check.proofs.Fresh.{from_here}
 use Rattle.algo_check.proofs.Leading.{all_lead}
 use Rattle.algo_check.proofs.Here.{found_at}
 use Rattle.algo_check.proofs.Inside.{as_many, links_count, there}
-use Rattle.reference_graph.specs.Links.{Links}
+use Rattle.algo_laws.specs.declared.Def.{Def}
+use Rattle.algo_laws.specs.declared.Reference.{Reference}
+use Rattle.algo_laws.specs.RuleLinks.{definition, links_of}
+use Rattle.algo_laws.specs.Placed.{IsPlaced, ArePlaced}
+use Rattle.algo_laws.specs.Ports.{no_ports, ports_of}
+use Rattle.algo_laws.specs.declared.Ports.{Ports}
+use Rattle.algo_laws.specs.ReferenceLinks.{Links}
 use Rattle.algo_resolve.specs.Ready.{IsReady}
 
 -- the first definition of a name

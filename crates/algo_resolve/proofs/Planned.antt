@@ -1,15 +1,15 @@
 -- What the plan of a definition has.
 use Rattle.std.proofs.Common.{◌≡◌, ◌≢◌, ℕ, zero, suc, ◌<◌, List, [], ◌∷◌, length, get_or, map, Some, refl, ap, sym, ◌∙◌, arith}
 use Rattle.std.specs.Prelude.{slice_get}
-use Rattle.algo_tree.specs.Tree as tree
-use Rattle.algo_text.specs.declared.definition.Def.{Def}
-use Rattle.algo_text.specs.declared.definition.Body.{Body}
-use Rattle.algo_text.specs.declared.definition.Body.TheVariants.{Sensor, Actuator, Constant, Delay, Function, Graph, Switch, Repeat}
 use Rattle.syn_base.specs.Bytes.{Bytes}
-use Rattle.algo_rules.specs.Links.{definition}
-use Rattle.algo_rules.specs.Ports.{lens_of, ports_of}
-use Rattle.algo_rules.specs.Resolved.{Making, kind_by, vertex_within}
-use Rattle.algo_rules.specs.declared.ports.Ports.{Ports}
+use Rattle.algo_laws.specs.Tree as tree
+use Rattle.algo_laws.specs.declared.Def.{Def}
+use Rattle.algo_laws.specs.declared.Body.{Body}
+use Rattle.algo_laws.specs.declared.Body.TheVariants.{Sensor, Actuator, Constant, Delay, Function, Graph, Switch, Repeat}
+use Rattle.algo_laws.specs.RuleLinks.{definition}
+use Rattle.algo_laws.specs.Ports.{lens_of, ports_of}
+use Rattle.algo_laws.specs.Resolved.{Making, kind_by, vertex_within}
+use Rattle.algo_laws.specs.declared.Ports.{Ports}
 use Rattle.algo_resolve.specs.Plans.{Planned, plan_of, plan_view}
 use Rattle.algo_resolve.specs.declared.plan.Plan.{Plan}
 use Rattle.algo_resolve.proofs.Placed.{same_name}

@@ -3,9 +3,9 @@ use Rattle.std.proofs.Common.{◌≡◌, ℕ, ◌+◌, ◌-◌, ◌^◌, ◌<◌
 use Rattle.std.specs.Prelude.{slice_index}
 use Rattle.std.specs.List.{sum_by}
 use Rattle.std.proofs.Math.Numerals.{suc-eq-add-one}
-use Rattle.algo_text.specs.declared.definition.Def.{Def}
 use Rattle.algo_check.proofs.Fresh.{from_here}
 use Rattle.algo_check.specs.Counts.{row}
+use Rattle.algo_laws.specs.declared.Def.{Def}
 use Rattle.algo_resolve.specs.Sizes.{next_from, size_by}
 
 abbrev size_here : List Def → List ℕ → ℕ → Def → ℕ

@@ -3,18 +3,18 @@ use Rattle.std.proofs.Common.{◌≡◌, ℕ, zero, suc, ◌+◌, ◌-◌, ◌*�
 use Rattle.std.specs.Prelude.{slice_get, slice_index, replicate}
 use Rattle.std.specs.List.{sum_by}
 use Rattle.std.proofs.lemmas.List.Sums.{sum_by-append, sum_by-cons}
-use Rattle.algo_tree.proofs.Capped.{product_capped}
-use Rattle.algo_text.specs.declared.definition.Def.{Def}
-use Rattle.algo_text.specs.declared.definition.Body.{Body}
-use Rattle.algo_text.specs.declared.definition.Body.TheVariants.{Sensor, Actuator, Constant, Delay, Function, Graph, Switch, Repeat}
 use Rattle.syn_base.specs.Bytes.{Bytes}
-use Rattle.algo_rules.specs.Links.{unknown}
-use Rattle.algo_rules.specs.Resolved.{is_fork}
 use Rattle.algo_check.specs.Linked.{AreLinked, IsLinked, named}
 use Rattle.algo_check.proofs.Leading.{all_lead}
 use Rattle.algo_check.proofs.Counted.{sum_mapped}
 use Rattle.algo_check.proofs.Inside.{there}
 use Rattle.algo_check.specs.Counts.{row}
+use Rattle.algo_laws.proofs.Capped.{product_capped}
+use Rattle.algo_laws.specs.declared.Def.{Def}
+use Rattle.algo_laws.specs.declared.Body.{Body}
+use Rattle.algo_laws.specs.declared.Body.TheVariants.{Sensor, Actuator, Constant, Delay, Function, Graph, Switch, Repeat}
+use Rattle.algo_laws.specs.RuleLinks.{unknown}
+use Rattle.algo_laws.specs.Resolved.{vertices_of_line}
 use Rattle.algo_laws.specs.Sizes.{made_in, made_of, made_within}
 use Rattle.algo_resolve.specs.Sizes.{AreSizes, next_from, size_by}
 
@@ -77,7 +77,7 @@ module _ (ds : List Def) (n : ℕ) (sizes : List ℕ) (a : AreSizes ds n sizes) 
       (sums (map (λ c. c.def) cases ++ otherwise ∷ []) ps h ∙ ap (λ (x : ℕ). min x cap) all)
   body_is (Repeat copies def lines) ps h =
       let all : sum_by of (def ∷ []) ≡ of def = omega (arith, sum_by-cons of def []) in
-      copies_capped copies (sum_by (slice_index sizes) ps) (of def) (sum_by is_fork lines) cap (sums (def ∷ []) ps h ∙ ap (λ (x : ℕ). min x cap) all)
+      copies_capped copies (sum_by (slice_index sizes) ps) (of def) (sum_by vertices_of_line lines) cap (sums (def ∷ []) ps h ∙ ap (λ (x : ℕ). min x cap) all)
 
   -- one round more
   pub next_round : unknown ds ≡ None → AreSizes ds (suc n) (next_from ds sizes 0 ds)

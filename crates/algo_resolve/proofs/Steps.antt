@@ -5,24 +5,24 @@ use Rattle.std.proofs.Math.Numerals.{suc-eq-add-one}
 use Rattle.std.proofs.lemmas.List.{drop_all}
 use Rattle.std.proofs.lemmas.List.FromFn.{length-map-range_with_len, map-range_with_len_more}
 use Rattle.body_lang.specs.declared.expression.Port.{Port}
-use Rattle.level_meaning.specs.declared.source.Source.{Source}
-use Rattle.level_meaning.specs.declared.source.Source.TheVariants.{Own}
-use Rattle.level_meaning.specs.declared.part.Part.{Part}
-use Rattle.level_meaning.specs.declared.part.Part.TheVariants.{Named, Numbered}
-use Rattle.algo_tree.specs.Tree as tree
-use Rattle.algo_tree.specs.View.{kind_view, view}
-use Rattle.algo_tree.specs.declared.vertex.Vertex.{Vertex}
-use Rattle.algo_tree.specs.declared.vertex.Kind.{Kind}
-use Rattle.algo_text.specs.declared.definition.Def.{Def}
-use Rattle.algo_text.specs.declared.definition.Reference.{Reference}
-use Rattle.algo_text.specs.declared.definition.Edge.{Edge}
 use Rattle.syn_base.specs.Bytes.{Bytes}
 use Rattle.algo_check.proofs.Fresh.{from_here}
-use Rattle.algo_rules.specs.Links.{definition}
-use Rattle.algo_rules.specs.Placed.{ArePlaced, IsPlaced}
-use Rattle.algo_rules.specs.Ports.{ports_of}
-use Rattle.algo_rules.specs.Resolved.{Making, cases_from, inner_by, is_actuator, is_sensor, kind_by, owns, references_from, sources_to, vertex, vertex_by, vertex_within}
-use Rattle.algo_rules.specs.declared.ports.Ports.{Ports}
+use Rattle.algo_laws.specs.declared.Source.{Source}
+use Rattle.algo_laws.specs.declared.Source.TheVariants.{Own}
+use Rattle.algo_laws.specs.declared.Part.{Part}
+use Rattle.algo_laws.specs.declared.Part.TheVariants.{Named, Numbered}
+use Rattle.algo_laws.specs.Tree as tree
+use Rattle.algo_laws.specs.View.{kind_view, view}
+use Rattle.algo_laws.specs.declared.Vertex.{Vertex}
+use Rattle.algo_laws.specs.declared.Kind.{Kind}
+use Rattle.algo_laws.specs.declared.Def.{Def}
+use Rattle.algo_laws.specs.declared.Reference.{Reference}
+use Rattle.algo_laws.specs.declared.Edge.{Edge}
+use Rattle.algo_laws.specs.RuleLinks.{definition}
+use Rattle.algo_laws.specs.Placed.{ArePlaced, IsPlaced}
+use Rattle.algo_laws.specs.Ports.{ports_of}
+use Rattle.algo_laws.specs.Resolved.{Making, cases_from, inner_by, kind_by, owns, references_from, sources_to, vertex, vertex_by, vertex_within, sensor_count, actuator_count}
+use Rattle.algo_laws.specs.declared.Ports.{Ports}
 use Rattle.algo_resolve.specs.declared.build.Seat.{Seat}
 
 -- one vertex after those that are made
@@ -95,18 +95,18 @@ module _ (ds : List Def) where
 
   module _ (make : Making) where
     pub next_reference : (ins : List Port) (all : List Reference) (edges : List Edge) (rs : List Reference) (i : ℕ) (r : Reference) (s a t b : ℕ)
-        → i < length rs → r ≡ get_or rs i r → t ≡ s + is_sensor (definition ds r.def) → b ≡ a + is_actuator (definition ds r.def)
+        → i < length rs → r ≡ get_or rs i r → t ≡ s + sensor_count (definition ds r.def) → b ≡ a + actuator_count (definition ds r.def)
         → references_from ds make ins all edges s a (drop i rs)
         ≡ make (Named r.name) r.def (sources_to (ports_of ds) ins all edges (Some r.name) (ports_of ds r.def).ins) s a ∷ references_from ds make ins all edges t b (drop (i + 1) rs)
     next_reference ins all edges rs i r s a t b low is sensors actuators =
         let v = make (Named r.name) r.def (sources_to (ports_of ds) ins all edges (Some r.name) (ports_of ds r.def).ins) s a in
         ap (references_from ds make ins all edges s a) (from_here rs i r low is)
-        ∙ ap (λ (k : ℕ). v ∷ references_from ds make ins all edges k (a + is_actuator (definition ds r.def)) (drop (i + 1) rs)) (sym sensors)
+        ∙ ap (λ (k : ℕ). v ∷ references_from ds make ins all edges k (a + actuator_count (definition ds r.def)) (drop (i + 1) rs)) (sym sensors)
         ∙ ap (λ (k : ℕ). v ∷ references_from ds make ins all edges t k (drop (i + 1) rs)) (sym actuators)
 
     -- the vertex of the next reference, after those that are made
     pub one_reference : (ins : List Port) (all : List Reference) (edges : List Edge) (rs : List Reference) (i : ℕ) (r : Reference) (s a t b : ℕ) (us : List Vertex) (v : Vertex) (whole : List tree.Vertex)
-        → i < length rs → r ≡ get_or rs i r → t ≡ s + is_sensor (definition ds r.def) → b ≡ a + is_actuator (definition ds r.def)
+        → i < length rs → r ≡ get_or rs i r → t ≡ s + sensor_count (definition ds r.def) → b ≡ a + actuator_count (definition ds r.def)
         → view v ≡ make (Named r.name) r.def (sources_to (ports_of ds) ins all edges (Some r.name) (ports_of ds r.def).ins) s a
         → map view us ++ references_from ds make ins all edges s a (drop i rs) ≡ whole
         → map view (us ++ v ∷ []) ++ references_from ds make ins all edges t b (drop (i + 1) rs) ≡ whole

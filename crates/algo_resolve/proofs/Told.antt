@@ -1,24 +1,24 @@
 -- What is answered of definitions, from what their checks answered.
 use Rattle.std.proofs.Common.{◌≡◌, false, List, [], ◌∷◌, map, Option, None, Ok, Err, codes, ap, sym, subst, ◌∙◌}
 use Rattle.std.specs.Prelude.{Result, IfOk}
-use Rattle.algo_text.specs.declared.definition.Def.{Def}
-use Rattle.algo_text.specs.declared.fault.AlgoError.{AlgoError}
-use Rattle.algo_text.specs.declared.fault.AlgoError.TheVariants.{Refused, Limit, TooLarge, OutOfMemory}
 use Rattle.syn_base.specs.Bytes.{Bytes}
-use Rattle.level_meaning.specs.declared.source.Source.{Source}
-use Rattle.level_meaning.specs.declared.part.Part.TheVariants.{Named}
-use Rattle.algo_tree.specs.Size.{is_large}
-use Rattle.algo_tree.specs.declared.size.SizeError.{SizeError}
-use Rattle.algo_tree.specs.declared.size.SizeError.TheVariants as size
-use Rattle.algo_tree.specs.Tree as tree
-use Rattle.algo_text.specs.Returned.{Gives, Tells}
-use Rattle.algo_rules.specs.Links.{links_of, misplaced, recursive, too_deep, unknown}
-use Rattle.algo_rules.specs.Ports.{ports_of}
-use Rattle.algo_rules.specs.Resolved.{Making, bodies_fault, no_main, refusal, resolution_of, resolved_by, too_many, tree_of}
-use Rattle.algo_rules.specs.WellRead.{AreWellRead}
-use Rattle.algo_rules.specs.declared.ports.Ports.{Ports}
 use Rattle.algo_check.proofs.InOrder.{both_none}
-use Rattle.reference_graph.specs.Links.{Links}
+use Rattle.algo_laws.specs.declared.Def.{Def}
+use Rattle.algo_laws.specs.declared.AlgoError.{AlgoError}
+use Rattle.algo_laws.specs.declared.AlgoError.TheVariants.{Refused, Limit, TooLarge, OutOfMemory}
+use Rattle.algo_laws.specs.declared.Source.{Source}
+use Rattle.algo_laws.specs.declared.Part.TheVariants.{Named}
+use Rattle.algo_laws.specs.Size.{is_large}
+use Rattle.algo_laws.specs.declared.SizeError.{SizeError}
+use Rattle.algo_laws.specs.declared.SizeError.TheVariants as size
+use Rattle.algo_laws.specs.Tree as tree
+use Rattle.algo_laws.specs.Returned.{Gives, Tells}
+use Rattle.algo_laws.specs.RuleLinks.{links_of, misplaced, recursive, too_deep, unknown}
+use Rattle.algo_laws.specs.Ports.{ports_of}
+use Rattle.algo_laws.specs.Resolved.{Making, bodies_fault, no_main, refusal, resolution_of, resolved_by, too_many, tree_of}
+use Rattle.algo_laws.specs.WellRead.{AreWellRead}
+use Rattle.algo_laws.specs.declared.Ports.{Ports}
+use Rattle.algo_laws.specs.ReferenceLinks.{Links}
 use Rattle.algo_resolve.specs.Ready.{IsReady}
 use Rattle.algo_resolve.specs.Within.{Makes, of_size, within_bound}
 use Rattle.algo_resolve.proofs.Within.{small_stays, large_stops}

@@ -1,10 +1,10 @@
 -- What the bound on vertices refuses, and what it leaves.
 use Rattle.std.proofs.Common.{◌≡◌, ◌≤◌, Bool, true, false, Result, Ok, Err, ◌⊎◌, inl, inr, refl, ap, subst, if◌then◌else◌}
 use Rattle.std.proofs.lemmas.Bool.{ltb-false}
-use Rattle.algo_text.specs.declared.fault.AlgoError.{AlgoError}
-use Rattle.algo_text.specs.declared.fault.AlgoError.TheVariants.{TooLarge}
-use Rattle.algo_tree.specs.Size.{is_large, vertices_made}
-use Rattle.algo_tree.specs.Tree.{Vertex}
+use Rattle.algo_laws.specs.declared.AlgoError.{AlgoError}
+use Rattle.algo_laws.specs.declared.AlgoError.TheVariants.{TooLarge}
+use Rattle.algo_laws.specs.Size.{is_large, vertices_made}
+use Rattle.algo_laws.specs.Tree.{Vertex}
 use Rattle.algo_resolve.specs.Within.{within_bound}
 
 abbrev tree : Vertex → Result Vertex AlgoError

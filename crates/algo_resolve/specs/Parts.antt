@@ -1,11 +1,11 @@
 -- A graph with the definitions that its references name.
 use Rattle.std.specs.Prelude.{◌≡◌, List, map, Some}
-use Rattle.algo_text.specs.declared.definition.Def.{Def}
 use Rattle.syn_base.specs.Bytes.{Bytes}
-use Rattle.algo_rules.specs.declared.ports.Ports.{Ports}
-use Rattle.algo_rules.specs.Ports.{ports_of}
-use Rattle.algo_rules.specs.Placed.{ArePlaced}
-use Rattle.algo_rules.specs.Resolved.{sources_to}
+use Rattle.algo_laws.specs.declared.Def.{Def}
+use Rattle.algo_laws.specs.declared.Ports.{Ports}
+use Rattle.algo_laws.specs.Ports.{ports_of}
+use Rattle.algo_laws.specs.Placed.{ArePlaced}
+use Rattle.algo_laws.specs.Resolved.{sources_to}
 use Rattle.algo_resolve.specs.Ready.{IsReady}
 use Rattle.algo_resolve.specs.Plans.{plan_of, plan_view}
 use Rattle.algo_resolve.specs.declared.checked.Checked.{Checked}

@@ -1,16 +1,16 @@
 -- What all vertices of a definition have in common.
 use Rattle.std.specs.Prelude.{ℕ, List, [], ◌∷◌, length, map, Some}
-use Rattle.level_meaning.specs.declared.source.Source.{Source}
-use Rattle.level_meaning.specs.declared.source.Guard.{Guard}
-use Rattle.algo_tree.specs.Tree.{Kind}
-use Rattle.algo_tree.specs.View.{kind_view}
-use Rattle.algo_text.specs.declared.definition.Def.{Def}
-use Rattle.algo_text.specs.declared.definition.Body.{Body}
-use Rattle.algo_text.specs.declared.definition.Body.TheVariants.{Graph, Switch, Repeat}
 use Rattle.syn_base.specs.Bytes.{Bytes}
-use Rattle.algo_rules.specs.Ports.{lens_of, ports_of}
-use Rattle.algo_rules.specs.Resolved.{kind_by, owns, sources_to, vertex_within}
-use Rattle.algo_rules.specs.declared.ports.Ports.{Ports}
+use Rattle.algo_laws.specs.declared.Source.{Source}
+use Rattle.algo_laws.specs.declared.Guard.{Guard}
+use Rattle.algo_laws.specs.Tree.{Kind}
+use Rattle.algo_laws.specs.View.{kind_view}
+use Rattle.algo_laws.specs.declared.Def.{Def}
+use Rattle.algo_laws.specs.declared.Body.{Body}
+use Rattle.algo_laws.specs.declared.Body.TheVariants.{Graph, Switch, Repeat}
+use Rattle.algo_laws.specs.Ports.{lens_of, ports_of}
+use Rattle.algo_laws.specs.Resolved.{kind_by, owns, sources_to, vertex_within}
+use Rattle.algo_laws.specs.declared.Ports.{Ports}
 use Rattle.algo_resolve.specs.declared.plan.Plan.{Plan}
 
 -- The sources of the inputs of what is inside: for each reference of a graph its own, and one list for all cases of a

@@ -1,12 +1,12 @@
 -- Definitions with the places of those that each names, and with their ports.
 use Rattle.std.specs.Prelude.{◌≡◌, List, map, None}
 use Rattle.std.specs.List.{All}
-use Rattle.algo_text.specs.declared.definition.Def.{Def}
-use Rattle.algo_rules.specs.Links.{links_of, unknown}
-use Rattle.algo_rules.specs.Ports.{ports_of}
-use Rattle.algo_rules.specs.WellRead.{IsWellRead}
-use Rattle.algo_rules.specs.declared.ports.Ports.{Ports}
-use Rattle.reference_graph.specs.Links.{Links}
+use Rattle.algo_laws.specs.declared.Def.{Def}
+use Rattle.algo_laws.specs.RuleLinks.{links_of, unknown}
+use Rattle.algo_laws.specs.Ports.{ports_of}
+use Rattle.algo_laws.specs.WellRead.{IsWellRead}
+use Rattle.algo_laws.specs.declared.Ports.{Ports}
+use Rattle.algo_laws.specs.ReferenceLinks.{Links}
 
 pub record IsReady (ds : List Def) (links : Links) (table : List Ports) : Type 0 where
   pub read : All (λ d. IsWellRead d.body) ds

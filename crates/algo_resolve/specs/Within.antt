@@ -1,11 +1,11 @@
 -- Trees within the bound on vertices.
 use Rattle.std.specs.Prelude.{◌≡◌, true, false, Result, Ok, Err, if◌then◌else◌}
-use Rattle.algo_text.specs.declared.fault.AlgoError.{AlgoError}
-use Rattle.algo_text.specs.declared.fault.AlgoError.TheVariants as refusal
-use Rattle.algo_tree.specs.Size.{is_large}
-use Rattle.algo_tree.specs.Tree.{Vertex}
-use Rattle.algo_tree.specs.declared.size.SizeError.{SizeError}
-use Rattle.algo_tree.specs.declared.size.SizeError.TheVariants.{TooLarge, OutOfMemory}
+use Rattle.algo_laws.specs.declared.AlgoError.{AlgoError}
+use Rattle.algo_laws.specs.declared.AlgoError.TheVariants as refusal
+use Rattle.algo_laws.specs.Size.{is_large}
+use Rattle.algo_laws.specs.Tree.{Vertex}
+use Rattle.algo_laws.specs.declared.SizeError.{SizeError}
+use Rattle.algo_laws.specs.declared.SizeError.TheVariants.{TooLarge, OutOfMemory}
 
 -- A tree of more vertices than any tree is made of is refused for that, where nothing else is refused.
 abbrev pub within_bound : Result Vertex AlgoError → Result Vertex AlgoError

@@ -1,26 +1,23 @@
 //! The vertices that definitions become, each with what is inside it, built from their plans.
-ghost use Rattle.std.specs.Prelude.{◌≡◌, ◌+◌, ◌<◌, ◌≤◌, ◌∷◌, ◌++◌, [], IfOk, Some, length, map, slice_get};
+ghost use Rattle.std.specs.Prelude.{◌≡◌, ◌+◌, ◌<◌, ◌≤◌, ◌∷◌, ◌++◌, [], IfOk, Some, length, map, slice_get, List};
 ghost use Rattle.algo_check.specs.Linked.{named};
-ghost use Rattle.algo_rules.specs.Placed.{ArePlaced, IsPlaced};
-ghost use Rattle.algo_rules.specs.Ports.{lens_of, ports_of};
 ghost use Rattle.body_lang.specs.declared.expression.Port.{Port};
-ghost use Rattle.algo_rules.specs.Resolved.{Making, cases_from, inner_by, is_actuator, is_sensor, kind_by, owns, references_from, vertex, vertex_within};
-ghost use Rattle.algo_rules.specs.WellRead.{IsWellRead};
-ghost use Rattle.algo_tree.specs.Tree.{graph as no_graph};
-ghost use Rattle.algo_tree.specs.View.{kind_view, view};
-ghost use Rattle.algo_rules.specs.declared.ports.Ports.{Ports as PortLists};
-ghost use Rattle.algo_text.specs.declared.definition.Def.{Def as Definition};
-ghost use Rattle.level_meaning.specs.declared.part.Part.TheVariants.{Named, Numbered};
-ghost use Rattle.std.specs.Prelude.{List};
+ghost use Rattle.algo_laws.specs.Placed.{ArePlaced, IsPlaced};
+ghost use Rattle.algo_laws.specs.Ports.{lens_of, ports_of};
+ghost use Rattle.algo_laws.specs.Resolved.{Making, cases_from, inner_by, kind_by, owns, references_from, vertex, vertex_within, sensor_count, actuator_count};
+ghost use Rattle.algo_laws.specs.WellRead.{IsWellRead};
+ghost use Rattle.algo_laws.specs.Tree.{graph as no_graph};
+ghost use Rattle.algo_laws.specs.View.{kind_view, view};
+ghost use Rattle.algo_laws.specs.declared.Ports.{Ports as PortLists};
+ghost use Rattle.algo_laws.specs.declared.Def.{Def as Definition};
+ghost use Rattle.algo_laws.specs.declared.Part.TheVariants.{Named, Numbered};
 ghost use Rattle.algo_resolve.specs.Parts.{ArePlanned, IsWired};
 ghost use Rattle.algo_resolve.specs.Plans.{wires_by};
 
 use crate::builder::{Builder, WiredGraph};
 use crate::lookup::copy_name;
 use crate::plan::Plan;
-use algo_text::{Body, Case, Def, Reference};
-use algo_tree::{Kind, Vertex, share_kind};
-use level_meaning::{Guard, Part, Source};
+use algo_laws::{Body, Case, Def, Guard, Kind, Part, Reference, Source, Vertex, share_kind};
 use std::alloc::Global;
 use syn_base::{Items, Name, OutOfMemory, Shared, to_u32};
 
@@ -300,7 +297,7 @@ fn reference_seat(
 
 /// How many sensors a definition is: 1 or 0.
 fn sensors_of(def: &Def) -> u32
-    ensures is { result ≡ is_sensor (Some def.now) }
+    ensures is { result ≡ sensor_count (Some def.now) }
     ensures one { result ≤ 1 }
 {
     match &def.body {
@@ -311,7 +308,7 @@ fn sensors_of(def: &Def) -> u32
 
 /// How many actuators a definition is: 1 or 0.
 fn actuators_of(def: &Def) -> u32
-    ensures is { result ≡ is_actuator (Some def.now) }
+    ensures is { result ≡ actuator_count (Some def.now) }
     ensures one { result ≤ 1 }
 {
     match &def.body {

@@ -1,9 +1,7 @@
 //! The checked definitions with a plan for each, from which vertices are built.
 use crate::plan::Plan;
-use algo_rules::Ports;
-use algo_text::{Def, Edge, Reference};
+use algo_laws::{Def, Edge, Ports, Reference, Source};
 use body_lang::Port;
-use level_meaning::Source;
 use syn_base::{Items, Shared};
 
 /// The definitions of a text that has passed its checks, with what their vertices have in common.

@@ -1,6 +1,5 @@
 //! The checked definitions, with their links and ports, from which plans are made.
-use algo_rules::Ports;
-use algo_text::Def;
+use algo_laws::{Def, Ports};
 use syn_base::Items;
 
 /// The definitions of a text that has passed its checks.

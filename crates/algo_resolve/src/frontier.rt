@@ -1,14 +1,12 @@
 //! The frontier of a repetition as a tree has it: how it feeds its body, and what it gives.
 ghost use Rattle.std.specs.Prelude.{◌≡◌, ℕ, IfOk, List, map, option_to_list};
 ghost use Rattle.std.specs.List.{flat_map};
-ghost use Rattle.algo_text.specs.declared.definition.Frontier.TheVariants.{Diffuse, Fork, Iterate};
-ghost use Rattle.algo_rules.specs.Resolved.{feed_by, feed_of, give_by};
+ghost use Rattle.algo_laws.specs.declared.Frontier.TheVariants.{Diffuse, Fork, Iterate};
+ghost use Rattle.algo_laws.specs.Resolved.{feed_by, feed_of, give_by};
 
 use crate::lookup::{copy_name, port_len};
-use algo_rules::Ports;
-use algo_text::{Frontier, FrontierLine};
+use algo_laws::{Feed, Frontier, FrontierLine, Give, Ports};
 use body_check::find_port;
-use level_meaning::{Feed, Give};
 use std::alloc::Global;
 use syn_base::{Name, OutOfMemory, Shared, to_u32};
 

@@ -2,21 +2,19 @@
 ghost use Rattle.std.specs.Prelude.{◌≡◌, ◌≤◌, ◌/◌, ◌∷◌, [], IfOk, List, drop, length, map, take};
 ghost use Rattle.std.specs.List.{flat_map};
 ghost use Rattle.algo_check.specs.Linked.{named};
-ghost use Rattle.algo_rules.specs.Placed.{ArePlaced};
-ghost use Rattle.algo_rules.specs.Ports.{lens_of, ports_of};
-ghost use Rattle.algo_rules.specs.Resolved.{Making, feed_of, give_by, groups, kind_by};
-ghost use Rattle.algo_rules.specs.WellRead.{IsWellRead};
-ghost use Rattle.algo_tree.specs.Tree.{switch as plain_switch, repeat as plain_repeat};
-ghost use Rattle.algo_tree.specs.View.{kind_view};
 ghost use Rattle.body_lang.specs.Expr.{view};
+ghost use Rattle.algo_laws.specs.Placed.{ArePlaced};
+ghost use Rattle.algo_laws.specs.Ports.{lens_of, ports_of};
+ghost use Rattle.algo_laws.specs.Resolved.{Making, feed_of, give_by, groups, kind_by};
+ghost use Rattle.algo_laws.specs.WellRead.{IsWellRead};
+ghost use Rattle.algo_laws.specs.Tree.{switch as plain_switch, repeat as plain_repeat};
+ghost use Rattle.algo_laws.specs.View.{kind_view};
 
 use crate::checked::Checked;
 use crate::frontier::{feeds, gives};
 use crate::lookup::copy_name;
 use crate::sources::Graph;
-use algo_rules::Ports;
-use algo_text::{Body, Case, FrontierLine, Output};
-use algo_tree::{Kind, copy_numbers};
+use algo_laws::{Body, Case, FrontierLine, Kind, Output, Ports, copy_numbers};
 use body_lang::{Body as Function, Expr, Port};
 use std::alloc::Global;
 use syn_base::{Items, Name, OutOfMemory, Shared};

@@ -1,6 +1,6 @@
 //! A port's length by name, and a name as a tree has it, for the kinds and the frontiers of vertices.
 ghost use Rattle.std.specs.Prelude.{◌≡◌, IfOk};
-ghost use Rattle.algo_rules.specs.Ports.{len_of};
+ghost use Rattle.algo_laws.specs.Ports.{len_of};
 
 use body_lang::Port;
 use std::alloc::Global;

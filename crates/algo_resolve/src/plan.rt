@@ -1,19 +1,16 @@
 //! The plan of a definition: what all its vertices have in common, made once.
 ghost use Rattle.std.specs.Prelude.{◌≡◌, ◌<◌, ◌∷◌, [], IfOk, Some, map, slice_get};
 ghost use Rattle.algo_check.specs.Linked.{named};
-ghost use Rattle.algo_rules.specs.Placed.{ArePlaced};
-ghost use Rattle.algo_rules.specs.Resolved.{owns, sources_to};
+ghost use Rattle.algo_laws.specs.Placed.{ArePlaced};
+ghost use Rattle.algo_laws.specs.Resolved.{owns, sources_to};
+ghost use Rattle.algo_laws.specs.View.{kind_view};
 ghost use Rattle.algo_resolve.specs.Parts.{AreReady, IsPlacedGraph, of};
 ghost use Rattle.algo_resolve.specs.Plans.{plan_of, plan_view, planned, wires_by};
-ghost use Rattle.algo_tree.specs.View.{kind_view};
 
 use crate::checked::Checked;
 use crate::kind::{port_lens, port_names};
 use crate::sources::{Graph, own_inputs};
-use algo_rules::Ports;
-use algo_text::{Body, Def, Reference};
-use algo_tree::Kind;
-use level_meaning::{Guard, Source};
+use algo_laws::{Body, Def, Guard, Kind, Ports, Reference, Source};
 use std::alloc::Global;
 use syn_base::{Items, Name, OutOfMemory, Shared};
 

@@ -1,14 +1,14 @@
 //! The tree of the definitions of a text, or their first refusal: `resolve`, which `elaboration` calls.
 ghost use Rattle.std.specs.Prelude.{◌≡◌, ◌<◌, ◌≤◌, IfOk, IfSome, MatchOption, None, Some, codes, length, slice_get};
 ghost use Rattle.syn_base.specs.Limits.{most_in_text};
-ghost use Rattle.algo_rules.specs.Links.{definition};
-ghost use Rattle.algo_text.specs.Returned.{Gives};
-ghost use Rattle.algo_rules.specs.Resolved.{refusal, resolution_of, tree_of};
-ghost use Rattle.algo_rules.specs.WellRead.{AreWellRead};
-ghost use Rattle.algo_tree.specs.Size.{is_large, vertices_made};
-ghost use Rattle.algo_tree.specs.View.{view};
-ghost use Rattle.algo_tree.specs.Bounded.{HasBounds};
-ghost use Rattle.algo_tree.specs.Named.{HasNames};
+ghost use Rattle.algo_laws.specs.RuleLinks.{definition};
+ghost use Rattle.algo_laws.specs.Returned.{Gives};
+ghost use Rattle.algo_laws.specs.Resolved.{refusal, resolution_of, tree_of};
+ghost use Rattle.algo_laws.specs.WellRead.{AreWellRead};
+ghost use Rattle.algo_laws.specs.Size.{is_large, vertices_made};
+ghost use Rattle.algo_laws.specs.View.{view};
+ghost use Rattle.algo_laws.specs.Bounded.{HasBounds};
+ghost use Rattle.algo_laws.specs.Named.{HasNames};
 ghost use Rattle.algo_resolve.specs.Parts.{ArePlanned, AreReady};
 ghost use Rattle.algo_resolve.specs.Within.{Makes, of_size, within_bound};
 
@@ -19,10 +19,10 @@ use crate::lookup::copy_name;
 use crate::plan::plans;
 use crate::size::{entry, sizes};
 use algo_check::{check_definitions, links_of};
-use algo_laws::{accepted_make_a_tree, vertices_are_counted};
-use algo_text::{AlgoError, Def, Defs};
-use algo_tree::{MOST_VERTICES, SizeError, Tree, Vertex};
-use level_meaning::Part;
+use algo_laws::{
+    AlgoError, Def, Defs, MOST_VERTICES, Part, SizeError, Tree, Vertex, accepted_make_a_tree,
+    vertices_are_counted,
+};
 use std::alloc::Global;
 use syn_base::{OutOfMemory, Shared};
 

@@ -1,14 +1,14 @@
 //! The size of a tree, counted without making it, so that `resolve` refuses one too large before it is made.
 ghost use Rattle.std.specs.Prelude.{◌≡◌, ◌-◌, ◌^◌, ◌<◌, IfOk, Some, min, replicate, slice_get, slice_index};
 ghost use Rattle.std.specs.List.{sum_by};
-ghost use Rattle.algo_rules.specs.WellRead.{IsWellRead};
 ghost use Rattle.algo_check.specs.Counts.{row};
+ghost use Rattle.algo_laws.specs.WellRead.{IsWellRead};
 ghost use Rattle.algo_resolve.specs.Parts.{AreReady};
 ghost use Rattle.algo_resolve.specs.Sizes.{AreSizes, next_from, size_by};
 
 use crate::checked::Checked;
 use algo_check::count_forks;
-use algo_text::{Body, Def};
+use algo_laws::{Body, Def};
 use std::alloc::Global;
 use syn_base::OutOfMemory;
 

@@ -1,17 +1,15 @@
 //! The sources of the values in a graph, and of the inputs of cases and bodies, which plans keep.
 ghost use Rattle.std.specs.Prelude.{◌≡◌, IfOk, MatchOption, map};
-ghost use Rattle.algo_rules.specs.Graphs.{ports_at, same_owner};
-ghost use Rattle.algo_rules.specs.Ports.{no_ports, number_of};
-ghost use Rattle.algo_rules.specs.Resolved.{owns, source_from, sources_to};
+ghost use Rattle.algo_laws.specs.Graphs.{ports_at, same_owner};
+ghost use Rattle.algo_laws.specs.Ports.{no_ports, number_of};
+ghost use Rattle.algo_laws.specs.Resolved.{owns, source_from, sources_to};
 ghost use Rattle.algo_resolve.specs.Parts.{IsPlacedGraph, of};
 ghost use Rattle.algo_resolve.specs.Wiring.{into, source_among};
 
 use crate::checked::Checked;
-use algo_rules::Ports;
-use algo_text::{Edge, End, Reference};
+use algo_laws::{Edge, End, Ports, Reference, Source};
 use body_check::{find_port, find_reference, is_same_name};
 use body_lang::Port;
-use level_meaning::Source;
 use std::alloc::Global;
 use syn_base::{Name, OutOfMemory, Shared, to_u32};
 

@@ -23,7 +23,7 @@ use Rattle.std.specs.List.{list_all, flat_map}
 use Rattle.std.specs.Ordering.{int_eq}
 use Rattle.syn_base.specs.declared.limits.LimitKind.TheVariants.{PortLength}
 use Rattle.syn_base.specs.Limits.{bound_of}
-use Rattle.body_lang.specs.declared.expression.Port.{Port}
+use Rattle.algo_text.specs.declared.Port.{Port}
 use Rattle.algo_text.specs.declared.definition.Case.{Case}
 use Rattle.algo_text.specs.declared.definition.Frontier.{Frontier}
 use Rattle.algo_text.specs.declared.definition.Frontier.TheVariants.{Fork, Diffuse, Iterate, Join}

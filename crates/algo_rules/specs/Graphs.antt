@@ -20,7 +20,7 @@ use Rattle.std.specs.Prelude.{
 }
 use Rattle.std.specs.List.{list_any, flat_map, position_or_len}
 use Rattle.std.specs.Str.{bytes_eq}
-use Rattle.body_lang.specs.declared.expression.Port.{Port}
+use Rattle.algo_text.specs.declared.Port.{Port}
 use Rattle.algo_text.specs.declared.definition.Def.{Def}
 use Rattle.algo_text.specs.declared.definition.Body.{Body}
 use Rattle.algo_text.specs.declared.definition.Body.TheVariants.{Delay}
@@ -40,15 +40,7 @@ use Rattle.algo_rules.specs.Links.{fault, first_of, definition}
 use Rattle.reference_graph.specs.Links.{Links, reaches_itself}
 use Rattle.algo_rules.specs.Ports.{no_ports}
 use Rattle.algo_rules.specs.declared.ports.Ports.{Ports}
-
--- An end as it is written: a port, or a reference, a dot and its port.
-abbrev pub written_by : Option Bytes → Bytes → Bytes
-written_by None port = port
-written_by (Some r) port = r ++ 46 ∷ port
-
--- An end as a text has it: `PORT` for a port of the graph itself, `R.PORT` for one of reference R.
-abbrev pub written : End → Bytes
-written e = written_by e.owner e.port
+use Rattle.algo_text.specs.Words.{end_word, owned}
 
 -- Both owners are the graph itself, or both are the reference of the same name.
 abbrev pub same_owner : Option Bytes → Option Bytes → Bool
@@ -90,11 +82,11 @@ module _ (of : Bytes → Ports) (own : Ports) (references : List Reference) wher
 
   -- The ends are there in this order, the lengths are equal, and no edge before has this target.
   abbrev pub joins : List Edge → Edge → Option ℕ → Option ℕ → Option AlgoError
-  joins before e None to = fault e.line (UnknownName (written e.from))
-  joins before e (Some n) None = fault e.line (UnknownName (written e.to))
+  joins before e None to = fault e.line (UnknownName (end_word e.from))
+  joins before e (Some n) None = fault e.line (UnknownName (end_word e.to))
   joins before e (Some n) (Some m) =
-      if not (n == m) then fault e.line (WrongLength (written e.to)) else
-      if is_connected before e.to then fault e.line (TwiceConnected (written e.to)) else
+      if not (n == m) then fault e.line (WrongLength (end_word e.to)) else
+      if is_connected before e.to then fault e.line (TwiceConnected (end_word e.to)) else
       None
 
   -- The fault of an edge, if it has one: an end that is not there, the source first; unequal
@@ -113,7 +105,7 @@ module _ (of : Bytes → Ports) (own : Ports) (references : List Reference) wher
   open_fault edges line owner [] = None
   open_fault edges line owner (p ∷ ps) =
       if is_connected edges (record { owner = owner; port = p.name }) then open_fault edges line owner ps else
-      fault line (Unconnected (written_by owner p.name))
+      fault line (Unconnected (owned owner p.name))
 
   -- The faults of the references in order, each at its line, and then of the graph's outputs at its own.
   abbrev pub open_faults : ℕ → List Edge → List (Option AlgoError)

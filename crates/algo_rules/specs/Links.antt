@@ -23,7 +23,7 @@ use Rattle.std.specs.Prelude.{
 use Rattle.std.specs.List.{flat_map, position_or_len}
 use Rattle.std.specs.Str.{bytes_eq}
 use Rattle.syn_base.specs.declared.limits.LimitKind.TheVariants.{Depth}
-use Rattle.syn_base.specs.Limits.{bound_of}
+use Rattle.syn_base.specs.Limits.{bound_of, most_depth}
 use Rattle.algo_text.specs.declared.definition.Def.{Def}
 use Rattle.algo_text.specs.declared.definition.Body.{Body}
 use Rattle.algo_text.specs.declared.definition.Body.TheVariants.{Sensor, Actuator, Function, Graph, Switch, Repeat}
@@ -134,7 +134,7 @@ recursive ds = recursive_by ds (first_recursive (links_of ds))
 abbrev pub too_deep_by : List ℕ → Option AlgoError
 too_deep_by [] = None
 too_deep_by (d ∷ ds) =
-    if nat_lt 8 d then Some (Limit (record { which = Depth; count = d; bound = bound_of Depth })) else
+    if nat_lt most_depth d then Some (Limit (record { which = Depth; count = d; bound = bound_of Depth })) else
     too_deep_by ds
 
 -- The first definition with a depth above 8.

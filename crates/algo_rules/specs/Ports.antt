@@ -23,7 +23,7 @@ use Rattle.std.specs.Prelude.{
 }
 use Rattle.std.specs.List.{flat_map, list_any, position_or_len}
 use Rattle.std.specs.Str.{bytes_eq}
-use Rattle.body_lang.specs.declared.expression.Port.{Port}
+use Rattle.algo_text.specs.declared.Port.{Port}
 use Rattle.algo_text.specs.declared.definition.Def.{Def}
 use Rattle.algo_text.specs.declared.definition.Body.{Body}
 use Rattle.algo_text.specs.declared.definition.Body.TheVariants.{
@@ -42,6 +42,7 @@ use Rattle.algo_text.specs.declared.definition.FrontierLine.{FrontierLine}
 use Rattle.syn_base.specs.Bytes.{Bytes}
 use Rattle.algo_rules.specs.Links.{definition}
 use Rattle.algo_rules.specs.declared.ports.Ports.{Ports}
+use Rattle.syn_base.specs.Limits.{most_depth}
 
 -- No inputs and no outputs.
 abbrev pub no_ports : Ports
@@ -124,7 +125,7 @@ ports_within ds (suc n) w = ports_in (ports_within ds n) (definition ds w)
 -- The ports of the definition of this name; none if there is no such definition. They are right if
 -- no depth is above 8.
 abbrev pub ports_of : List Def → Bytes → Ports
-ports_of ds w = ports_within ds 8 w
+ports_of ds w = ports_within ds most_depth w
 
 -- The same names and lengths in the same order.
 abbrev pub same_ports : List Port → List Port → Bool

@@ -32,18 +32,18 @@ use Rattle.std.specs.Prelude.{
 use Rattle.std.specs.List.{flat_map, sum_by, range_with_len}
 use Rattle.std.specs.Str.{bytes_eq}
 use Rattle.syn_base.specs.declared.limits.LimitKind.TheVariants.{Operations}
-use Rattle.syn_base.specs.Limits.{bound_of}
-use Rattle.body_lang.specs.declared.expression.Port.{Port}
-use Rattle.level_meaning.specs.declared.source.Source.{Source}
-use Rattle.level_meaning.specs.declared.source.Source.TheVariants.{Own, Of}
-use Rattle.level_meaning.specs.declared.part.Part.{Part}
-use Rattle.level_meaning.specs.declared.part.Part.TheVariants.{Named, Numbered}
-use Rattle.level_meaning.specs.declared.frontier.Feed.{Feed}
-use Rattle.level_meaning.specs.declared.frontier.Feed.TheVariants as feed
-use Rattle.level_meaning.specs.declared.frontier.Give.{Give}
-use Rattle.level_meaning.specs.declared.frontier.Give.TheVariants as give
+use Rattle.syn_base.specs.Limits.{bound_of, most_depth}
+use Rattle.algo_tree.specs.declared.Source.{Source}
+use Rattle.algo_tree.specs.declared.Source.TheVariants.{Own, Of}
+use Rattle.algo_tree.specs.declared.Part.{Part}
+use Rattle.algo_tree.specs.declared.Part.TheVariants.{Named, Numbered}
+use Rattle.algo_tree.specs.declared.Feed.{Feed}
+use Rattle.algo_tree.specs.declared.Feed.TheVariants as feed
+use Rattle.algo_tree.specs.declared.Give.{Give}
+use Rattle.algo_tree.specs.declared.Give.TheVariants as give
 use Rattle.algo_tree.specs.Tree as tree
 use Rattle.algo_tree.specs.View.{vertices_of}
+use Rattle.algo_text.specs.declared.Port.{Port}
 use Rattle.algo_text.specs.declared.definition.Def.{Def}
 use Rattle.algo_text.specs.declared.definition.Body.{Body}
 use Rattle.algo_text.specs.declared.definition.Body.TheVariants.{
@@ -89,11 +89,13 @@ faults_at ds depth (d ∷ rest) [] = []
 faults_at ds depth (d ∷ rest) (n ∷ ns) =
     if n == depth then body_fault ds d.line d.body ∷ faults_at ds depth rest ns else faults_at ds depth rest ns
 
--- Each definition, by depth and then by line.
+-- The first fault that a definition has by itself, in the order of their depths and, at one depth,
+-- of the text; none if no definition has one.
 abbrev pub bodies_fault : List Def → Option AlgoError
-bodies_fault ds = first_of (flat_map (λ depth. faults_at ds depth ds (depths (links_of ds))) (range_with_len 1 8))
+bodies_fault ds =
+    first_of (flat_map (λ depth. faults_at ds depth ds (depths (links_of ds))) (range_with_len 1 most_depth))
 
--- `main` is a graph without ports.
+-- A body with these inputs and outputs has no ports.
 abbrev pub is_portless : List Port → List Port → Bool
 is_portless [] [] = true
 is_portless [] (p ∷ ps) = false
@@ -116,8 +118,8 @@ no_main ds = no_main_by (definition ds (codes "main"))
 
 -- How many vertices a frontier line adds to the copies: 1 for `fork` (an explode) and for `join`
 -- (an implode), and 0 for the others.
-abbrev pub is_fork : FrontierLine → ℕ
-is_fork l = forks l.frontier
+abbrev pub vertices_of_line : FrontierLine → ℕ
+vertices_of_line l = forks l.frontier
   where
     forks : Frontier → ℕ
     forks (Fork p x) = 1
@@ -133,7 +135,7 @@ count_by of (Delay depth values) = 2 * depth
 count_by of (Graph ins outs references edges) = sum_by (λ r. of r.def) references
 count_by of (Switch on ins outs cases otherwise last) =
     (sum_by (λ c. of c.def) cases + of otherwise) + length outs
-count_by of (Repeat copies def lines) = copies * of def + sum_by is_fork lines
+count_by of (Repeat copies def lines) = copies * of def + sum_by vertices_of_line lines
 count_by of _ = 1
 
 -- The number of flat operations of a definition, from those of the definitions that it names; 0 if
@@ -150,7 +152,7 @@ count_within ds (suc n) w = count_in (count_within ds n) (definition ds w)
 
 -- The number of flat operations of the main graph, with all that it refers to.
 abbrev pub operations : List Def → ℕ
-operations ds = count_within ds 8 (codes "main")
+operations ds = count_within ds most_depth (codes "main")
 
 -- The refusal by the limit on operations, if the main graph has more than 2,048.
 abbrev pub too_many : List Def → Option AlgoError
@@ -185,7 +187,8 @@ module _ (of : Bytes → Ports) (ins : List Port) (references : List Reference) 
 abbrev pub owns : ℕ → ℕ → List Source
 owns first n = map Own (range_with_len first n)
 
--- How the inner input x is fed: by the line that uses it.
+-- What the frontier lines of a repetition say, given the ports of its body and its own: how each
+-- inner input is fed, and what each outer output is given.
 module _ (inner outer : Ports) where
   -- How this frontier line feeds the inner input w; none if it does not.
   abbrev pub feed_by : Bytes → Frontier → Option Feed
@@ -239,9 +242,9 @@ groups (suc n) len values = take len values ∷ groups n len (drop len values)
 
 -- 1 if there is a definition and it is that of a sensor, else 0. The sum over the references before
 -- one is the number of the next sensor.
-abbrev pub is_sensor : Option Def → ℕ
-is_sensor None = 0
-is_sensor (Some d) = senses d.body
+abbrev pub sensor_count : Option Def → ℕ
+sensor_count None = 0
+sensor_count (Some d) = senses d.body
   where
     senses : Body → ℕ
     senses (Sensor n) = 1
@@ -249,9 +252,9 @@ is_sensor (Some d) = senses d.body
 
 -- 1 if there is a definition and it is that of an actuator, else 0. The sum over the references
 -- before one is the number of the next actuator.
-abbrev pub is_actuator : Option Def → ℕ
-is_actuator None = 0
-is_actuator (Some d) = acts d.body
+abbrev pub actuator_count : Option Def → ℕ
+actuator_count None = 0
+actuator_count (Some d) = acts d.body
   where
     acts : Body → ℕ
     acts (Actuator n) = 1
@@ -268,7 +271,7 @@ module _ (ds : List Def) (make : Making) where
   references_from ins all edges sensors actuators (r ∷ rs) =
       make (Named r.name) r.def (sources_to of ins all edges (Some r.name) (of r.def).ins) sensors actuators
       ∷ references_from ins all edges
-      (sensors + is_sensor (definition ds r.def)) (actuators + is_actuator (definition ds r.def)) rs
+      (sensors + sensor_count (definition ds r.def)) (actuators + actuator_count (definition ds r.def)) rs
 
   -- Cases take the inputs of their switch after the conditioning one.
   abbrev pub cases_from : ℕ → ℕ → List Bytes → List tree.Vertex
@@ -316,7 +319,7 @@ vertex_within ds (suc n) part w ins sensors actuators =
 
 -- The tree of the main graph, with all that it refers to inside.
 abbrev pub tree_of : List Def → tree.Vertex
-tree_of ds = vertex_within ds 8 (Named (codes "main")) (codes "main") [] 0 0
+tree_of ds = vertex_within ds most_depth (Named (codes "main")) (codes "main") [] 0 0
 
 -- The tree of the definitions, or this refusal of them, if there is one.
 abbrev pub resolved_by : List Def → Option AlgoError → Result tree.Vertex AlgoError

@@ -2,10 +2,10 @@
 -- are within their bounds.
 use Rattle.std.specs.Prelude.{◌≡◌, ℕ, ◌≤◌, ◌*◌, ◌/◌, ℤ, List, ◌∷◌, ◌++◌, All, length, map, true}
 use Rattle.syn_base.specs.Name.{is_name}
-use Rattle.body_lang.specs.Expr.{PortsBelow}
-use Rattle.body_lang.specs.declared.expression.Port.{Port}
 use Rattle.algo_tree.specs.Typed.{IsLength}
 use Rattle.algo_tree.specs.Well.{AreDistinctNames}
+use Rattle.algo_text.specs.Expr.{PortsBelow}
+use Rattle.algo_text.specs.declared.Port.{Port}
 use Rattle.algo_text.specs.declared.definition.Def.{Def}
 use Rattle.algo_text.specs.declared.definition.Output.{Output}
 use Rattle.algo_text.specs.declared.definition.Reference.{Reference}

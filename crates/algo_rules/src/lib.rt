@@ -7,3 +7,13 @@
 mod ports;
 
 pub use ports::Ports;
+
+// What the clauses here speak of: definitions, trees and references.
+pub use algo_text::{
+    AlgoCause, AlgoError, AlgoFault, Body, Case, Def, Defs, Edge, End, Expr, Frontier,
+    FrontierLine, Output, Part, Port, Reference,
+};
+pub use algo_tree::{
+    Kind, MOST_VERTICES, SizeError, Tree, Vertex, copy_numbers, is_large, share_kind,
+};
+pub use reference_graph::{Depths, are_inside, depths_of, reaching};

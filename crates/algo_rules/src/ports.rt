@@ -1,5 +1,5 @@
 //! The ports of a definition, which the checks find and the resolver reads.
-use body_lang::Port;
+use algo_text::Port;
 use syn_base::Items;
 
 /// The inputs and outputs of a definition, in order. The conditioning input of a switch stands first, and

@@ -1,7 +1,7 @@
 -- What a line's checks have found where the line is accepted, and that they find it again.
 use Rattle.std.proofs.Common.{◌≡◌, ℕ, ◌+◌, ◌<◌, ◌≤◌, ◌==◌, nat_lt, arith, Bool, not, ◌||◌, true, false, cond, Option, Some, None, Result, Ok, Err, refl, ap, ◌∙◌}
 use Rattle.algo_text.specs.declared.fault.AlgoError.{AlgoError}
-use Rattle.algo_text.specs.Blocks.{with_some, and_then}
+use Rattle.text_lines.specs.Refusals.{with_some, and_then}
 
 pub passed : {A : Type 0} (t : Bool) (e : AlgoError) (x : Result A AlgoError) (r : A) → cond t (Err e) x ≡ Ok r → (t ≡ false) × (x ≡ Ok r)
 passed true e x r h = cc

@@ -5,3 +5,5 @@ pub mod Judged
 pub mod Checks
 pub mod Parts
 pub mod References
+-- Lemmas from below, which proofs above cite with those of this crate.
+pub use Rattle.body_lang.proofs.Sums

@@ -8,9 +8,11 @@ use Rattle.syn_base.specs.Bytes.{Bytes}
 use Rattle.algo_text.specs.Among.{is_among}
 use Rattle.algo_text.specs.declared.part.Part.TheVariants.{References}
 use Rattle.algo_text.specs.Parts.{admits}
-use Rattle.algo_text.specs.Words.{word, period_of}
-use Rattle.algo_text.specs.Blocks.{Block, is_above, reference_of, with_reference, plain_line, marked_line, reference_line}
+use Rattle.algo_text.specs.Words.{period_of}
+use Rattle.algo_text.specs.Blocks.{Block, reference_of, with_reference, plain_line, marked_line, reference_line}
+use Rattle.text_lines.specs.Refusals.{is_above}
 use Rattle.algo_text.proofs.Checks.{found, held, neither, not_false, passed, read, same_ok}
+use Rattle.text_lines.specs.Text.{word}
 
 -- the mark that a line has in a text of this version
 abbrev pub IsMark : ℕ → List Bytes → Option ℕ → Type 0

@@ -8,7 +8,6 @@ use Rattle.std.specs.Prelude.{
   ◌==◌,
   ◌&&◌,
   ◌||◌,
-  nat_lt,
   List,
   [],
   ◌∷◌,
@@ -28,7 +27,8 @@ use Rattle.std.specs.Prelude.{
   codes,
 }
 use Rattle.std.specs.Str.{bytes_eq}
-use Rattle.text_lines.specs.Text.{words_of}
+use Rattle.text_lines.specs.Text.{words_of, word}
+use Rattle.text_lines.specs.Refusals.{and_then, if_all_pass, is_above, with_some}
 use Rattle.syn_base.specs.Name.{is_name}
 use Rattle.syn_base.specs.Limits.{bound_of}
 use Rattle.syn_base.specs.declared.limits.LimitKind.{LimitKind}
@@ -52,7 +52,7 @@ use Rattle.algo_text.specs.Outer.{outer_names, all_outer}
 use Rattle.algo_text.specs.declared.part.Part.{Part}
 use Rattle.algo_text.specs.declared.part.Part.TheVariants as parts
 use Rattle.algo_text.specs.Parts.{admits, is_conditioning}
-use Rattle.algo_text.specs.Words.{word, number_of, count_of, period_of, end_of}
+use Rattle.algo_text.specs.Words.{number_of, count_of, period_of, end_of}
 use Rattle.algo_text.specs.Formulas.{formula_of}
 
 -- The open block, with all that any kind of block may have. `part` is the part in which its last line stands.
@@ -100,23 +100,9 @@ new_block first name line = record {
 abbrev pub refused : {A : Type 0} → ℕ → AlgoCause → Result A AlgoError
 refused line cause = Err (Refused (record { line = line; cause = cause }))
 
--- Whether a quantity is above its bound.
-abbrev pub is_above : LimitKind → ℕ → Bool
-is_above which count = nat_lt (bound_of which) count
-
 -- The refusal of this count, which is above the bound of its quantity.
 abbrev pub above : {A : Type 0} → LimitKind → ℕ → Result A AlgoError
 above which count = Err (Limit (record { which = which; count = count; bound = bound_of which }))
-
--- What there is, or the refusal where there is nothing.
-abbrev pub with_some : {A B : Type 0} → Option A → Result B AlgoError → (A → Result B AlgoError) → Result B AlgoError
-with_some (Some x) missing go = go x
-with_some None missing go = missing
-
--- What follows, with what was read; a refusal stays.
-abbrev pub and_then : {A B : Type 0} → Result A AlgoError → (A → Result B AlgoError) → Result B AlgoError
-and_then (Ok x) go = go x
-and_then (Err e) go = Err e
 
 -- The names that ports of the block have: `on`, inputs, outputs and outer names together.
 abbrev pub port_names : Block → List Bytes
@@ -131,8 +117,7 @@ is_taken block w = is_among w (port_names block)
 
 -- What follows, or the refusal of the first of these words that is no name.
 abbrev pub all_names : {A : Type 0} → ℕ → List Bytes → Result A AlgoError → Result A AlgoError
-all_names line [] go = go
-all_names line (w ∷ words) go = if is_name w then all_names line words go else refused line (BadName w)
+all_names line words go = if_all_pass is_name (λ w. refused line (BadName w)) words go
 
 -- P LEN after `in` or `out`, where this many such lines stand before.
 abbrev pub port_line : ℕ → ℕ → List Bytes → (Port → Result Block AlgoError) → Result Block AlgoError

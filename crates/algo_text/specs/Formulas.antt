@@ -41,7 +41,8 @@ module _ (line : ℕ) (ports : List Bytes) (text : Bytes) where
   known_by (Some place) e =
       Err (Refused (record { line = line; cause = UnknownName (name_in (slice_get (tokens text) place)) }))
 
-  -- Where parsing stops the grammar fails.
+  -- The expression that a parse of the text found, or its refusal: by the grammar, at the place
+  -- at which parsing stopped, or else for a name that is none of the ports.
   abbrev pub read_by : Parse → Result Expr AlgoError
   read_by (good tree rest) = known_by (unknown ports tree) (resolved ports tree)
   read_by (stops rest) =

@@ -7,3 +7,6 @@ pub mod Formulas
 pub mod Grammatical
 pub mod Blocks
 pub mod Text
+-- What the definitions here speak of: expressions and their ports.
+pub use Rattle.body_lang.specs.Code as BodyCode
+pub use Rattle.body_lang.specs.Expr

@@ -11,7 +11,9 @@ use Rattle.algo_text.specs.declared.part.Part.TheVariants.{
   Whole,
 }
 
--- References stand in graphs alone, and cases in switches alone.
+-- How late in its block a part comes: the parts of a block have ascending numbers. Two parts that
+-- have the same number never meet in a block: only graphs have references and edges, and only
+-- switches have cases and `otherwise`.
 abbrev pub rank : Part → ℕ
 rank Conditioning = 0
 rank Inputs = 1

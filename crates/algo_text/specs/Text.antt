@@ -28,7 +28,7 @@ use Rattle.std.specs.Prelude.{
   ℤ,
 }
 use Rattle.std.specs.Str.{bytes_eq}
-use Rattle.text_lines.specs.Text.{lines_of, words_of, code_of, foreign_place}
+use Rattle.text_lines.specs.Text.{lines_of, words_of, code_of, foreign_place, word, begins}
 use Rattle.syn_base.specs.declared.limits.LimitKind.TheVariants.{PortLength, Copies}
 use Rattle.syn_base.specs.declared.limits.LimitKind.TheVariants as limits
 use Rattle.algo_text.specs.declared.definition.Def.{Def}
@@ -48,7 +48,7 @@ use Rattle.algo_text.specs.declared.fault.AlgoError.{AlgoError}
 use Rattle.algo_text.specs.declared.fault.AlgoCause.TheVariants.{NotText, BadLine, BadNumber, DuplicateName, BadDelay}
 use Rattle.syn_base.specs.Bytes.{Bytes}
 use Rattle.algo_text.specs.Among.{is_among}
-use Rattle.algo_text.specs.Words.{word, number_of, count_of}
+use Rattle.algo_text.specs.Words.{number_of, count_of}
 use Rattle.algo_text.specs.declared.part.Part.{Part}
 use Rattle.algo_text.specs.declared.part.Part.TheVariants.{Conditioning, Inputs}
 use Rattle.algo_text.specs.Parts.{is_whole}
@@ -56,10 +56,7 @@ use Rattle.algo_text.specs.Blocks.{
   Block,
   new_block,
   refused,
-  is_above,
   above,
-  with_some,
-  and_then,
   all_names,
   in_line,
   out_line,
@@ -74,6 +71,7 @@ use Rattle.algo_text.specs.Blocks.{
   iterate_line,
   join_line,
 }
+use Rattle.text_lines.specs.Refusals.{is_above, with_some, and_then}
 
 -- Where a line stands.
 pub data Stage : Type 0 where
@@ -91,10 +89,6 @@ pub record Reading : Type 0 where
 -- give the version.
 abbrev pub start : Reading
 start = record { stage = before_version; version = 0; names = []; defs = []; block = new_block Inputs [] 0 }
-
--- The first of these words is this one.
-abbrev pub begins : List Bytes → Bytes → Bool
-begins words key = bytes_eq (word words 0) key
 
 -- The version that a word is.
 abbrev pub version_of : Bytes → Option ℕ

@@ -5,19 +5,18 @@ use Rattle.std.specs.Prelude.{
   ◌&&◌,
   ◌==◌,
   nat_le,
-  List,
-  [],
   Option,
   Some,
   None,
   if◌then◌else◌,
-  slice_index_or,
   ℤ,
   pos,
   negsuc,
   Result,
   Ok,
   Err,
+  ◌++◌,
+  ◌∷◌,
 }
 use Rattle.std.specs.List.{before_first, after_first}
 use Rattle.syn_base.specs.Name.{is_name}
@@ -25,10 +24,6 @@ use Rattle.syn_base.specs.Integer.{integer_of}
 use Rattle.syn_base.specs.declared.integer.NumFault.{NumFault}
 use Rattle.algo_text.specs.declared.definition.End.{End}
 use Rattle.syn_base.specs.Bytes.{Bytes}
-
--- The word at a place of a line.
-abbrev pub word : List Bytes → ℕ → Bytes
-word words place = slice_index_or words place []
 
 -- The number that a word is.
 abbrev pub number_by : Result ℤ NumFault → Option ℤ
@@ -68,3 +63,13 @@ end_of w =
     if is_name w then Some (record { owner = None; port = w })
     else (if is_name (before_first is_dot w) && is_name (after_first is_dot w)
     then Some (record { owner = Some (before_first is_dot w); port = after_first is_dot w }) else None)
+
+-- The word of a port: `OWNER.PORT` if a reference owns it, and only `PORT` if none does.
+abbrev pub owned : Option Bytes → Bytes → Bytes
+owned None port = port
+owned (Some owner) port = owner ++ 46 ∷ port
+
+-- The word of an end of an edge: the name of a port, with its reference and a dot in
+-- front if it has one.
+abbrev pub end_word : End → Bytes
+end_word e = owned e.owner e.port

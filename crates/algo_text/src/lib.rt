@@ -20,3 +20,6 @@ pub use fault::{AlgoCause, AlgoError, AlgoFault};
 pub use formula::Formula;
 pub use laws::formulas_are_grammatical;
 pub use part::Part;
+
+// What the clauses here speak of: expressions and their ports.
+pub use body_lang::{Expr, Port};

@@ -1,13 +1,14 @@
 -- What is told of the vertices of a level, segment by segment.
 use Rattle.std.proofs.Common.{◌≡◌, ℕ, ◌+◌, List, [], ◌∷◌, ◌++◌, map, refl, ap, arith}
 use Rattle.level_meaning.specs.declared.source.Source.{Source}
-use Rattle.level_meaning.specs.Level.{Vector, Values, State, Node}
+use Rattle.level_meaning.specs.Level.{State, Node}
 use Rattle.algo_tree.specs.Tree.{Kind, sensor, actuator, constant, delay, function, explode, implode, merge, graph, switch, repeat, Vertex}
 use Rattle.algo_tree.specs.Meaning.{asked_by, kind_outputs}
 use Rattle.algo_tree.specs.View.{vertices_of}
 use Rattle.algo_tree.specs.Well.{AllWell}
 use Rattle.algo_tree.specs.Typed.{AreLengths, label_of, outs_of, AllTyped}
 use Rattle.algo_tree.specs.Counted.{operations_in}
+use Rattle.syn_base.specs.Vectors.{Vector, Values}
 
 pub outs-append : (xs ys : List Vertex) → outs_of (vertices_of (xs ++ ys)) ≡ outs_of (vertices_of xs) ++ outs_of (vertices_of ys)
 outs-append [] ys = refl

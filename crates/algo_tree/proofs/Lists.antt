@@ -2,8 +2,10 @@
 use Rattle.std.proofs.Common.{◌≡◌, ℕ, zero, suc, ◌+◌, ◌<◌, ◌≤◌, List, [], ◌∷◌, ◌++◌, length, get_or, map, replicate, None, slice_get, refl, sym, ap, ap₂, ◌∙◌, arith, length-append, inl, inr, zero-add, suc-add}
 use Rattle.std.proofs.lemmas.List.{map-append}
 use Rattle.std.proofs.lemmas.Bool.{cases_lt}
-use Rattle.level_meaning.specs.Level.{Values, Node, numbers_below, with_node}
+use Rattle.level_meaning.specs.Level.{Node, with_node}
 use Rattle.algo_tree.specs.Typed.{IsLength, AreLengths}
+use Rattle.syn_base.specs.Vectors.{Values}
+use Rattle.syn_base.specs.Numbers.{numbers_below}
 
 pub append_left : {A : Type 0} (xs ys : List A) (r : ℕ) (d : A) → r < length xs → get_or (xs ++ ys) r d ≡ get_or xs r d
 append_left [] ys r d h = absurd (omega arith)

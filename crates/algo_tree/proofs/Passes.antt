@@ -1,10 +1,11 @@
 -- A pass that keeps what each vertex does keeps the meaning of the whole.
 use Rattle.std.proofs.Common.{◌≡◌, ℕ, zero, suc, List, [], slice_index_or, ap, ◌∙◌}
 use Rattle.level_meaning.specs.declared.source.Source.{Source}
-use Rattle.level_meaning.specs.Level.{Values, Vector, level_value}
+use Rattle.level_meaning.specs.Level.{level_value}
 use Rattle.algo_tree.specs.Tree.{Label, Vertex, vertex, Vertices}
 use Rattle.algo_tree.specs.Meaning.{behaviour, behaviour_of, nodes, past, actuator_values}
 use Rattle.algo_tree.specs.SameMeaning.{KeepsMeaning}
+use Rattle.syn_base.specs.Vectors.{Vector, Values}
 
 -- the same vertices inside, for all that a level can tell
 pub same_behaviour : (l : Label) (us vs : Vertices) → nodes us ≡ nodes vs → behaviour (vertex l us) ≡ behaviour (vertex l vs)

@@ -2,10 +2,11 @@
 use Rattle.std.proofs.Common.{◌≡◌, ℕ, zero, suc, ◌+◌, ◌<◌, ◌⊎◌, inl, inr, List, [], ◌∷◌, ◌++◌, length, map, Some, slice_get, refl, sym, ap, ◌∙◌, subst, arith, length-append}
 use Rattle.std.proofs.lemmas.List.{map-append}
 use Rattle.level_meaning.specs.declared.source.Source.{Source}
-use Rattle.level_meaning.specs.Level.{Node, numbers_below}
+use Rattle.level_meaning.specs.Level.{Node}
 use Rattle.level_meaning.specs.Order.{IsBefore, AreBefore, GuardsBefore, IsInOrder}
 use Rattle.algo_tree.specs.Tree.{Kind, sensor, actuator, constant, delay, function, explode, implode, merge, graph, switch, repeat}
 use Rattle.algo_tree.specs.Meaning.{asked_by}
+use Rattle.syn_base.specs.Numbers.{numbers_below}
 
 abbrev pub OrderFrom : ℕ → List Node → Type 0
 OrderFrom k [] = Unit {0}

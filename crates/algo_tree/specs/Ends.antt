@@ -1,9 +1,9 @@
 -- Sensors and actuators stand in the main graph alone, and are numbered there.
 use Rattle.std.specs.Prelude.{◌≡◌, ℕ, List, [], ◌∷◌, ◌++◌, map, length, slice_index_or}
 use Rattle.level_meaning.specs.declared.source.Source.{Source}
-use Rattle.level_meaning.specs.Level.{numbers_below}
 use Rattle.algo_tree.specs.Tree.{Kind, sensor, actuator, Vertex, vertex, Vertices, no_vertices, and_vertex}
 use Rattle.algo_tree.specs.Typed.{outs_of, source_length}
+use Rattle.syn_base.specs.Numbers.{numbers_below}
 
 -- A kind is neither that of a sensor nor that of an actuator.
 abbrev pub IsNoEnd : Kind → Type 0
@@ -36,7 +36,7 @@ abbrev pub actuator_number : Kind → List ℕ
 actuator_number (actuator n) = n ∷ []
 actuator_number _ = []
 
--- The numbers of the sensors, and of the actuators, in declared order.
+-- The numbers of the sensors among these vertices, in order. Vertices inside them do not count.
 abbrev pub sensor_numbers : Vertices → List ℕ
 sensor_numbers no_vertices = []
 sensor_numbers (and_vertex (vertex l vs) us) = sensor_number l.kind ++ sensor_numbers us
@@ -76,7 +76,7 @@ actuator_lengths_in len no_vertices = []
 actuator_lengths_in len (and_vertex (vertex l vs) us) =
     actuator_length l.kind (map len l.ins) ++ actuator_lengths_in len us
 
--- The lengths of the sensors, and of the actuators, of the main graph in declared order.
+-- The lengths of the sensors of the main graph, in declared order.
 abbrev pub sensor_lengths : Vertex → List ℕ
 sensor_lengths (vertex l us) = sensor_lengths_in us
 

@@ -14,3 +14,8 @@ pub mod Counted
 pub mod Size
 pub mod Valid
 pub mod Code
+-- What the definitions here speak of: levels.
+pub use Rattle.level_meaning.specs.Cycles
+pub use Rattle.level_meaning.specs.Level
+pub use Rattle.level_meaning.specs.Order
+pub use Rattle.level_meaning.specs.Parts

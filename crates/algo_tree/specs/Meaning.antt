@@ -3,12 +3,9 @@ use Rattle.std.specs.Prelude.{ℕ, zero, suc, List, [], ◌∷◌, ◌++◌, len
 use Rattle.body_lang.specs.Expr.{function_outputs}
 use Rattle.level_meaning.specs.declared.source.Source.{Source}
 use Rattle.level_meaning.specs.Level.{
-  Vector,
-  Values,
   State,
   Behaviour,
   Node,
-  vector_at,
   level_value,
   graph_outputs,
   graph_next,
@@ -19,7 +16,6 @@ use Rattle.level_meaning.specs.Level.{
   repeat_next,
   repeat_initial,
   body_of,
-  parts_of,
   all_joined,
   merged,
   delay_output,
@@ -46,6 +42,8 @@ use Rattle.algo_tree.specs.Tree.{
   no_vertices,
   and_vertex,
 }
+use Rattle.syn_base.specs.Vectors.{Vector, Values, vector_at}
+use Rattle.syn_base.specs.Rows.{cut}
 
 -- The outputs of a vertex of this kind, with these nodes inside.
 abbrev pub kind_outputs : Kind → List ℕ → List Node → Values → State → Values → Values
@@ -54,7 +52,7 @@ kind_outputs (actuator n) outs cs row st ins = []
 kind_outputs (constant v) outs cs row st ins = v ∷ []
 kind_outputs (delay vs) outs cs row st ins = delay_output st ∷ []
 kind_outputs (function es) outs cs row st ins = function_outputs outs es ins
-kind_outputs explode outs cs row st ins = parts_of outs (vector_at ins 0)
+kind_outputs explode outs cs row st ins = cut outs (vector_at ins 0)
 kind_outputs implode outs cs row st ins = all_joined ins ∷ []
 kind_outputs (merge values) outs cs row st ins = merged values ins ∷ []
 kind_outputs (graph sources) outs cs row st ins = graph_outputs sources cs row st ins

@@ -1,8 +1,9 @@
 -- What a pass of flattening keeps.
 use Rattle.std.specs.Prelude.{◌≡◌, ℕ, List}
-use Rattle.level_meaning.specs.Level.{Values, Path}
+use Rattle.level_meaning.specs.Level.{Path}
 use Rattle.algo_tree.specs.Tree.{Vertex}
 use Rattle.algo_tree.specs.Meaning.{past, act_row}
+use Rattle.syn_base.specs.Vectors.{Values}
 
 -- Over any rows of the sensors, in each reaction the actuators take the same values in the same order, and after any
 -- number of reactions the same values are kept at each path, so that each delay has its own cell as before.

@@ -44,7 +44,8 @@ abbrev pub AreDistinctNames : List (List ℕ) → Type 0
 AreDistinctNames [] = Unit {0}
 AreDistinctNames (x ∷ xs) = IsNewName x xs × AreDistinctNames xs
 
--- The outer ports of fork lines, and of join lines.
+-- The names of the outer inputs of the fork lines, in the order of the inner inputs that they
+-- feed.
 abbrev pub fork_names : List Feed → List (List ℕ)
 fork_names [] = []
 fork_names (Fork name k len ∷ fs) = name ∷ fork_names fs

@@ -35,3 +35,6 @@ pub use shares::{rebuild, share_each, share_kind, share_vertex, with_inside};
 pub use size::{MOST_VERTICES, SizeError, count_vertices, is_large};
 pub use tree::Tree;
 pub use vertex::{Kind, Vertex};
+
+// What the clauses here speak of: levels.
+pub use level_meaning::{Feed, Give, Guard, Part, Source};

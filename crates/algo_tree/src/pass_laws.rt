@@ -1,10 +1,10 @@
 //! Laws of passes, each the contract of a function that does nothing.
 ghost use Rattle.std.specs.Prelude.{◌≡◌};
-ghost use Rattle.level_meaning.specs.Level.{Vector};
 ghost use Rattle.level_meaning.specs.declared.source.Source.{Source};
 ghost use Rattle.algo_tree.specs.Tree.{Label, Vertex, Vertices, vertex};
 ghost use Rattle.algo_tree.specs.Meaning.{nodes, actuator_values};
 ghost use Rattle.algo_tree.specs.SameMeaning.{KeepsMeaning};
+ghost use Rattle.syn_base.specs.Vectors.{Vector};
 
 /// A main graph whose vertices were changed, but do the same as before at the same places, and whose
 /// actuators have the same sources, keeps its meaning.

@@ -1,21 +1,21 @@
 -- What worked texts say.
 use Rattle.std.proofs.Common.{◌≡◌, ℕ, refl, true, false, List, [], ◌∷◌, ◌++◌, Result, Ok, Err, codes}
 use Rattle.syn_base.specs.declared.limits.LimitKind.TheVariants.{Operators}
-use Rattle.archi_defs.specs.declared.fault.ArchiError.{ArchiError}
-use Rattle.archi_defs.specs.declared.fault.ArchiError.TheVariants.{Limit}
+use Rattle.archi_defs.specs.Refusals.{ArchiRefusal}
+use Rattle.text_lines.specs.Refusals.{Limit, refused}
 use Rattle.archi_defs.specs.declared.fault.ArchiCause.TheVariants.{NotText, BadLine, BadName, BadNumber, UnknownName, DuplicateName, BadMedium, NoOperator, Disconnected}
 use Rattle.syn_base.specs.Bytes.{Bytes}
-use Rattle.archi_defs.specs.Text.{Described, refused, description_of}
+use Rattle.archi_defs.specs.Text.{Described, description_of}
 
 abbrev text : List Bytes → Bytes
 text [] = []
 text (l ∷ ls) = l ++ 10 ∷ text ls
 
-abbrev read : List Bytes → Result Described ArchiError
+abbrev read : List Bytes → Result Described ArchiRefusal
 read ls = description_of (text (codes "architecture 1" ∷ ls))
 
 -- a text of version 2
-abbrev read_2 : List Bytes → Result Described ArchiError
+abbrev read_2 : List Bytes → Result Described ArchiRefusal
 read_2 ls = description_of (text (codes "architecture 2" ∷ ls))
 
 plainest : read (codes "operator P" ∷ codes "duration Sense P 1" ∷ codes "duration Act P 2" ∷ []) ≡ Ok (record {
@@ -111,7 +111,7 @@ many : read (lines operators (codes "operator Q" ∷ [])) ≡ Err (Limit (record
 many = refl
 
 -- version 2: a depth stands once, at any place; without it there is one place
-abbrev alone : ℕ → ℕ → Result Described ArchiError
+abbrev alone : ℕ → ℕ → Result Described ArchiRefusal
 alone version depth = Ok (record { version = version; archi = record { operators = codes "P" ∷ []; media = []; depth = depth }; durations = record { def = codes "F"; operator = 0; ticks = 7 } ∷ [] })
 
 no_depth : read_2 (codes "operator P" ∷ codes "duration F P 7" ∷ []) ≡ alone 2 1

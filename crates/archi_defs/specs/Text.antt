@@ -36,20 +36,17 @@ use Rattle.std.specs.Prelude.{
 use Rattle.std.specs.List.{list_any, range_with_len}
 use Rattle.std.specs.Str.{bytes_eq}
 use Rattle.syn_base.specs.Bytes.{Bytes}
-use Rattle.text_lines.specs.Text.{lines_of, words_of, code_of, foreign_place}
+use Rattle.text_lines.specs.Text.{lines_of, words_of, code_of, foreign_place, word, begins}
+use Rattle.text_lines.specs.Refusals.{above, and_then, if_all_pass, is_above, refused, with_some}
 use Rattle.syn_base.specs.Name.{is_name}
 use Rattle.syn_base.specs.Integer.{integer_of}
-use Rattle.syn_base.specs.Limits.{bound_of}
 use Rattle.syn_base.specs.declared.integer.NumFault.{NumFault}
-use Rattle.syn_base.specs.declared.limits.LimitKind.{LimitKind}
 use Rattle.syn_base.specs.declared.limits.LimitKind.TheVariants.{Operators, Media, Connections}
 use Rattle.archi_graph.specs.declared.medium.Medium.{Medium}
 use Rattle.archi_graph.specs.Archi.{Architecture, is_depth, reached_within}
 use Rattle.archi_defs.specs.declared.text.DurationLine.{DurationLine}
 use Rattle.archi_defs.specs.declared.text.ArchiText.{ArchiText}
-use Rattle.archi_defs.specs.declared.fault.ArchiError.{ArchiError}
-use Rattle.archi_defs.specs.declared.fault.ArchiError.TheVariants.{Refused, Limit}
-use Rattle.archi_defs.specs.declared.fault.ArchiCause.{ArchiCause}
+use Rattle.archi_defs.specs.Refusals.{ArchiRefusal}
 use Rattle.archi_defs.specs.declared.fault.ArchiCause.TheVariants.{
   NotText,
   BadLine,
@@ -88,36 +85,9 @@ pub record Reading : Type 0 where
 abbrev pub start : Reading
 start = record { version = None; depth = None; operators = []; media = []; lines = []; connections = 0; durations = [] }
 
--- Word k of a line, counted from 0; the empty word if there is none.
-abbrev pub word : List Bytes → ℕ → Bytes
-word ws k = slice_index_or ws k []
-
--- The refusal of a text at this line for this cause. Line 0 is for what concerns the whole text.
-abbrev pub refused : {A : Type 0} → ℕ → ArchiCause → Result A ArchiError
-refused line cause = Err (Refused (record { line = line; cause = cause }))
-
--- more than the bound
-abbrev pub is_above : LimitKind → ℕ → Bool
-is_above which count = nat_lt (bound_of which) count
-
--- The refusal of this count, which is above the bound of its quantity.
-abbrev pub above : {A : Type 0} → LimitKind → ℕ → Result A ArchiError
-above which count = Err (Limit (record { which = which; count = count; bound = bound_of which }))
-
--- what there is, or the refusal where there is nothing
-abbrev pub with_some : {A B : Type 0} → Option A → Result B ArchiError → (A → Result B ArchiError) → Result B ArchiError
-with_some (Some x) missing go = go x
-with_some None missing go = missing
-
--- What follows, with what was read; a refusal stays.
-abbrev pub and_then : {A B : Type 0} → Result A ArchiError → (A → Result B ArchiError) → Result B ArchiError
-and_then (Ok x) go = go x
-and_then (Err e) go = Err e
-
--- the first of these words that is no name is told
-abbrev pub all_names : {A : Type 0} → ℕ → List Bytes → Result A ArchiError → Result A ArchiError
-all_names n [] go = go
-all_names n (w ∷ ws) go = if is_name w then all_names n ws go else refused n (BadName w)
+-- What follows, or the refusal of the first of these words that is no name.
+abbrev pub all_names : {A : Type 0} → ℕ → List Bytes → Result A ArchiRefusal → Result A ArchiRefusal
+all_names n ws go = if_all_pass is_name (λ w. refused n (BadName w)) ws go
 
 -- a number from 0 up to this one
 abbrev pub up_to : ℕ → Result ℤ NumFault → Option ℕ
@@ -127,7 +97,7 @@ up_to most (Err e) = None
 
 -- What follows, with the number from 0 to `most` that the word is; if it is none, the word is
 -- refused at line n.
-abbrev pub with_number : {A : Type 0} → ℕ → ℕ → Bytes → (ℕ → Result A ArchiError) → Result A ArchiError
+abbrev pub with_number : {A : Type 0} → ℕ → ℕ → Bytes → (ℕ → Result A ArchiRefusal) → Result A ArchiRefusal
 with_number n most w go = with_some (up_to most (integer_of w)) (refused n (BadNumber w)) go
 
 -- The place of the word among these names, counted from 0; none if it is not one of them.
@@ -150,7 +120,7 @@ version_of w =
     None
 
 -- architecture 1 and architecture 2
-abbrev pub version_line : Reading → ℕ → List Bytes → Result Reading ArchiError
+abbrev pub version_line : Reading → ℕ → List Bytes → Result Reading ArchiRefusal
 version_line r n ws =
     if not (length ws == 2) || not (bytes_eq (word ws 0) (codes "architecture")) then refused n BadLine else
     with_some (version_of (word ws 1)) (refused n BadLine) (λ version. Ok (record r { version = Some version }))
@@ -162,14 +132,14 @@ depth_of (Ok (negsuc n)) = None
 depth_of (Err e) = None
 
 -- depth D, once, and not in version 1
-abbrev pub depth_line : Reading → ℕ → ℕ → List Bytes → Result Reading ArchiError
+abbrev pub depth_line : Reading → ℕ → ℕ → List Bytes → Result Reading ArchiRefusal
 depth_line r n version ws =
     if not (length ws == 2) || (version == 1) || is_some r.depth then refused n BadLine else
     with_some (depth_of (integer_of (word ws 1))) (refused n (BadNumber (word ws 1)))
     (λ depth. Ok (record r { depth = Some depth }))
 
 -- operator NAME
-abbrev pub operator_line : Reading → ℕ → List Bytes → Result Reading ArchiError
+abbrev pub operator_line : Reading → ℕ → List Bytes → Result Reading ArchiRefusal
 operator_line r n ws =
     if not (length ws == 2) then refused n BadLine else
     all_names n (word ws 1 ∷ [])
@@ -178,7 +148,7 @@ operator_line r n ws =
     Ok (record r { operators = r.operators ++ word ws 1 ∷ [] }))
 
 -- medium NAME p2p FIXED PER and medium NAME multi FIXED PER
-abbrev pub medium_line : Reading → ℕ → List Bytes → Result Reading ArchiError
+abbrev pub medium_line : Reading → ℕ → List Bytes → Result Reading ArchiRefusal
 medium_line r n ws =
     if not (length ws == 5) || not (bytes_eq (word ws 2) (codes "p2p") || bytes_eq (word ws 2) (codes "multi"))
     then refused n BadLine else
@@ -197,7 +167,7 @@ medium_line r n ws =
       lines = r.lines ++ n ∷ [];
     }))))
 
--- operators stand in ascending order
+-- These operators, which ascend, and operator o among them at its place.
 abbrev pub with_stand : ℕ → List ℕ → List ℕ
 with_stand o [] = o ∷ []
 with_stand o (p ∷ ps) = if nat_lt o p then o ∷ p ∷ ps else p ∷ with_stand o ps
@@ -208,7 +178,7 @@ no_medium = record { name = []; multi = false; fixed = 0; per = 0; stands = [] }
 
 -- What has been read once operator o is connected to medium m. Line n is refused if they are
 -- connected already, for the name w of the operator, or if there are too many connections.
-abbrev pub connected : Reading → ℕ → Bytes → ℕ → ℕ → Result Reading ArchiError
+abbrev pub connected : Reading → ℕ → Bytes → ℕ → ℕ → Result Reading ArchiRefusal
 connected r n w m o =
     if list_any (λ p. p == o) (slice_index_or r.media m no_medium).stands then refused n (DuplicateName w) else
     if is_above Connections (r.connections + 1) then above Connections (r.connections + 1) else
@@ -220,7 +190,7 @@ connected r n w m o =
     })
 
 -- connect MEDIUM OPERATOR
-abbrev pub connect_line : Reading → ℕ → List Bytes → Result Reading ArchiError
+abbrev pub connect_line : Reading → ℕ → List Bytes → Result Reading ArchiRefusal
 connect_line r n ws =
     if not (length ws == 3) then refused n BadLine else
     all_names n (word ws 1 ∷ word ws 2 ∷ [])
@@ -229,7 +199,7 @@ connect_line r n ws =
     connected r n (word ws 2) m o)))
 
 -- duration DEF OPERATOR TICKS
-abbrev pub duration_line : Reading → ℕ → List Bytes → Result Reading ArchiError
+abbrev pub duration_line : Reading → ℕ → List Bytes → Result Reading ArchiRefusal
 duration_line r n ws =
     if not (length ws == 4) then refused n BadLine else
     all_names n (word ws 1 ∷ word ws 2 ∷ [])
@@ -239,12 +209,8 @@ duration_line r n ws =
     then refused n (DuplicateName (word ws 1)) else
     Ok (record r { durations = r.durations ++ record { def = word ws 1; operator = o; ticks = ticks } ∷ [] }))))
 
--- The first of these words is this one.
-abbrev pub begins : List Bytes → Bytes → Bool
-begins ws key = bytes_eq (word ws 0) key
-
 -- a line of a text of this version
-abbrev pub described_line : Reading → ℕ → ℕ → List Bytes → Result Reading ArchiError
+abbrev pub described_line : Reading → ℕ → ℕ → List Bytes → Result Reading ArchiRefusal
 described_line r n version ws =
     if begins ws (codes "operator") then operator_line r n ws else
     if begins ws (codes "medium") then medium_line r n ws else
@@ -255,7 +221,7 @@ described_line r n version ws =
 
 -- What has been read after a line, given the place of its first foreign byte, if it has one. Such a
 -- byte refuses the line before anything else, and a line without words changes nothing.
-abbrev pub line_by : Reading → ℕ → Bytes → Option ℕ → Result Reading ArchiError
+abbrev pub line_by : Reading → ℕ → Bytes → Option ℕ → Result Reading ArchiRefusal
 line_by r n line (Some place) = refused n (NotText place)
 line_by r n line None =
     if length (words_of (code_of line)) == 0 then Ok r else
@@ -263,15 +229,16 @@ line_by r n line None =
     (λ version. described_line r n version (words_of (code_of line)))
 
 -- the next line; one without words says nothing
-abbrev pub next_line : Reading → ℕ → Bytes → Result Reading ArchiError
+abbrev pub next_line : Reading → ℕ → Bytes → Result Reading ArchiRefusal
 next_line r n line = line_by r n line (foreign_place line)
 
--- this many operators may stand at a medium
+-- As many operators stand at the medium as it has to have: two or more if it is multipoint, and
+-- exactly two if it is point to point.
 abbrev pub has_stands : Medium → Bool
 has_stands m = if m.multi then nat_le 2 (length m.stands) else length m.stands == 2
 
 -- the first medium with a wrong number of operators, at its line
-abbrev pub media_are_right : {A : Type 0} → List Medium → List ℕ → Result A ArchiError → Result A ArchiError
+abbrev pub media_are_right : {A : Type 0} → List Medium → List ℕ → Result A ArchiRefusal → Result A ArchiRefusal
 media_are_right [] lines go = go
 media_are_right (m ∷ ms) lines go =
     if has_stands m then media_are_right ms (after lines) go else refused (first lines) (BadMedium m.name)
@@ -307,26 +274,26 @@ described r version = record {
 
 -- What a text of this version gives, if routes lead from operator 0 to all others; if none leads to
 -- the given one, the refusal that names both.
-abbrev pub all_joined : Reading → ℕ → Option ℕ → Result Described ArchiError
+abbrev pub all_joined : Reading → ℕ → Option ℕ → Result Described ArchiRefusal
 all_joined r version None = Ok (described r version)
 all_joined r version (Some o) = refused 0 (Disconnected (operator_name r 0) (operator_name r o))
 
 -- there is an operator, the media are right, and all operators are joined
-abbrev pub whole_of : Reading → ℕ → Result Described ArchiError
+abbrev pub whole_of : Reading → ℕ → Result Described ArchiRefusal
 whole_of r version =
     if length r.operators == 0 then refused 0 NoOperator else
     media_are_right r.media r.lines (all_joined r version (apart r))
 
 -- the whole, whose lines are numbered below n, of which one gave the version
-abbrev pub whole : Reading → ℕ → Result Described ArchiError
+abbrev pub whole : Reading → ℕ → Result Described ArchiRefusal
 whole r n = with_some r.version (refused n BadLine) (whole_of r)
 
 -- What the whole text gives, or its first refusal, from what has been read and the lines that are
 -- left, of which the first has the number n.
-abbrev pub rest_of : Reading → ℕ → List Bytes → Result Described ArchiError
+abbrev pub rest_of : Reading → ℕ → List Bytes → Result Described ArchiRefusal
 rest_of r n [] = whole r n
 rest_of r n (line ∷ lines) = and_then (next_line r n line) (λ after. rest_of after (n + 1) lines)
 
 -- what the bytes of a text say
-abbrev pub description_of : Bytes → Result Described ArchiError
+abbrev pub description_of : Bytes → Result Described ArchiRefusal
 description_of text = rest_of start 1 (lines_of text)

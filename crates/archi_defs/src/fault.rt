@@ -1,8 +1,6 @@
 //! The refusal of an architecture's text: its causes, and the error that `archi_reader` returns.
-use std::alloc::{AllocError, AllocFailed};
-use std::fmt;
-use syn_base::{Items, LimitFault, Name, OutOfMemory};
-use thiserror::Error;
+use syn_base::{Items, Name};
+use text_lines::{TextError, TextFault};
 
 /// The causes of a refusal, with what a message prints after the cause: the place, the word or the names.
 #[derive(Drop)]
@@ -28,75 +26,8 @@ pub enum ArchiCause {
     NoDuration(Name),
 }
 
-/// A refusal, at a line of the text, from 1; line 0 is the whole.
-#[derive(Drop)]
-pub struct ArchiFault {
-    pub line: u32,
-    pub cause: ArchiCause,
-}
+/// A refusal of an architecture's text, at a line of it.
+pub type ArchiFault = TextFault<ArchiCause>;
 
-/// Why a text gives no architecture. The lines that `syndex` prints are made elsewhere, from the fields.
-#[derive(Drop, Error)]
-pub enum ArchiError {
-    #[error("refused at line {line}", line = .0.line)]
-    Refused(ArchiFault),
-    #[error("{count} above {bound}", count = .0.count, bound = .0.bound)]
-    Limit(LimitFault),
-    #[error("out of memory")]
-    OutOfMemory,
-}
-
-/// The same words as its message, which `Error` asks for.
-impl fmt::Debug for ArchiError {
-    fn fmt<W: fmt::Write>(&self, f: &mut fmt::Formatter<W>) -> fmt::Result {
-        fmt::Display::fmt(self, f)
-    }
-}
-
-/// Want of memory stays want of memory, so that `?` hands it on.
-impl From<OutOfMemory> for ArchiError {
-    ghost use Rattle.std.specs.Prelude.{◌≡◌};
-    ghost use Rattle.archi_defs.specs.declared.fault.ArchiError.TheVariants.{OutOfMemory as NoMemory};
-
-    ghost from_gives = { λ _ error. error ≡ NoMemory };
-
-    fn from(_failed: OutOfMemory) -> ArchiError {
-        ArchiError::OutOfMemory
-    }
-}
-
-/// An allocation that failed is want of memory.
-impl From<AllocError> for ArchiError {
-    ghost use Rattle.std.specs.Prelude.{◌≡◌};
-    ghost use Rattle.archi_defs.specs.declared.fault.ArchiError.TheVariants.{OutOfMemory as NoMemory};
-
-    ghost from_gives = { λ _ error. error ≡ NoMemory };
-
-    fn from(_failed: AllocError) -> ArchiError {
-        ArchiError::OutOfMemory
-    }
-}
-
-/// A value that found no room is want of memory.
-impl<T: Drop> From<AllocFailed<T>> for ArchiError {
-    ghost use Rattle.std.specs.Prelude.{◌≡◌};
-    ghost use Rattle.archi_defs.specs.declared.fault.ArchiError.TheVariants.{OutOfMemory as NoMemory};
-
-    ghost from_gives = { λ _ error. error ≡ NoMemory };
-
-    fn from(_failed: AllocFailed<T>) -> ArchiError {
-        ArchiError::OutOfMemory
-    }
-}
-
-/// A quantity above its bound is a refusal of the text.
-impl From<LimitFault> for ArchiError {
-    ghost use Rattle.std.specs.Prelude.{◌≡◌};
-    ghost use Rattle.archi_defs.specs.declared.fault.ArchiError.TheVariants.{Limit};
-
-    ghost from_gives = { λ fault error. error ≡ Limit fault };
-
-    fn from(fault: LimitFault) -> ArchiError {
-        ArchiError::Limit(fault)
-    }
-}
+/// Why a text gives no architecture.
+pub type ArchiError = TextError<ArchiCause>;

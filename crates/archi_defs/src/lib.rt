@@ -10,3 +10,6 @@ mod text;
 
 pub use fault::{ArchiCause, ArchiError, ArchiFault};
 pub use text::{ArchiText, DurationLine};
+
+// What the clauses here speak of: operators, media and routes.
+pub use archi_graph::{Archi, Hop, Medium, Seq, is_archi, reached};

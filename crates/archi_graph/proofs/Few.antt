@@ -7,7 +7,7 @@ use Rattle.std.proofs.lemmas.List.Concat.{length-flat_map}
 use Rattle.std.proofs.lemmas.List.FromFn.{length-range_with_len}
 use Rattle.std.proofs.lemmas.List.Sums.{sum_by-cons}
 use Rattle.archi_graph.specs.declared.medium.Medium.{Medium}
-use Rattle.archi_graph.specs.Archi.{Architecture, is_archi, are_distinct, are_joined, is_medium, names_of, stands_at, stands_in_all}
+use Rattle.archi_graph.specs.Archi.{Architecture, is_archi, are_distinct, are_joined, is_medium, names_of, stands_at, connections_in}
 use Rattle.archi_graph.specs.Sequences.{communicator, communicators, sequences, sequences_of}
 
 -- at most one communicator for each medium
@@ -28,7 +28,7 @@ few a valid =
     let joined = and_parts _ (are_joined (length a.operators) a.media) valid in
     let distinct = and_parts _ (are_distinct (names_of a.operators a.media)) joined.0 in
     let all = and_parts _ (list_all (is_medium (length a.operators)) a.media) distinct.0 in
-    let stands = and_parts _ (nat_le (stands_in_all a.media) 64) all.0 in
+    let stands = and_parts _ (nat_le (connections_in a.media) 64) all.0 in
     let media = and_parts _ (nat_le (length a.media) 16) stands.0 in
     let operators = and_parts _ (nat_le (length a.operators) 16) media.0 in
     let m = leb-true (length a.media) 16 media.1 in

@@ -19,6 +19,11 @@ use Rattle.std.specs.Prelude.{
   ◌++◌,
   length,
   map,
+  slice_index_or,
+  slice_get,
+  Option,
+  Some,
+  None,
 }
 use Rattle.std.specs.List.{list_all, list_any, count_by, sum_by, range_with_len}
 use Rattle.std.specs.Str.{bytes_eq}
@@ -39,7 +44,8 @@ abbrev pub ascends_from : ℕ → List ℕ → Bool
 ascends_from least [] = true
 ascends_from least (x ∷ xs) = nat_le least x && ascends_from (x + 1) xs
 
--- this many operators may stand at a medium
+-- This many operators may stand at a medium: two or more if it is multipoint, and exactly two if
+-- it is point to point.
 abbrev pub may_stand : Bool → ℕ → Bool
 may_stand true n = nat_le 2 n
 may_stand false n = n == 2
@@ -63,8 +69,8 @@ abbrev pub names_of : List (List ℕ) → List Medium → List (List ℕ)
 names_of operators media = operators ++ map (λ m. m.name) media
 
 -- How many connections the media have together: one for each operator at each medium.
-abbrev pub stands_in_all : List Medium → ℕ
-stands_in_all media = sum_by (λ m. length m.stands) media
+abbrev pub connections_in : List Medium → ℕ
+connections_in media = sum_by (λ m. length m.stands) media
 
 -- an operator stands at the medium
 abbrev pub stands_at : Medium → ℕ → Bool
@@ -84,10 +90,24 @@ are_joined operators media = list_all (reached_within media operators) (range_wi
 abbrev pub are_bounded : List (List ℕ) → List Medium → Bool
 are_bounded operators media =
     nat_le 1 (length operators) && nat_le (length operators) 16 && nat_le (length media) 16 &&
-    nat_le (stands_in_all media) 64
+    nat_le (connections_in media) 64
 
--- valid operators and media
+-- The operators and media are valid: they are within their bounds, each medium is valid, no two of
+-- their names are the same, and routes join operator 0 to every operator.
 abbrev pub is_archi : List (List ℕ) → List Medium → Bool
 is_archi operators media =
     are_bounded operators media && list_all (is_medium (length operators)) media &&
     are_distinct (names_of operators media) && are_joined (length operators) media
+
+-- The name of operator o, and the empty text if there is no operator o.
+abbrev pub operator_name : List (List ℕ) → ℕ → List ℕ
+operator_name operators o = slice_index_or operators o []
+
+-- The name of a medium, and the empty text if there is no medium.
+abbrev pub name_or_none : Option Medium → List ℕ
+name_or_none None = []
+name_or_none (Some m) = m.name
+
+-- The name of medium m, and the empty text if there is no such medium.
+abbrev pub medium_name : List Medium → ℕ → List ℕ
+medium_name media m = name_or_none (slice_get media m)

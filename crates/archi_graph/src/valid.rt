@@ -3,7 +3,7 @@
 ghost use Rattle.std.specs.Prelude.{◌≡◌, nat_le, nat_lt};
 ghost use Rattle.std.specs.List.{count_by, list_all};
 ghost use Rattle.std.specs.Str.{bytes_eq};
-ghost use Rattle.archi_graph.specs.Archi.{are_bounded, are_distinct, ascends_from, is_archi, is_medium, may_stand, names_of, occurs_once, stands_in_all};
+ghost use Rattle.archi_graph.specs.Archi.{are_bounded, are_distinct, ascends_from, is_archi, is_medium, may_stand, names_of, occurs_once, connections_in};
 
 use crate::joined::are_joined;
 use crate::medium::Medium;
@@ -43,7 +43,7 @@ fn is_bounded(operators: &[Name], media: &[Medium]) -> bool
 /// Whether at most 64 operators stand at the media, counted medium by medium. What room is left is
 /// counted down, so that no sum can overflow.
 fn has_few_stands(media: &[Medium]) -> bool
-    ensures { result ≡ nat_le (stands_in_all media.now) 64 }
+    ensures { result ≡ nat_le (connections_in media.now) 64 }
 {
     let mut room = MOST_STANDS;
     for medium in media {

@@ -1,12 +1,13 @@
 -- What an accepted text describes is an architecture.
 use Rattle.std.proofs.Common.{◌≡◌, ℕ, ◌+◌, Bool, not, true, false, ◌==◌, if◌then◌else◌, List, [], ◌∷◌, length, Option, Some, None, position, Result, Ok, Err, refl, sym, subst, ◌∙◌, arith}
 use Rattle.text_lines.specs.Text.{lines_of}
-use Rattle.archi_graph.specs.declared.medium.Medium.{Medium}
-use Rattle.archi_graph.specs.Archi.{is_archi, is_depth}
-use Rattle.archi_defs.specs.declared.fault.ArchiError.{ArchiError}
+use Rattle.archi_defs.specs.declared.Medium.{Medium}
+use Rattle.archi_defs.specs.Archi.{is_archi, is_depth}
+use Rattle.archi_defs.specs.Refusals.{ArchiRefusal}
 use Rattle.archi_defs.specs.declared.fault.ArchiCause.TheVariants.{BadLine}
 use Rattle.syn_base.specs.Bytes.{Bytes}
-use Rattle.archi_defs.specs.Text.{Described, Reading, start, refused, with_some, and_then, next_line, rest_of, whole_of, whole, has_stands, all_joined, apart, described}
+use Rattle.archi_defs.specs.Text.{Described, Reading, start, next_line, rest_of, whole_of, whole, has_stands, all_joined, apart, described}
+use Rattle.text_lines.specs.Refusals.{refused, with_some, and_then}
 use Rattle.archi_reader.specs.Views.{IsSound}
 use Rattle.archi_reader.proofs.Endings.{told, media_told, valid}
 use Rattle.archi_reader.proofs.Following.{sound_next}
@@ -15,11 +16,11 @@ use Rattle.archi_reader.specs.Accepted.{DescribedAreArchitectures}
 abbrev IsArchitecture : Described → Type 0
 IsArchitecture d = (is_archi d.archi.operators d.archi.media ≡ true) × (is_depth d.archi.depth ≡ true)
 
-passed : (b : Bool) (e : ArchiError) (go : Result Described ArchiError) (d : Described) → (if b then Err e else go) ≡ Ok d → (b ≡ false) × (go ≡ Ok d)
+passed : (b : Bool) (e : ArchiRefusal) (go : Result Described ArchiRefusal) (d : Described) → (if b then Err e else go) ≡ Ok d → (b ≡ false) × (go ≡ Ok d)
 passed true e go d h = cc
 passed false e go d h = (refl, h)
 
-told_none : (o : Option ℕ) (media : List Medium) (lines : List ℕ) (go : Result Described ArchiError) (d : Described) → told o media lines go ≡ Ok d → (o ≡ None) × (go ≡ Ok d)
+told_none : (o : Option ℕ) (media : List Medium) (lines : List ℕ) (go : Result Described ArchiRefusal) (d : Described) → told o media lines go ≡ Ok d → (o ≡ None) × (go ≡ Ok d)
 told_none None media lines go d h = (refl, h)
 told_none (Some k) media lines go d h = cc
 
@@ -46,7 +47,7 @@ behind_lines : (lines : List Bytes) (r : Reading) (n : ℕ) (d : Described) → 
 behind_lines [] r n d sound h = at_the_end r n d sound h
 behind_lines (line ∷ lines) r n d sound h = by (next_line r n line) refl h (λ t s k. behind_lines lines t (n + 1) d s k)
   where
-    by : (read : Result Reading ArchiError) → next_line r n line ≡ read → and_then read (λ t. rest_of t (n + 1) lines) ≡ Ok d
+    by : (read : Result Reading ArchiRefusal) → next_line r n line ≡ read → and_then read (λ t. rest_of t (n + 1) lines) ≡ Ok d
         → ((t : Reading) → IsSound t → rest_of t (n + 1) lines ≡ Ok d → IsArchitecture d) → IsArchitecture d
     by (Ok t) e k go = go t (sound_next r t n line sound e) k
     by (Err x) e k go = absurd (cc)

@@ -1,15 +1,16 @@
 -- Reading lines that are made of words.
 use Rattle.std.proofs.Common.{◌≡◌, ℕ, suc, ◌+◌, List, [], ◌∷◌, ◌++◌, length, map, Result, Ok, Err, refl, ap, ◌∙◌, arith}
-use Rattle.archi_defs.specs.declared.fault.ArchiError.{ArchiError}
-use Rattle.archi_defs.specs.Text.{Reading, and_then, next_line, rest_of, whole}
+use Rattle.archi_defs.specs.Refusals.{ArchiRefusal}
+use Rattle.archi_defs.specs.Text.{Reading, next_line, rest_of, whole}
+use Rattle.text_lines.specs.Refusals.{and_then}
 use Rattle.archi_reader.specs.Canonical.{Words, joined}
 
 -- the reading after these lines
-abbrev pub after : Reading → ℕ → List Words → Result Reading ArchiError
+abbrev pub after : Reading → ℕ → List Words → Result Reading ArchiRefusal
 after r n [] = Ok r
 after r n (ws ∷ lines) = and_then (next_line r n (joined ws)) (λ s. after s (n + 1) lines)
 
-rest_behind : (read : Result Reading ArchiError) (n : ℕ) (lines : List Words)
+rest_behind : (read : Result Reading ArchiRefusal) (n : ℕ) (lines : List Words)
     → ((s : Reading) → rest_of s (n + 1) (map joined lines) ≡ and_then (after s (n + 1) lines) (λ t. whole t (n + 1 + length lines)))
     → and_then read (λ s. rest_of s (n + 1) (map joined lines)) ≡ and_then (and_then read (λ s. after s (n + 1) lines)) (λ t. whole t (n + 1 + length lines))
 rest_behind (Ok s) n lines h = h s
@@ -21,7 +22,7 @@ rest_after (ws ∷ lines) r n =
     rest_behind (next_line r n (joined ws)) n lines (λ s. rest_after lines s (n + 1))
     ∙ ap (λ (k : ℕ). and_then (after r n (ws ∷ lines)) (λ s. whole s k)) (let e : n + 1 + length lines ≡ n + suc (length lines) = omega arith in e)
 
-append_behind : (read : Result Reading ArchiError) (n : ℕ) (lines more : List Words)
+append_behind : (read : Result Reading ArchiRefusal) (n : ℕ) (lines more : List Words)
     → ((s : Reading) → after s (n + 1) (lines ++ more) ≡ and_then (after s (n + 1) lines) (λ t. after t (n + 1 + length lines) more))
     → and_then read (λ s. after s (n + 1) (lines ++ more)) ≡ and_then (and_then read (λ s. after s (n + 1) lines)) (λ t. after t (n + 1 + length lines) more)
 append_behind (Ok s) n lines more h = h s

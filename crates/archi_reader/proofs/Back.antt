@@ -11,17 +11,19 @@ use Rattle.syn_base.specs.Name.{is_name}
 use Rattle.syn_base.specs.Integer.{integer_of}
 use Rattle.syn_base.specs.Limits.{bound_of}
 use Rattle.syn_base.specs.declared.limits.LimitKind.TheVariants.{Operators, Media}
-use Rattle.archi_graph.specs.declared.medium.Medium.{Medium}
-use Rattle.archi_graph.specs.Archi.{are_distinct, occurs_once}
-use Rattle.archi_defs.specs.declared.fault.ArchiError.{ArchiError}
+use Rattle.archi_defs.specs.declared.Medium.{Medium}
+use Rattle.archi_defs.specs.Archi.{are_distinct, occurs_once}
+use Rattle.archi_defs.specs.Refusals.{ArchiRefusal}
 use Rattle.syn_base.specs.Bytes.{Bytes}
-use Rattle.archi_defs.specs.Text.{Reading, start, with_some, up_to, is_above, is_taken, next_line}
-use Rattle.archi_reader.specs.Canonical.{joined, number, kind_word, operator_words, medium_words}
+use Rattle.archi_defs.specs.Text.{Reading, start, up_to, is_taken, next_line}
+use Rattle.archi_reader.specs.Canonical.{joined, kind_word, operator_words, medium_words}
+use Rattle.text_lines.specs.Refusals.{with_some, is_above}
 use Rattle.archi_reader.proofs.Sound.{count_with}
 use Rattle.archi_reader.proofs.Tables.{bytes_eq_self}
 use Rattle.archi_reader.proofs.Splits.{is_word, are_words}
 use Rattle.archi_reader.proofs.Spelled.{name_word, number_word, number_back, described_back}
 use Rattle.archi_reader.proofs.After.{after, then_line}
+use Rattle.text_lines.specs.Text.{count_text}
 
 none_step : (b : Bool) (n m : ℕ) (later : Bool) → n ≡ cond b 1 0 + m → n ≡ 0 → (m ≡ 0 → later ≡ false) → (b || later) ≡ false
 none_step true n m later is none h = absurd (omega (arith, is, none))
@@ -45,7 +47,7 @@ fresh_at xs ys w distinct =
     (or_parts (list_any (bytes_eq w) xs) (list_any (bytes_eq w) ys) (sym (list_any-append (bytes_eq w) xs ys) ∙ none)).0
 
 -- the tests of a line that passes them all
-operator_steps : (named taken many : Bool) (a b c x : Result Reading ArchiError) → named ≡ true → taken ≡ false → many ≡ false
+operator_steps : (named taken many : Bool) (a b c x : Result Reading ArchiRefusal) → named ≡ true → taken ≡ false → many ≡ false
     → (if named then (if taken then a else if many then b else x) else c) ≡ x
 operator_steps named taken many a b c x e f g = rw (e, f, g) refl
 
@@ -55,7 +57,7 @@ operator_read r n version name versioned named new few =
     described_back r n version (codes "operator") (name ∷ []) (and_from (is_word name) true (name_word name named) refl) versioned
     ∙ operator_steps (is_name name) (is_taken r name) (is_above Operators (length r.operators + 1)) _ _ _ _ named new (le-ltb (bound_of Operators) (length r.operators + 1) (omega (arith, few)))
 
-medium_steps : (named : Bool) (f p : Option ℕ) (fixed per : ℕ) (taken many : Bool) (a b c d e : Result Reading ArchiError) (go : ℕ → ℕ → Result Reading ArchiError)
+medium_steps : (named : Bool) (f p : Option ℕ) (fixed per : ℕ) (taken many : Bool) (a b c d e : Result Reading ArchiRefusal) (go : ℕ → ℕ → Result Reading ArchiRefusal)
     → named ≡ true → f ≡ Some fixed → p ≡ Some per → taken ≡ false → many ≡ false
     → (if named then with_some f d (λ x. with_some p e (λ y. if taken then a else if many then b else go x y)) else c) ≡ go fixed per
 medium_steps named f p fixed per taken many a b c d e go h i j k l = rw (h, i, j, k, l) refl
@@ -66,28 +68,28 @@ bare m = record m { stands = [] }
 abbrev pub has_ticks : Medium → Bool
 has_ticks m = nat_le m.fixed 1000000 && nat_le m.per 1000000
 
-pub medium_plain : (name kind : Bytes) (fixed per : ℕ) → is_word name ≡ true → is_word kind ≡ true → is_word (number fixed) ≡ true → is_word (number per) ≡ true
-    → are_words (codes "medium" ∷ name ∷ kind ∷ number fixed ∷ number per ∷ []) ≡ true
+pub medium_plain : (name kind : Bytes) (fixed per : ℕ) → is_word name ≡ true → is_word kind ≡ true → is_word (count_text fixed) ≡ true → is_word (count_text per) ≡ true
+    → are_words (codes "medium" ∷ name ∷ kind ∷ count_text fixed ∷ count_text per ∷ []) ≡ true
 medium_plain name kind fixed per a b c d =
-    and_from (is_word name) _ a (and_from (is_word kind) _ b (and_from (is_word (number fixed)) _ c (and_from (is_word (number per)) true d refl)))
+    and_from (is_word name) _ a (and_from (is_word kind) _ b (and_from (is_word (count_text fixed)) _ c (and_from (is_word (count_text per)) true d refl)))
 
 medium_read : (multi : Bool) (r : Reading) (n version : ℕ) (name : Bytes) (fixed per : ℕ) → r.version ≡ Some version → is_name name ≡ true → nat_le fixed 1000000 ≡ true → nat_le per 1000000 ≡ true
     → is_taken r name ≡ false → length r.media < 16
-    → next_line r n (joined (codes "medium" ∷ name ∷ kind_word multi ∷ number fixed ∷ number per ∷ []))
+    → next_line r n (joined (codes "medium" ∷ name ∷ kind_word multi ∷ count_text fixed ∷ count_text per ∷ []))
     ≡ Ok (record r { media = r.media ++ record { name = name; multi = multi; fixed = fixed; per = per; stands = [] } ∷ []; lines = r.lines ++ n ∷ [] })
 medium_read true r n version name fixed per versioned named f p new few =
     let low = leb-true fixed 1000000 f in
     let low_per = leb-true per 1000000 p in
-    described_back r n version (codes "medium") (name ∷ kind_word true ∷ number fixed ∷ number per ∷ [])
+    described_back r n version (codes "medium") (name ∷ kind_word true ∷ count_text fixed ∷ count_text per ∷ [])
     (medium_plain name (kind_word true) fixed per (name_word name named) refl (number_word fixed (omega (arith, low))) (number_word per (omega (arith, low_per)))) versioned
-    ∙ medium_steps (is_name name) (up_to 1000000 (integer_of (number fixed))) (up_to 1000000 (integer_of (number per))) fixed per (is_taken r name) (is_above Media (length r.media + 1)) _ _ _ _ _ _
+    ∙ medium_steps (is_name name) (up_to 1000000 (integer_of (count_text fixed))) (up_to 1000000 (integer_of (count_text per))) fixed per (is_taken r name) (is_above Media (length r.media + 1)) _ _ _ _ _ _
     named (number_back 1000000 fixed f (omega (arith, low))) (number_back 1000000 per p (omega (arith, low_per))) new (le-ltb (bound_of Media) (length r.media + 1) (omega (arith, few)))
 medium_read false r n version name fixed per versioned named f p new few =
     let low = leb-true fixed 1000000 f in
     let low_per = leb-true per 1000000 p in
-    described_back r n version (codes "medium") (name ∷ kind_word false ∷ number fixed ∷ number per ∷ [])
+    described_back r n version (codes "medium") (name ∷ kind_word false ∷ count_text fixed ∷ count_text per ∷ [])
     (medium_plain name (kind_word false) fixed per (name_word name named) refl (number_word fixed (omega (arith, low))) (number_word per (omega (arith, low_per)))) versioned
-    ∙ medium_steps (is_name name) (up_to 1000000 (integer_of (number fixed))) (up_to 1000000 (integer_of (number per))) fixed per (is_taken r name) (is_above Media (length r.media + 1)) _ _ _ _ _ _
+    ∙ medium_steps (is_name name) (up_to 1000000 (integer_of (count_text fixed))) (up_to 1000000 (integer_of (count_text per))) fixed per (is_taken r name) (is_above Media (length r.media + 1)) _ _ _ _ _ _
     named (number_back 1000000 fixed f (omega (arith, low))) (number_back 1000000 per p (omega (arith, low_per))) new (le-ltb (bound_of Media) (length r.media + 1) (omega (arith, few)))
 
 -- what the first lines say: the version, and the depth where there is one

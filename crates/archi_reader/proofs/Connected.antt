@@ -5,14 +5,16 @@ use Rattle.std.specs.List.{list_any, list_all, position_or_len}
 use Rattle.std.proofs.lemmas.Bool.{and_parts, and_from, or_parts, ltb-true, ltb-false, le-leb, lt-ltb, eqb-false}
 use Rattle.std.proofs.lemmas.List.{length-set, length-map}
 use Rattle.std.proofs.lemmas.List.Sums.{sum_by-set, AllPass-from_list_all}
-use Rattle.archi_graph.specs.declared.medium.Medium.{Medium}
-use Rattle.archi_graph.specs.Archi.{ascends_from, are_distinct, stands_in_all}
 use Rattle.syn_base.specs.Limits.{bound_of}
 use Rattle.syn_base.specs.declared.limits.LimitKind.TheVariants.{Connections}
 use Rattle.syn_base.specs.Bytes.{Bytes}
-use Rattle.archi_defs.specs.Text.{Reading, word, is_above, place_of, medium_names, connect_line, connected, with_stand, no_medium}
+use Rattle.archi_defs.specs.declared.Medium.{Medium}
+use Rattle.archi_defs.specs.Archi.{ascends_from, are_distinct, connections_in}
+use Rattle.archi_defs.specs.Text.{Reading, place_of, medium_names, connect_line, connected, with_stand, no_medium}
+use Rattle.text_lines.specs.Refusals.{is_above}
 use Rattle.archi_reader.specs.Views.{IsSound, is_begun}
 use Rattle.archi_reader.proofs.Sound.{Keeps, keeps_if, keeps_names, keeps_some, when_some}
+use Rattle.text_lines.specs.Text.{word}
 
 with_one_more : (o : ℕ) (ps : List ℕ) → length (with_stand o ps) ≡ length ps + 1
 with_one_more o [] = refl
@@ -89,7 +91,7 @@ module _ (r : Reading) (h : IsSound r) where
       sound new few =
           let room = ltb-false (bound_of Connections) (r.connections + 1) few in
           let one : length after.stands ≡ length before.stands + 1 = with_one_more o before.stands in
-          let all : stands_in_all (slice_set r.media m after) + length before.stands ≡ stands_in_all r.media + length after.stands = sum_by-set (λ x. length x.stands) r.media m after no_medium below in
+          let all : connections_in (slice_set r.media m after) + length before.stands ≡ connections_in r.media + length after.stands = sum_by-set (λ x. length x.stands) r.media m after no_medium below in
           let kept : length (slice_set r.media m after) ≡ length r.media = length-set r.media m after in
           record {
             operators = h.operators;

@@ -11,12 +11,13 @@ use Rattle.std.proofs.lemmas.List.Concat.{flat_map-cons}
 use Rattle.syn_base.specs.Name.{is_name}
 use Rattle.syn_base.specs.Limits.{bound_of}
 use Rattle.syn_base.specs.declared.limits.LimitKind.TheVariants.{Connections}
-use Rattle.archi_graph.specs.declared.medium.Medium.{Medium}
-use Rattle.archi_graph.specs.Archi.{are_distinct, ascends_from, stands_in_all}
-use Rattle.archi_defs.specs.declared.fault.ArchiError.{ArchiError}
+use Rattle.archi_defs.specs.declared.Medium.{Medium}
+use Rattle.archi_defs.specs.Archi.{are_distinct, ascends_from, connections_in, operator_name}
+use Rattle.archi_defs.specs.Refusals.{ArchiRefusal}
 use Rattle.syn_base.specs.Bytes.{Bytes}
-use Rattle.archi_defs.specs.Text.{Reading, start, with_some, place_of, medium_names, is_above, connected, no_medium, with_stand, next_line}
-use Rattle.archi_reader.specs.Canonical.{joined, name_at, connect_words, connections_of}
+use Rattle.archi_defs.specs.Text.{Reading, start, place_of, medium_names, connected, no_medium, with_stand, next_line}
+use Rattle.archi_reader.specs.Canonical.{joined, connect_words, connections_of}
+use Rattle.text_lines.specs.Refusals.{with_some, is_above}
 use Rattle.archi_reader.proofs.Tables.{bytes_eq_self}
 use Rattle.archi_reader.proofs.Places.{first_or, position_cons}
 use Rattle.archi_reader.proofs.Splits.{is_word}
@@ -33,8 +34,8 @@ place_first p (x ∷ xs) ys w none is =
 
 -- each operator is found by its name
 pub record AreFound (operators : List Bytes) : Type 0 where
-  pub place : (o : ℕ) → o < length operators → place_of (name_at operators o) operators ≡ Some o
-  pub named : (o : ℕ) → o < length operators → is_name (name_at operators o) ≡ true
+  pub place : (o : ℕ) → o < length operators → place_of (operator_name operators o) operators ≡ Some o
+  pub named : (o : ℕ) → o < length operators → is_name (operator_name operators o) ≡ true
 
 pub are_found : (operators more : List Bytes) → are_distinct (operators ++ more) ≡ true → list_all is_name operators ≡ true → AreFound operators
 are_found operators more distinct named = record {
@@ -42,9 +43,9 @@ are_found operators more distinct named = record {
   named = λ o below. AllPass-from_list_all is_name operators named o [] below;
 }
   where
-    at : (o : ℕ) → o < length operators → place_of (name_at operators o) operators ≡ Some o
+    at : (o : ℕ) → o < length operators → place_of (operator_name operators o) operators ≡ Some o
     at o below =
-        let w = name_at operators o in
+        let w = operator_name operators o in
         let cut : operators ≡ take o operators ++ w ∷ drop (suc o) operators =
         sym (take-append-drop o operators) ∙ ap (λ l. take o operators ++ l) (drop-cons operators o [] below) in
         let whole : operators ++ more ≡ take o operators ++ w ∷ (drop (suc o) operators ++ more) =
@@ -83,7 +84,7 @@ abbrev pub at_connections : Opening → List Bytes → List Medium → List ℕ 
 at_connections opening operators media lines connections =
     record start { version = Some opening.version; depth = opening.depth; operators = operators; media = media; lines = lines; connections = connections }
 
-pub connect_steps : (a b : Bool) (f g : Option ℕ) (m o : ℕ) (c d e h x : Result Reading ArchiError) (go : ℕ → ℕ → Result Reading ArchiError)
+pub connect_steps : (a b : Bool) (f g : Option ℕ) (m o : ℕ) (c d e h x : Result Reading ArchiRefusal) (go : ℕ → ℕ → Result Reading ArchiRefusal)
     → a ≡ true → b ≡ true → f ≡ Some m → g ≡ Some o → go m o ≡ x
     → (if a then (if b then with_some f e (λ i. with_some g h (λ k. go i k)) else d) else c) ≡ x
 connect_steps a b f g m o c d e h x go p q r s is = rw (p, q, r, s) is
@@ -95,7 +96,7 @@ connect_read r s n version m o medium operator versioned a b at found is =
     described_back r n version (codes "connect") (medium ∷ operator ∷ []) (and_from (is_word medium) _ (name_word medium a) (and_from (is_word operator) true (name_word operator b) refl)) versioned
     ∙ connect_steps (is_name medium) (is_name operator) (place_of medium (medium_names r)) (place_of operator r.operators) m o _ _ _ _ _ _ a b at found is
 
-connected_steps : (twice many : Bool) (a b x : Result Reading ArchiError) → twice ≡ false → many ≡ false → (if twice then a else if many then b else x) ≡ x
+connected_steps : (twice many : Bool) (a b x : Result Reading ArchiRefusal) → twice ≡ false → many ≡ false → (if twice then a else if many then b else x) ≡ x
 connected_steps twice many a b x e f = rw (e, f) refl
 
 -- one connection, at the medium after these
@@ -135,8 +136,8 @@ module _ (opening : Opening) (operators : List Bytes) (lines : List ℕ) (found 
       let y : Medium = record m { stands = front ++ o ∷ [] } in
       let count : c + 1 + length os ≡ c + suc (length os) = omega arith in
       then_line (connect_words operators m.name o) (map (connect_words operators m.name) os) (at_connections opening operators (done ++ x ∷ rest) lines c) (at_connections opening operators (done ++ y ∷ rest) lines (c + 1)) n
-      (connect_read (at_connections opening operators (done ++ x ∷ rest) lines c) _ n opening.version (length done) o m.name (name_at operators o) refl named (found.named o below)
-      (medium_found done rest x new) (found.place o below) (one_connection opening operators done rest x lines c n o (name_at operators o) last.0 last.1 (omega (arith, few))))
+      (connect_read (at_connections opening operators (done ++ x ∷ rest) lines c) _ n opening.version (length done) o m.name (operator_name operators o) refl named (found.named o below)
+      (medium_found done rest x new) (found.place o below) (one_connection opening operators done rest x lines c n o (operator_name operators o) last.0 last.1 (omega (arith, few))))
       ∙ stands_back os (front ++ o ∷ []) done rest m (c + 1) (n + 1) new named both.1 (subst (λ l. ascends_from 0 l ≡ true) (sym (append_assoc front (o ∷ []) os)) ascends) (omega (arith, few))
       ∙ ap₂ (λ (l : List ℕ) (k : ℕ). Ok (at_connections opening operators (done ++ record m { stands = l } ∷ rest) lines k)) (append_assoc front (o ∷ []) os) count
 
@@ -145,8 +146,8 @@ module _ (opening : Opening) (operators : List Bytes) (lines : List ℕ) (found 
   stands_right m = ascends_from 0 m.stands && list_all (λ o. nat_lt o (length operators)) m.stands
 
   pub connections_back : (media done : List Medium) (c n : ℕ)
-      → are_distinct ((operators ++ media_names done) ++ media_names media) ≡ true → list_all is_name (media_names media) ≡ true → list_all stands_right media ≡ true → c + stands_in_all media ≤ 64
-      → after (at_connections opening operators (done ++ map bare media) lines c) n (flat_map (connections_of operators) media) ≡ Ok (at_connections opening operators (done ++ media) lines (c + stands_in_all media))
+      → are_distinct ((operators ++ media_names done) ++ media_names media) ≡ true → list_all is_name (media_names media) ≡ true → list_all stands_right media ≡ true → c + connections_in media ≤ 64
+      → after (at_connections opening operators (done ++ map bare media) lines c) n (flat_map (connections_of operators) media) ≡ Ok (at_connections opening operators (done ++ media) lines (c + connections_in media))
   connections_back [] done c n distinct named right few = ap (λ (k : ℕ). Ok (at_connections opening operators (done ++ []) lines k)) (let e : c ≡ c + 0 = omega arith in e)
   connections_back (m ∷ media) done c n distinct named right few =
       let names = and_parts (is_name m.name) (list_all is_name (media_names media)) named in
@@ -154,11 +155,11 @@ module _ (opening : Opening) (operators : List Bytes) (lines : List ℕ) (found 
       let own = and_parts (ascends_from 0 m.stands) (list_all (λ o. nat_lt o (length operators)) m.stands) rights.0 in
       let new = or_parts (list_any (bytes_eq m.name) operators) (list_any (bytes_eq m.name) (media_names done))
       (sym (list_any-append (bytes_eq m.name) operators (media_names done)) ∙ fresh_at (operators ++ media_names done) (media_names media) m.name distinct) in
-      let all : stands_in_all (m ∷ media) ≡ length m.stands + stands_in_all media = sum_by-cons (λ x. length x.stands) m media in
+      let all : connections_in (m ∷ media) ≡ length m.stands + connections_in media = sum_by-cons (λ x. length x.stands) m media in
       let same : (operators ++ media_names done) ++ m.name ∷ media_names media ≡ (operators ++ media_names (done ++ m ∷ [])) ++ media_names media =
       sym (append_assoc (operators ++ media_names done) (m.name ∷ []) (media_names media))
       ∙ ap (λ (l : List Bytes). l ++ media_names media) (append_assoc operators (media_names done) (m.name ∷ []) ∙ ap (λ (l : List Bytes). operators ++ l) (sym (map-append (λ (x : Medium). x.name) done (m ∷ [])))) in
-      let count : c + length m.stands + stands_in_all media ≡ c + stands_in_all (m ∷ media) = omega (arith, all) in
+      let count : c + length m.stands + connections_in media ≡ c + connections_in (m ∷ media) = omega (arith, all) in
       let r = at_connections opening operators (done ++ bare m ∷ map bare media) lines c in
       let s = at_connections opening operators (done ++ m ∷ map bare media) lines (c + length m.stands) in
       ap (after r n) (flat_map-cons (connections_of operators) m media)

@@ -7,15 +7,16 @@ use Rattle.std.proofs.lemmas.Bool.{and_parts, and_from, eqb-false, ltb-true, lt-
 use Rattle.std.proofs.lemmas.Option.{same_Some}
 use Rattle.std.proofs.lemmas.List.{length_push, map-append, length-set}
 use Rattle.std.proofs.lemmas.List.Folds.{list_all-append}
-use Rattle.text_lines.specs.Text.{words_of, code_of, foreign_place}
+use Rattle.text_lines.specs.Text.{words_of, code_of, foreign_place, word, begins}
 use Rattle.syn_base.specs.Name.{is_name}
 use Rattle.syn_base.specs.Integer.{integer_of}
 use Rattle.syn_base.specs.declared.limits.LimitKind.TheVariants.{Operators, Media, Connections}
-use Rattle.archi_graph.specs.declared.medium.Medium.{Medium}
-use Rattle.archi_graph.specs.Archi.{names_of}
+use Rattle.archi_defs.specs.declared.Medium.{Medium}
+use Rattle.archi_defs.specs.Archi.{names_of}
 use Rattle.archi_defs.specs.declared.text.DurationLine.{DurationLine}
 use Rattle.syn_base.specs.Bytes.{Bytes}
-use Rattle.archi_defs.specs.Text.{Reading, begins, word, up_to, with_some, depth_of, version_of, place_of, medium_names, is_above, is_taken, no_medium, with_stand, version_line, operator_line, medium_line, connect_line, duration_line, depth_line, described_line, line_by, next_line}
+use Rattle.archi_defs.specs.Text.{Reading, up_to, depth_of, version_of, place_of, medium_names, is_taken, no_medium, with_stand, version_line, operator_line, medium_line, connect_line, duration_line, depth_line, described_line, line_by, next_line}
+use Rattle.text_lines.specs.Refusals.{with_some, is_above}
 use Rattle.archi_reader.specs.Durations.{is_given}
 use Rattle.archi_reader.proofs.Sound.{Holds, Keeps, keeps_if, keeps_names, keeps_some, within, all_with}
 use Rattle.archi_reader.proofs.Connected.{names_kept, place_below}

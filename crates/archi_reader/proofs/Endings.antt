@@ -1,37 +1,36 @@
 -- What the whole of a text is.
-use Rattle.std.proofs.Common.{◌≡◌, ℕ, ◌<◌, ◌≤◌, Bool, not, true, false, ◌==◌, List, [], ◌∷◌, length, Option, Some, None, position, refl, sym, ap, ◌∙◌, arith, Result, Ok, Err}
+use Rattle.std.proofs.Common.{◌≡◌, ℕ, ◌<◌, ◌≤◌, Bool, not, true, false, ◌==◌, List, [], ◌∷◌, length, Option, Some, None, position, refl, sym, ap, ◌∙◌, arith, Result, Ok}
 use Rattle.std.specs.Prelude.{nat_le, nat_lt, slice_index_or}
 use Rattle.std.specs.List.{list_all, range_with_len}
 use Rattle.std.proofs.lemmas.Bool.{and_parts, and_from, ltb-true, eqb-false, le-leb}
 use Rattle.std.proofs.lemmas.List.{get_or_default}
 use Rattle.std.proofs.lemmas.List.Sums.{AllPass-from_list_all}
-use Rattle.archi_graph.specs.declared.medium.Medium.{Medium}
-use Rattle.archi_graph.specs.Archi.{is_archi, is_medium, are_bounded, stands_in_all, may_stand, ascends_from, reached_within}
-use Rattle.archi_graph.specs.Routes.{AreOperators}
-use Rattle.archi_defs.specs.declared.fault.ArchiError.{ArchiError}
-use Rattle.archi_defs.specs.declared.fault.ArchiError.TheVariants.{Refused, Limit, OutOfMemory}
+use Rattle.archi_defs.specs.declared.Medium.{Medium}
+use Rattle.archi_defs.specs.Archi.{is_archi, is_medium, are_bounded, may_stand, ascends_from, reached_within, connections_in}
+use Rattle.archi_defs.specs.Routes.{AreOperators}
+use Rattle.archi_defs.specs.Refusals.{ArchiRefusal}
 use Rattle.archi_defs.specs.declared.fault.ArchiCause.TheVariants.{BadMedium, Disconnected}
-use Rattle.archi_defs.specs.Text.{Reading, has_stands, media_are_right, no_medium, refused, apart, all_joined, operator_name, whole, described}
-use Rattle.archi_reader.specs.Given.{Fails, IsStop}
+use Rattle.archi_defs.specs.Text.{Reading, has_stands, media_are_right, no_medium, apart, all_joined, operator_name, whole, described}
+use Rattle.text_lines.specs.Refusals.{refused}
 use Rattle.archi_reader.specs.Views.{IsSound, is_begun}
 use Rattle.archi_reader.proofs.Places.{further, first_or, position_cons, all_pass}
 
 -- the answer by the first medium at which a wrong number of operators stands
-abbrev pub told : {A : Type 0} → Option ℕ → List Medium → List ℕ → Result A ArchiError → Result A ArchiError
+abbrev pub told : {A : Type 0} → Option ℕ → List Medium → List ℕ → Result A ArchiRefusal → Result A ArchiRefusal
 told None media lines go = go
 told (Some k) media lines go = refused (slice_index_or lines k 0) (BadMedium (slice_index_or media k no_medium).name)
 
-told_behind : {A : Type 0} (o : Option ℕ) (m : Medium) (media : List Medium) (l : ℕ) (lines : List ℕ) (go : Result A ArchiError)
+told_behind : {A : Type 0} (o : Option ℕ) (m : Medium) (media : List Medium) (l : ℕ) (lines : List ℕ) (go : Result A ArchiRefusal)
     → told o media lines go ≡ told (further o) (m ∷ media) (l ∷ lines) go
 told_behind None m media l lines go = refl
 told_behind (Some k) m media l lines go = refl
 
-told_without : {A : Type 0} (o : Option ℕ) (m : Medium) (media : List Medium) (go : Result A ArchiError)
+told_without : {A : Type 0} (o : Option ℕ) (m : Medium) (media : List Medium) (go : Result A ArchiRefusal)
     → told o media [] go ≡ told (further o) (m ∷ media) [] go
 told_without None m media go = refl
 told_without (Some k) m media go = refl
 
-pub media_told : {A : Type 0} (media : List Medium) (lines : List ℕ) (go : Result A ArchiError)
+pub media_told : {A : Type 0} (media : List Medium) (lines : List ℕ) (go : Result A ArchiRefusal)
     → media_are_right media lines go ≡ told (position (λ m. not (has_stands m)) media) media lines go
 media_told [] lines go = refl
 media_told {A} (m ∷ media) lines go = by lines (has_stands m) refl (λ ls. media_told media ls go) ∙ ap (λ (o : Option ℕ). told o (m ∷ media) lines go) (sym (position_cons (λ x. not (has_stands x)) m media))
@@ -78,8 +77,8 @@ media_of n (m ∷ media) stands begun =
 bounded : (r : Reading) → IsSound r → (length r.operators == 0) ≡ false → are_bounded r.operators r.media ≡ true
 bounded r s some =
     let more = eqb-false (length r.operators) 0 some in
-    let stands : stands_in_all r.media ≤ 64 = omega (arith, s.stands, s.connections) in
-    and_from _ _ (and_from _ _ (and_from _ _ (le-leb 1 (length r.operators) (omega (arith, more))) (le-leb (length r.operators) 16 s.operators)) (le-leb (length r.media) 16 s.media)) (le-leb (stands_in_all r.media) 64 stands)
+    let stands : connections_in r.media ≤ 64 = omega (arith, s.stands, s.connections) in
+    and_from _ _ (and_from _ _ (and_from _ _ (le-leb 1 (length r.operators) (omega (arith, more))) (le-leb (length r.operators) 16 s.operators)) (le-leb (length r.media) 16 s.media)) (le-leb (connections_in r.media) 64 stands)
 
 -- the architecture of a text that is not refused is valid
 pub valid : (r : Reading) → IsSound r → (length r.operators == 0) ≡ false → position (λ m. not (has_stands m)) r.media ≡ None → apart r ≡ None
@@ -105,12 +104,6 @@ pub whole_fine : (r : Reading) (n version : ℕ) → r.version ≡ Some version 
     → whole r n ≡ Ok (described r version)
 whole_fine r n version v some right joined =
     rw (v, some) (media_told r.media r.lines (all_joined r version (apart r)) ∙ ap (λ (x : Option ℕ). told x r.media r.lines (all_joined r version (apart r))) right ∙ ap (all_joined r version) joined)
-
--- a refusal that was asked for
-pub stopped : {A : Type 0} (e asked : ArchiError) (read : Result A ArchiError) → IsStop e asked → read ≡ Err asked → Fails e read
-stopped (Refused f) asked read is h = h ∙ ap (λ (x : ArchiError). Err x) is
-stopped (Limit f) asked read is h = h ∙ ap (λ (x : ArchiError). Err x) is
-stopped OutOfMemory asked read is h = tt
 
 -- an element that was read
 pub read_at : {X : Type 0} (xs : List X) (k : ℕ) (x d : X) → k < length xs → x ≡ slice_index_or xs k x → slice_index_or xs k d ≡ x

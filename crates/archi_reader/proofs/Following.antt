@@ -4,12 +4,12 @@ use Rattle.std.specs.Prelude.{codes}
 use Rattle.std.specs.List.{list_any}
 use Rattle.std.specs.Str.{bytes_eq}
 use Rattle.syn_base.specs.Integer.{integer_of}
-use Rattle.text_lines.specs.Text.{words_of, code_of, foreign_place}
-use Rattle.archi_defs.specs.declared.fault.ArchiError.{ArchiError}
-use Rattle.archi_defs.specs.declared.fault.ArchiError.TheVariants.{Refused, Limit, OutOfMemory}
+use Rattle.text_lines.specs.Text.{words_of, code_of, foreign_place, word, begins}
+use Rattle.archi_defs.specs.Refusals.{ArchiError, ArchiRefusal}
 use Rattle.syn_base.specs.Bytes.{Bytes}
-use Rattle.archi_defs.specs.Text.{Described, Reading, and_then, begins, with_some, word, up_to, place_of, duration_line, described_line, line_by, next_line, rest_of}
-use Rattle.archi_reader.specs.Given.{Fails}
+use Rattle.archi_defs.specs.Text.{Described, Reading, up_to, place_of, duration_line, described_line, line_by, next_line, rest_of}
+use Rattle.text_lines.specs.Refusals.{and_then, with_some, Fails}
+use Rattle.text_lines.proofs.Refusals.{fails_through}
 use Rattle.archi_reader.specs.Views.{IsSound}
 use Rattle.archi_reader.proofs.Sound.{Holds, Keeps, keeps_if, keeps_names, keeps_some, sound_depth, sound_version, sound_operator, sound_medium}
 use Rattle.archi_reader.proofs.Connected.{sound_connect}
@@ -22,11 +22,11 @@ sound_duration r n ws h =
       holds = record { operators = h.operators; media = h.media; lines = h.lines; stands = h.stands; connections = h.connections; begun = h.begun; depth = h.depth; distinct = h.distinct };
     }))))))
 
-pub either : {P : Reading → Type 0} (b : Bool) (x y : Result Reading ArchiError) → Keeps P x → Keeps P y → Keeps P (if b then x else y)
+pub either : {P : Reading → Type 0} (b : Bool) (x y : Result Reading ArchiRefusal) → Keeps P x → Keeps P y → Keeps P (if b then x else y)
 either true x y h k = h
 either false x y h k = k
 
-pub by_version : {P : Reading → Type 0} (version : Option ℕ) {first : Result Reading ArchiError} {later : ℕ → Result Reading ArchiError}
+pub by_version : {P : Reading → Type 0} (version : Option ℕ) {first : Result Reading ArchiRefusal} {later : ℕ → Result Reading ArchiRefusal}
     → Keeps P first → ((v : ℕ) → Keeps P (later v)) → Keeps P (with_some version first later)
 by_version None h k = h
 by_version (Some v) h k = k v
@@ -49,19 +49,14 @@ sound_line r n line None h =
 pub sound_next : (r new : Reading) (n : ℕ) (line : Bytes) → IsSound r → next_line r n line ≡ Ok new → IsSound new
 sound_next r new n line h is = let kept : Keeps IsSound (next_line r n line) = sound_line r n line (foreign_place line) h in subst (Holds IsSound) is kept.holds
 
-abbrev behind : ℕ → List Bytes → Result Reading ArchiError → Result Described ArchiError
+abbrev behind : ℕ → List Bytes → Result Reading ArchiRefusal → Result Described ArchiRefusal
 behind n lines read = and_then read (λ after. rest_of after (n + 1) lines)
 
 pub line_read : (r new : Reading) (n : ℕ) (line : Bytes) (all lines : List Bytes) → all ≡ line ∷ lines → next_line r n line ≡ Ok new → rest_of r n all ≡ rest_of new (n + 1) lines
 line_read r new n line all lines e is = ap (rest_of r n) e ∙ ap (behind n lines) is
 
-fails_behind : (e : ArchiError) (n : ℕ) (lines : List Bytes) (read : Result Reading ArchiError) → Fails e read → Fails e (behind n lines read)
-fails_behind (Refused f) n lines read h = ap (behind n lines) h
-fails_behind (Limit f) n lines read h = ap (behind n lines) h
-fails_behind OutOfMemory n lines read h = tt
-
 -- A line that is refused.
-pub line_refused : (e : ArchiError) (r : Reading) (n : ℕ) (line : Bytes) (all lines : List Bytes) (whole : Result Described ArchiError)
+pub line_refused : (e : ArchiError) (r : Reading) (n : ℕ) (line : Bytes) (all lines : List Bytes) (whole : Result Described ArchiRefusal)
     → all ≡ line ∷ lines → Fails e (next_line r n line) → rest_of r n all ≡ whole → Fails e whole
 line_refused e r n line all lines whole is h same =
-    subst (Fails e) (sym (ap (rest_of r n) is) ∙ same) (fails_behind e n lines (next_line r n line) h)
+    subst (Fails e) (sym (ap (rest_of r n) is) ∙ same) (fails_through e (next_line r n line) (λ after. rest_of after (n + 1) lines) h)

@@ -3,8 +3,8 @@ use Rattle.std.proofs.Common.{◌≡◌, ℕ, suc, ◌+◌, Bool, not, cond, ◌
 use Rattle.std.specs.List.{list_any, prefix_len, position_or_len}
 use Rattle.std.specs.Str.{bytes_eq}
 use Rattle.std.proofs.lemmas.List.Folds.{list_any-append}
-use Rattle.archi_graph.specs.declared.medium.Medium.{Medium}
 use Rattle.syn_base.specs.Bytes.{Bytes}
+use Rattle.archi_defs.specs.declared.Medium.{Medium}
 use Rattle.archi_defs.specs.Text.{place_of}
 
 prefix_len-map : {X Y : Type 0} (f : X → Y) (p : Y → Bool) (xs : List X) → prefix_len p (map f xs) ≡ prefix_len (λ x. p (f x)) xs

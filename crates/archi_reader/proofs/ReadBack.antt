@@ -7,17 +7,18 @@ use Rattle.std.proofs.lemmas.List.{length-map}
 use Rattle.std.proofs.lemmas.List.Folds.{list_all-append}
 use Rattle.std.proofs.lemmas.List.Sums.{sum_by-cons}
 use Rattle.std.proofs.lemmas.List.Concat.{flat_map-cons}
-use Rattle.text_lines.specs.Text.{lines_of}
+use Rattle.text_lines.specs.Text.{lines_of, count_text}
 use Rattle.syn_base.specs.Name.{is_name}
-use Rattle.archi_graph.specs.declared.medium.Medium.{Medium}
-use Rattle.archi_graph.specs.Archi.{ascends_from, is_depth, stands_in_all}
+use Rattle.archi_defs.specs.declared.Medium.{Medium}
+use Rattle.archi_defs.specs.Archi.{ascends_from, is_depth, connections_in, operator_name}
 use Rattle.archi_defs.specs.declared.text.DurationLine.{DurationLine}
-use Rattle.archi_defs.specs.declared.fault.ArchiError.{ArchiError}
+use Rattle.archi_defs.specs.Refusals.{ArchiRefusal}
 use Rattle.archi_defs.specs.declared.fault.ArchiCause.TheVariants.{BadLine, BadNumber}
 use Rattle.syn_base.specs.Bytes.{Bytes}
-use Rattle.archi_defs.specs.Text.{Described, Reading, start, and_then, next_line, rest_of, description_of, whole_of, whole, has_stands, all_joined, apart, medium_names, described, depth_or_one, refused, with_some}
+use Rattle.archi_defs.specs.Text.{Described, Reading, start, next_line, rest_of, description_of, whole_of, whole, has_stands, all_joined, apart, medium_names, described, depth_or_one}
+use Rattle.text_lines.specs.Refusals.{and_then, refused, with_some}
 use Rattle.archi_reader.specs.Views.{IsSound, is_begun}
-use Rattle.archi_reader.specs.Canonical.{Words, joined, text_of, number, kind_word, version_words, depth_words, depth_lines, opening_lines, operator_words, medium_words, name_at, connect_words, connections_of, duration_words, canonical_lines, canonical_text}
+use Rattle.archi_reader.specs.Canonical.{Words, joined, text_of, kind_word, version_words, depth_words, depth_lines, opening_lines, operator_words, medium_words, connect_words, connections_of, duration_words, canonical_lines, canonical_text}
 use Rattle.archi_reader.proofs.Endings.{told, media_told, whole_fine}
 use Rattle.archi_reader.proofs.Following.{sound_next}
 use Rattle.archi_reader.proofs.Splits.{is_word, are_words, text_back}
@@ -41,7 +42,7 @@ ends : (lines : List Bytes) (r : Reading) (n : ℕ) (d : Described) → IsSound 
 ends [] r n d sound spelled h = record { last = r; sound = sound; spelled = spelled; counted = omega arith; number_of_end = n; whole_is = h }
 ends (line ∷ lines) r n d sound spelled h = by (next_line r n line) refl h (λ t a b k. ends lines t (n + 1) d a b k)
   where
-    by : (read : Result Reading ArchiError) → next_line r n line ≡ read → and_then read (λ t. rest_of t (n + 1) lines) ≡ Ok d
+    by : (read : Result Reading ArchiRefusal) → next_line r n line ≡ read → and_then read (λ t. rest_of t (n + 1) lines) ≡ Ok d
         → ((t : Reading) → IsSound t → IsSpelled t → rest_of t (n + 1) lines ≡ Ok d → Ends t (length lines) d) → Ends r (suc (length lines)) d
     by (Ok t) e k go =
         let f = follows_next r t n line spelled e in
@@ -57,11 +58,11 @@ record IsWhole (r : Reading) (d : Described) : Type 0 where
   pub reached : apart r ≡ None
   pub is : described r d.version ≡ d
 
-passed : (b : Bool) (e : ArchiError) (go : Result Described ArchiError) (d : Described) → (if b then Err e else go) ≡ Ok d → (b ≡ false) × (go ≡ Ok d)
+passed : (b : Bool) (e : ArchiRefusal) (go : Result Described ArchiRefusal) (d : Described) → (if b then Err e else go) ≡ Ok d → (b ≡ false) × (go ≡ Ok d)
 passed true e go d h = cc
 passed false e go d h = (refl, h)
 
-told_none : (o : Option ℕ) (media : List Medium) (lines : List ℕ) (go : Result Described ArchiError) (d : Described) → told o media lines go ≡ Ok d → (o ≡ None) × (go ≡ Ok d)
+told_none : (o : Option ℕ) (media : List Medium) (lines : List ℕ) (go : Result Described ArchiRefusal) (d : Described) → told o media lines go ≡ Ok d → (o ≡ None) × (go ≡ Ok d)
 told_none None media lines go d h = (refl, h)
 told_none (Some k) media lines go d h = cc
 
@@ -91,7 +92,7 @@ is_whole r n d h = by r.version refl h
     by (Some version) e k = whole_is_of r version d e k
 
 -- lines after others
-chained : (lines more : List Words) (r s : Reading) (t : Result Reading ArchiError) (n : ℕ) → after r n lines ≡ Ok s → after s (n + length lines) more ≡ t → after r n (lines ++ more) ≡ t
+chained : (lines more : List Words) (r s : Reading) (t : Result Reading ArchiRefusal) (n : ℕ) → after r n lines ≡ Ok s → after s (n + length lines) more ≡ t → after r n (lines ++ more) ≡ t
 chained lines more r s t n first second = after_append lines more r n ∙ ap (λ read. and_then read (λ u. after u (n + length lines) more)) first ∙ second
 
 all_both : {X : Type 0} (test : X → Bool) (xs ys : List X) → list_all test xs ≡ true → list_all test ys ≡ true → list_all test (xs ++ ys) ≡ true
@@ -125,8 +126,8 @@ module _ (operators : List Bytes) (found : AreFound operators) where
   stands_plain name [] named h = refl
   stands_plain name (o ∷ os) named h =
       let both = and_parts (nat_lt o (length operators)) (list_all (λ p. nat_lt p (length operators)) os) h in
-      let own = name_word (name_at operators o) (found.named o (ltb-true o (length operators) both.0)) in
-      and_from (are_words (connect_words operators name o)) _ (and_from (is_word name) _ (name_word name named) (and_from (is_word (name_at operators o)) true own refl)) (stands_plain name os named both.1)
+      let own = name_word (operator_name operators o) (found.named o (ltb-true o (length operators) both.0)) in
+      and_from (are_words (connect_words operators name o)) _ (and_from (is_word name) _ (name_word name named) (and_from (is_word (operator_name operators o)) true own refl)) (stands_plain name os named both.1)
 
   connections_plain : (media : List Medium) → list_all is_name (media_names media) ≡ true → list_all (λ m. ascends_from 0 m.stands && list_all (λ o. nat_lt o (length operators)) m.stands) media ≡ true
       → list_all are_words (flat_map (connections_of operators) media) ≡ true
@@ -145,9 +146,9 @@ module _ (operators : List Bytes) (found : AreFound operators) where
       let ticks = and_parts (is_name d.def && nat_lt d.operator (length operators)) (nat_le d.ticks 1000000000) both.0 in
       let parts = and_parts (is_name d.def) (nat_lt d.operator (length operators)) ticks.0 in
       let low = leb-true d.ticks 1000000000 ticks.1 in
-      let own = name_word (name_at operators d.operator) (found.named d.operator (ltb-true d.operator (length operators) parts.1)) in
+      let own = name_word (operator_name operators d.operator) (found.named d.operator (ltb-true d.operator (length operators) parts.1)) in
       and_from (are_words (duration_words operators d)) _
-      (and_from (is_word d.def) _ (name_word d.def parts.0) (and_from (is_word (name_at operators d.operator)) _ own (and_from (is_word (number d.ticks)) true (number_word d.ticks (omega (arith, low))) refl)))
+      (and_from (is_word d.def) _ (name_word d.def parts.0) (and_from (is_word (operator_name operators d.operator)) _ own (and_from (is_word (count_text d.ticks)) true (number_word d.ticks (omega (arith, low))) refl)))
       (durations_plain durations both.1)
 
 -- the two parts of what begun media are
@@ -186,11 +187,11 @@ opening_back version depth o (inr e) is deep =
     small : depth ≤ 4
     small = leb-true depth 4 (and_parts (nat_le 1 depth) (nat_le depth 4) deep).1
 
-    own : is_word (number depth) ≡ true
+    own : is_word (count_text depth) ≡ true
     own = number_word depth (omega (arith, small))
 
     words : are_words (depth_words depth) ≡ true
-    words = and_from (is_word (number depth)) true own refl
+    words = and_from (is_word (count_text depth)) true own refl
 
     plain : list_all are_words (opening_lines 2 depth) ≡ true
     plain = and_from (are_words (depth_words depth)) true words refl
@@ -200,8 +201,8 @@ opening_back version depth o (inr e) is deep =
 
     both : next_line first 2 (joined (depth_words depth)) ≡ Ok (at_operators (record { version = 2; depth = Some depth }) [])
     both =
-        described_back first 2 2 (codes "depth") (number depth ∷ []) words refl
-        ∙ ap (λ (x : Option ℕ). with_some x (refused 2 (BadNumber (number depth))) (λ (k : ℕ). Ok (at_operators (record { version = 2; depth = Some k }) []))) (depth_back depth deep (omega (arith, small)))
+        described_back first 2 2 (codes "depth") (count_text depth ∷ []) words refl
+        ∙ ap (λ (x : Option ℕ). with_some x (refused 2 (BadNumber (count_text depth))) (λ (k : ℕ). Ok (at_operators (record { version = 2; depth = Some k }) []))) (depth_back depth deep (omega (arith, small)))
 
     read : after start 1 (opening_lines 2 depth) ≡ Ok (at_operators (record { version = 2; depth = Some depth }) [])
     read =
@@ -245,15 +246,15 @@ module _ (version : ℕ) (t : Reading) (sound : IsSound t) (spelled : IsSpelled 
   media_lines n =
       media_back opening t.media [] t.operators [] n (rw append-nil sound.distinct) names.1 (begun_ticks (length t.operators) t.media sound.begun) (omega (arith, sound.media))
 
-  read_lines : (all : List ℕ) × (after start 1 all_lines ≡ Ok (at_durations opening t.operators t.media all (0 + stands_in_all t.media) t.durations))
+  read_lines : (all : List ℕ) × (after start 1 all_lines ≡ Ok (at_durations opening t.operators t.media all (0 + connections_in t.media) t.durations))
   read_lines =
       let m = media_lines (1 + length to_operators) in (
         m.0,
-        chained to_connections (map (duration_words t.operators) t.durations) start (at_connections opening t.operators t.media m.0 (0 + stands_in_all t.media)) _ 1
+        chained to_connections (map (duration_words t.operators) t.durations) start (at_connections opening t.operators t.media m.0 (0 + connections_in t.media)) _ 1
             (chained to_media (flat_map (connections_of t.operators) t.media) start (at_media opening t.operators (map bare t.media) m.0) _ 1
             (chained to_operators (map medium_words t.media) start (at_operators opening t.operators) _ 1 operator_lines m.1)
             (connections_back opening t.operators m.0 found t.media [] 0 _ (rw append-nil sound.distinct) names.1 (begun_stands (length t.operators) t.media sound.begun) (omega (arith, sound.stands, sound.connections))))
-            (durations_back opening t.operators t.media m.0 (0 + stands_in_all t.media) found t.durations [] _ spelled.new spelled.durations),
+            (durations_back opening t.operators t.media m.0 (0 + connections_in t.media) found t.durations [] _ spelled.new spelled.durations),
       )
 
   lines_plain : list_all are_words all_lines ≡ true
@@ -270,7 +271,7 @@ module _ (version : ℕ) (t : Reading) (sound : IsSound t) (spelled : IsSpelled 
   back d n h same =
       let w = is_whole t n d h in
       let r = read_lines in
-      let s = at_durations opening t.operators t.media r.0 (0 + stands_in_all t.media) t.durations in
+      let s = at_durations opening t.operators t.media r.0 (0 + connections_in t.media) t.durations in
       ap (rest_of start 1) (text_back all_lines lines_plain)
       ∙ rest_after all_lines start 1
       ∙ ap (λ read. and_then read (λ u. whole u (1 + length all_lines))) r.1
@@ -279,14 +280,14 @@ module _ (version : ℕ) (t : Reading) (sound : IsSound t) (spelled : IsSpelled 
       ∙ ap (λ (v : ℕ). Ok (described t v)) (sym same)
       ∙ ap (λ x. Ok x) w.is
 
-connections_count : (operators : List Bytes) (media : List Medium) → length (flat_map (connections_of operators) media) ≡ stands_in_all media
+connections_count : (operators : List Bytes) (media : List Medium) → length (flat_map (connections_of operators) media) ≡ connections_in media
 connections_count operators [] = refl
 connections_count operators (m ∷ media) =
     let own : length (connections_of operators m) ≡ length m.stands = search length-map in
     ap length (flat_map-cons (connections_of operators) m media) ∙ length-append (connections_of operators m) (flat_map (connections_of operators) media)
     ∙ ap₂ ◌+◌ own (connections_count operators media) ∙ sym (sum_by-cons (λ x. length x.stands) m media)
 
-canonical_count : (version : ℕ) (t : Reading) → t.version ≡ Some version → stands_in_all t.media ≡ t.connections
+canonical_count : (version : ℕ) (t : Reading) → t.version ≡ Some version → connections_in t.media ≡ t.connections
     → length (canonical_lines version (record { operators = t.operators; media = t.media; depth = depth_or_one t.depth }) t.durations) ≤ weight t + length (depth_lines version (depth_or_one t.depth))
 canonical_count version t versioned stands =
     let o = opening_lines version (depth_or_one t.depth) in

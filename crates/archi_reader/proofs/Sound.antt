@@ -12,35 +12,37 @@ use Rattle.syn_base.specs.Integer.{integer_of}
 use Rattle.syn_base.specs.Limits.{bound_of}
 use Rattle.syn_base.specs.declared.integer.NumFault.{NumFault}
 use Rattle.syn_base.specs.declared.limits.LimitKind.TheVariants.{Operators, Media}
-use Rattle.archi_graph.specs.declared.medium.Medium.{Medium}
-use Rattle.archi_graph.specs.Archi.{ascends_from, are_distinct, is_depth, occurs_once}
-use Rattle.archi_defs.specs.declared.fault.ArchiError.{ArchiError}
+use Rattle.archi_defs.specs.declared.Medium.{Medium}
+use Rattle.archi_defs.specs.Archi.{ascends_from, are_distinct, is_depth, occurs_once}
+use Rattle.archi_defs.specs.Refusals.{ArchiRefusal}
 use Rattle.archi_defs.specs.declared.fault.ArchiCause.TheVariants.{BadName}
 use Rattle.syn_base.specs.Bytes.{Bytes}
-use Rattle.archi_defs.specs.Text.{refused, Reading, word, up_to, with_some, all_names, medium_names, is_above, is_taken, depth_of, version_of, operator_line, medium_line, version_line, depth_line}
+use Rattle.archi_defs.specs.Text.{Reading, up_to, all_names, medium_names, is_taken, depth_of, version_of, operator_line, medium_line, version_line, depth_line}
+use Rattle.text_lines.specs.Refusals.{refused, with_some, is_above}
 use Rattle.archi_reader.specs.Views.{IsSound, is_begun}
 use Rattle.archi_reader.proofs.Tables.{bytes_eq_sym, bytes_eq_self}
+use Rattle.text_lines.specs.Text.{word}
 
 -- what holds of a reading that is not refused
-abbrev pub Holds : (Reading → Type 0) → Result Reading ArchiError → Type 0
+abbrev pub Holds : (Reading → Type 0) → Result Reading ArchiRefusal → Type 0
 Holds P (Ok s) = P s
 Holds P (Err e) = Unit {0}
 
-pub record Keeps (P : Reading → Type 0) (read : Result Reading ArchiError) : Type 0 where
+pub record Keeps (P : Reading → Type 0) (read : Result Reading ArchiRefusal) : Type 0 where
   pub holds : Holds P read
 
-pub keeps_if : {P : Reading → Type 0} (b : Bool) (e : ArchiError) (go : Result Reading ArchiError) → (b ≡ false → Keeps P go) → Keeps P (if b then Err e else go)
+pub keeps_if : {P : Reading → Type 0} (b : Bool) (e : ArchiRefusal) (go : Result Reading ArchiRefusal) → (b ≡ false → Keeps P go) → Keeps P (if b then Err e else go)
 keeps_if true e go h = record { holds = tt }
 keeps_if false e go h = h refl
 
-pub keeps_names : {P : Reading → Type 0} (n : ℕ) (w : Bytes) (ws : List Bytes) (go : Result Reading ArchiError) → (is_name w ≡ true → Keeps P (all_names n ws go)) → Keeps P (all_names n (w ∷ ws) go)
+pub keeps_names : {P : Reading → Type 0} (n : ℕ) (w : Bytes) (ws : List Bytes) (go : Result Reading ArchiRefusal) → (is_name w ≡ true → Keeps P (all_names n ws go)) → Keeps P (all_names n (w ∷ ws) go)
 keeps_names {P} n w ws go h = by (is_name w) h
   where
     by : (b : Bool) → (b ≡ true → Keeps P (all_names n ws go)) → Keeps P (if b then all_names n ws go else refused n (BadName w))
     by true k = k refl
     by false k = record { holds = tt }
 
-pub keeps_some : {P : Reading → Type 0} {A : Type 0} (o : Option A) (e : ArchiError) (go : A → Result Reading ArchiError) → ((x : A) → o ≡ Some x → Keeps P (go x)) → Keeps P (with_some o (Err e) go)
+pub keeps_some : {P : Reading → Type 0} {A : Type 0} (o : Option A) (e : ArchiRefusal) (go : A → Result Reading ArchiRefusal) → ((x : A) → o ≡ Some x → Keeps P (go x)) → Keeps P (with_some o (Err e) go)
 keeps_some None e go h = record { holds = tt }
 keeps_some (Some x) e go h = h x refl
 

@@ -5,15 +5,16 @@ use Rattle.std.specs.Fmt.{decimal}
 use Rattle.std.proofs.lemmas.Bool.{and_parts, and_from, leb-true, le-leb, eqb-true, ne_eqb}
 use Rattle.std.proofs.lemmas.Fmt.{digits_decimal, decimal_nonempty}
 use Rattle.std.proofs.lemmas.Str.Parse.{IsNumeralModel, numerals_by_fold}
-use Rattle.text_lines.specs.Text.{words_of, is_hash, is_foreign}
+use Rattle.text_lines.specs.Text.{words_of, is_hash, is_foreign, count_text}
 use Rattle.syn_base.specs.Name.{is_name, is_name_byte, is_digit, is_letter, begins_name}
 use Rattle.syn_base.specs.Integer.{integer_of, number_after}
 use Rattle.syn_base.proofs.Decimal as integers
-use Rattle.archi_graph.specs.Archi.{is_depth}
-use Rattle.archi_defs.specs.declared.fault.ArchiError.{ArchiError}
+use Rattle.archi_defs.specs.Archi.{is_depth}
+use Rattle.archi_defs.specs.Refusals.{ArchiRefusal}
 use Rattle.syn_base.specs.Bytes.{Bytes}
-use Rattle.archi_defs.specs.Text.{Reading, described_line, version_line, line_by, next_line, up_to, depth_of, with_some}
-use Rattle.archi_reader.specs.Canonical.{Words, joined, number}
+use Rattle.archi_defs.specs.Text.{Reading, described_line, version_line, line_by, next_line, up_to, depth_of}
+use Rattle.archi_reader.specs.Canonical.{Words, joined}
+use Rattle.text_lines.specs.Refusals.{with_some}
 use Rattle.archi_reader.proofs.Splits.{is_plain, is_word, are_words, plain, joined_back, joined_bytes, code_back, foreign_back}
 
 or_true : (x y : Bool) → (x || y) ≡ true → (x ≡ true) ⊎ (y ≡ true)
@@ -76,11 +77,11 @@ digits_word [] h some = absurd (omega arith)
 digits_word (b ∷ bs) h some = all_plain is_digit (λ c k. name_byte-plain c (digit-name_byte c k)) (b ∷ bs) h
 
 -- a number is a word
-pub number_word : (n : ℕ) → n < 2 ^ 63 → is_word (number n) ≡ true
+pub number_word : (n : ℕ) → n < 2 ^ 63 → is_word (count_text n) ≡ true
 number_word n small = let h : n < 2 ^ 64 = omega (arith, small) in digits_word (decimal n) (digits_decimal own n h) (decimal_nonempty n h)
 
 -- a number within its bounds is read back
-pub number_back : (most n : ℕ) → nat_le n most ≡ true → n < 2 ^ 63 → up_to most (integer_of (number n)) ≡ Some n
+pub number_back : (most n : ℕ) → nat_le n most ≡ true → n < 2 ^ 63 → up_to most (integer_of (count_text n)) ≡ Some n
 number_back most n low small =
     ap (up_to most) (integers.reads_back (pos n) (record { sfits = omega (arith, small) })) ∙ ap (λ b. if b then Some n else None) low
 
@@ -91,7 +92,7 @@ no_foreign : (ws : Words) → are_words ws ≡ true → list_all (λ b. not (is_
 no_foreign ws h = joined_bytes (λ b. not (is_foreign b)) refl (λ b p. ap not ((plain b p).no_foreign)) ws h
 
 -- the line of these words
-abbrev by_words : Reading → ℕ → Words → Result Reading ArchiError
+abbrev by_words : Reading → ℕ → Words → Result Reading ArchiRefusal
 by_words r n ws = if length ws == 0 then Ok r else with_some r.version (version_line r n ws) (λ version. described_line r n version ws)
 
 words_read : (r : Reading) (n : ℕ) (ws : Words) → are_words ws ≡ true → next_line r n (joined ws) ≡ by_words r n ws
@@ -116,6 +117,6 @@ version_back r n w ws h is =
     ∙ ap (λ (o : Option ℕ). with_some o (version_line r n (w ∷ ws)) (λ v. described_line r n v (w ∷ ws))) is
 
 -- a depth is read back
-pub depth_back : (n : ℕ) → is_depth n ≡ true → n < 2 ^ 63 → depth_of (integer_of (number n)) ≡ Some n
+pub depth_back : (n : ℕ) → is_depth n ≡ true → n < 2 ^ 63 → depth_of (integer_of (count_text n)) ≡ Some n
 depth_back n deep small =
     ap depth_of (integers.reads_back (pos n) (record { sfits = omega (arith, small) })) ∙ ap (λ b. if b then Some n else None) deep

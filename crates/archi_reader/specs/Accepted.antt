@@ -1,7 +1,7 @@
 -- What an accepted text describes.
 use Rattle.std.specs.Prelude.{◌≡◌, IsTrue, Ok}
 use Rattle.syn_base.specs.Bytes.{Bytes}
-use Rattle.archi_graph.specs.Archi.{is_archi, is_depth}
+use Rattle.archi_defs.specs.Archi.{is_archi, is_depth}
 use Rattle.archi_defs.specs.Text.{Described, description_of}
 
 -- a described architecture is one

@@ -1,27 +1,12 @@
 -- The canonical text of an architecture and its durations, of a version.
-use Rattle.std.specs.Prelude.{
-  ℕ,
-  Bool,
-  true,
-  false,
-  ◌==◌,
-  if◌then◌else◌,
-  List,
-  [],
-  ◌∷◌,
-  ◌++◌,
-  map,
-  slice_index_or,
-  codes,
-  pos,
-}
+use Rattle.std.specs.Prelude.{ℕ, Bool, true, false, ◌==◌, if◌then◌else◌, List, [], ◌∷◌, ◌++◌, map, codes}
 use Rattle.std.specs.List.{flat_map}
-use Rattle.std.specs.Fmt.{signed_decimal}
-use Rattle.archi_graph.specs.declared.medium.Medium.{Medium}
-use Rattle.archi_graph.specs.Archi.{Architecture}
+use Rattle.archi_defs.specs.declared.Medium.{Medium}
+use Rattle.archi_defs.specs.Archi.{Architecture, operator_name}
 use Rattle.archi_defs.specs.declared.text.DurationLine.{DurationLine}
 use Rattle.syn_base.specs.Bytes.{Bytes}
 use Rattle.archi_defs.specs.Text.{Described}
+use Rattle.text_lines.specs.Text.{count_text}
 
 -- a line, as its words
 abbrev pub Words : Type 0
@@ -38,10 +23,6 @@ abbrev pub text_of : List Words → Bytes
 text_of [] = []
 text_of (ws ∷ lines) = joined ws ++ 10 ∷ text_of lines
 
--- The word of a number, in decimal.
-abbrev pub number : ℕ → Bytes
-number n = signed_decimal (pos n)
-
 -- there are versions 1 and 2
 abbrev pub version_word : ℕ → Bytes
 version_word version = if version == 1 then codes "1" else codes "2"
@@ -52,7 +33,7 @@ version_words version = codes "architecture" ∷ version_word version ∷ []
 
 -- The words of the line of the depth.
 abbrev pub depth_words : ℕ → Words
-depth_words depth = codes "depth" ∷ number depth ∷ []
+depth_words depth = codes "depth" ∷ count_text depth ∷ []
 
 -- a text of version 1 has no depth
 abbrev pub depth_lines : ℕ → ℕ → List Words
@@ -73,15 +54,11 @@ kind_word false = codes "p2p"
 
 -- The words of the line of a medium.
 abbrev pub medium_words : Medium → Words
-medium_words m = codes "medium" ∷ m.name ∷ kind_word m.multi ∷ number m.fixed ∷ number m.per ∷ []
-
--- The name of operator o, empty if there is none.
-abbrev pub name_at : List Bytes → ℕ → Bytes
-name_at operators o = slice_index_or operators o []
+medium_words m = codes "medium" ∷ m.name ∷ kind_word m.multi ∷ count_text m.fixed ∷ count_text m.per ∷ []
 
 -- The words of the line that connects operator o to the medium of this name.
 abbrev pub connect_words : List Bytes → Bytes → ℕ → Words
-connect_words operators medium o = codes "connect" ∷ medium ∷ name_at operators o ∷ []
+connect_words operators medium o = codes "connect" ∷ medium ∷ operator_name operators o ∷ []
 
 -- the connections of a medium, by operator
 abbrev pub connections_of : List Bytes → Medium → List Words
@@ -89,7 +66,7 @@ connections_of operators m = map (connect_words operators m.name) m.stands
 
 -- The words of the line of a duration.
 abbrev pub duration_words : List Bytes → DurationLine → Words
-duration_words operators d = codes "duration" ∷ d.def ∷ name_at operators d.operator ∷ number d.ticks ∷ []
+duration_words operators d = codes "duration" ∷ d.def ∷ operator_name operators d.operator ∷ count_text d.ticks ∷ []
 
 -- the version, the depth, operators, media, connections by medium and then operator, and durations as given
 abbrev pub canonical_lines : ℕ → Architecture → List DurationLine → List Words

@@ -1,8 +1,8 @@
 -- What contracts see of a word and of the reader, and what the reader keeps.
 use Rattle.std.specs.Prelude.{◌≡◌, ℕ, ◌≤◌, true, ◌&&◌, nat_lt, nat_le, Bool, length}
 use Rattle.std.specs.List.{list_all}
-use Rattle.archi_graph.specs.declared.medium.Medium.{Medium}
-use Rattle.archi_graph.specs.Archi.{ascends_from, are_distinct, is_depth, names_of, stands_in_all}
+use Rattle.archi_defs.specs.declared.Medium.{Medium}
+use Rattle.archi_defs.specs.Archi.{ascends_from, are_distinct, is_depth, names_of, connections_in}
 use Rattle.archi_defs.specs.Text.{Reading, depth_or_one}
 use Rattle.archi_reader.specs.declared.reader.Reader.{Reader}
 
@@ -29,7 +29,7 @@ pub record IsSound (r : Reading) : Type 0 where
   pub operators : length r.operators ≤ 16
   pub media : length r.media ≤ 16
   pub lines : length r.lines ≡ length r.media
-  pub stands : stands_in_all r.media ≡ r.connections
+  pub stands : connections_in r.media ≡ r.connections
   pub connections : r.connections ≤ 64
   pub begun : list_all (is_begun (length r.operators)) r.media ≡ true
   pub depth : is_depth (depth_or_one r.depth) ≡ true

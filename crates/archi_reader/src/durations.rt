@@ -3,7 +3,7 @@
 ghost use Rattle.std.specs.Prelude.{◌≡◌, ◌<◌, []};
 ghost use Rattle.syn_base.specs.Limits.{bound_of};
 ghost use Rattle.syn_base.specs.declared.limits.LimitKind.TheVariants.{Operators};
-ghost use Rattle.archi_reader.specs.Given.{Adds, Has};
+ghost use Rattle.text_lines.specs.Refusals.{Adds, Has};
 ghost use Rattle.archi_reader.specs.Durations.{is_given, AreGiven};
 
 use archi_defs::{ArchiError, DurationLine};

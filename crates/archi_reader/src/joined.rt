@@ -3,10 +3,10 @@ ghost use Rattle.std.specs.Prelude.{◌≡◌, ◌<◌, ◌≤◌, not, length, 
 ghost use Rattle.std.specs.List.{range_with_len};
 ghost use Rattle.syn_base.specs.Limits.{bound_of};
 ghost use Rattle.syn_base.specs.declared.limits.LimitKind.TheVariants.{Operators};
-ghost use Rattle.archi_graph.specs.Archi.{reached_within};
-ghost use Rattle.archi_graph.specs.Routes.{AreOperators};
+ghost use Rattle.archi_defs.specs.Archi.{reached_within};
+ghost use Rattle.archi_defs.specs.Routes.{AreOperators};
 
-use archi_graph::{Medium, reached};
+use archi_defs::{Medium, reached};
 
 /// The least of this many operators to which no route leads from operator 0.
 pub fn apart(operators: usize, media: &[Medium]) -> Option<usize>

@@ -4,7 +4,7 @@ ghost use Rattle.std.specs.List.{list_any};
 ghost use Rattle.std.specs.Str.{bytes_eq};
 ghost use Rattle.archi_defs.specs.Text.{place_of};
 
-use archi_graph::Medium;
+use archi_defs::Medium;
 use syn_base::Name;
 
 /// The number of the operator of this name.

@@ -1,11 +1,12 @@
 //! The canonical text, printed for the command `check`.
 ghost use Rattle.std.specs.Prelude.{◌≡◌, ◌++◌, [], ◌∷◌, OnOk, OnErr, IfOk, map};
 ghost use Rattle.std.specs.List.{flat_map};
+ghost use Rattle.archi_defs.specs.Archi.{operator_name};
 ghost use Rattle.archi_defs.specs.Text.{described_by};
-ghost use Rattle.archi_reader.specs.Canonical.{canonical_text, joined, text_of, number, depth_lines, opening_lines, operator_words, version_word, kind_word, medium_words, name_at, connect_words, connections_of, duration_words};
+ghost use Rattle.archi_reader.specs.Canonical.{canonical_text, joined, text_of, depth_lines, opening_lines, operator_words, version_word, kind_word, medium_words, connect_words, connections_of, duration_words};
+ghost use Rattle.text_lines.specs.Text.{count_text};
 
-use archi_defs::{ArchiText, DurationLine};
-use archi_graph::Medium;
+use archi_defs::{ArchiText, DurationLine, Medium};
 use std::alloc::Global;
 use syn_base::{Name, OutOfMemory, print_int};
 
@@ -118,7 +119,7 @@ fn print_medium(medium: &Medium, text: &mut Vec<u8>) -> Result<(), OutOfMemory>
 
 /// Appends both numbers of a medium's ticks.
 fn put_ticks(fixed: u32, per: u32, text: &mut Vec<u8>) -> Result<(), OutOfMemory>
-    ensures { OnOk result (text.new.items ≡ text.old.items ++ joined (number fixed ∷ number per ∷ [])) }
+    ensures { OnOk result (text.new.items ≡ text.old.items ++ joined (count_text fixed ∷ count_text per ∷ [])) }
 {
     put_number(fixed, text)?;
     put(b" ", text)?;
@@ -169,7 +170,7 @@ fn print_stands(
 
 /// The name of an operator, nothing where there is none of this number.
 fn name_at(operators: &[Name], operator: u32) -> &[u8]
-    ensures { result.now ≡ name_at operators.now operator }
+    ensures { result.now ≡ operator_name operators.now operator }
 {
     let at = operator as usize;
     if at < operators.len() {
@@ -231,7 +232,7 @@ fn print_duration(
 
 /// Appends a number in its shortest form.
 fn put_number(value: u32, text: &mut Vec<u8>) -> Result<(), OutOfMemory>
-    ensures { OnOk result (text.new.items ≡ text.old.items ++ number value) }
+    ensures { OnOk result (text.new.items ≡ text.old.items ++ count_text value) }
 {
     print_int(i64::from(value), text)
 }

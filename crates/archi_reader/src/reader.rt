@@ -3,7 +3,8 @@ ghost use Rattle.std.specs.Prelude.{◌<◌, ◌≤◌, length};
 ghost use Rattle.syn_base.specs.Limits.{most_in_text};
 ghost use Rattle.text_lines.specs.Text.{lines_of};
 ghost use Rattle.archi_defs.specs.Text.{description_of, start, version_line, operator_line, medium_line, connect_line, duration_line, depth_line, connected, described_line, next_line};
-ghost use Rattle.archi_reader.specs.Given.{Steps, Gives, MakesReader};
+ghost use Rattle.archi_reader.specs.Given.{Gives, MakesReader};
+ghost use Rattle.text_lines.specs.Refusals.{Steps};
 ghost use Rattle.archi_reader.specs.Views.{reading, IsSound};
 
 use crate::durations::Durations;
@@ -11,8 +12,7 @@ use crate::fault::{bad_line, bad_name, bad_number, duplicate, not_text, unknown}
 use crate::names::{is_taken, medium_at, operator_at};
 use crate::stands::{has_stand, with_stand};
 use crate::word::{read_depth, read_up_to, read_version};
-use archi_defs::{ArchiError, ArchiText};
-use archi_graph::Medium;
+use archi_defs::{ArchiError, ArchiText, Medium};
 use std::alloc::Global;
 use syn_base::{Items, LimitKind, Name};
 use text_lines::{TableKey, Words, check_limit, read_name};

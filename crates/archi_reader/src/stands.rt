@@ -2,10 +2,9 @@
 ghost use Rattle.std.specs.Prelude.{◌≡◌, ◌≤◌, ◌==◌, length, nat_lt, position};
 ghost use Rattle.std.specs.List.{list_any, position_or_len};
 ghost use Rattle.archi_defs.specs.Text.{with_stand};
-ghost use Rattle.archi_reader.specs.Given.{Has};
+ghost use Rattle.text_lines.specs.Refusals.{Has};
 
-use archi_defs::ArchiError;
-use archi_graph::Medium;
+use archi_defs::{ArchiError, Medium};
 use std::alloc::Global;
 use syn_base::Items;
 

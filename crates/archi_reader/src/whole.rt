@@ -1,18 +1,19 @@
 //! The check of a text as a whole, after its last line. `read_archi` ends with it.
 ghost use Rattle.std.specs.Prelude.{◌≡◌, ◌<◌, not, true, length, position, IfSome, OnOk};
-ghost use Rattle.archi_graph.specs.Archi.{is_archi};
+ghost use Rattle.archi_defs.specs.Archi.{is_archi};
 ghost use Rattle.archi_defs.specs.declared.fault.ArchiCause.TheVariants.{BadMedium, Disconnected};
 ghost use Rattle.archi_defs.specs.Text.{whole, has_stands};
-ghost use Rattle.archi_reader.specs.Given.{Checks, Gives, IsStop, stop};
+ghost use Rattle.archi_reader.specs.Given.{Checks, Gives};
+ghost use Rattle.text_lines.specs.Refusals.{IsStop, refusal};
 ghost use Rattle.archi_reader.specs.Views.{reading, IsSound};
 
-use crate::fault::{bad_line, refusal};
+use crate::fault::bad_line;
 use crate::joined::apart;
 use crate::reader::Reader;
-use archi_defs::{ArchiCause, ArchiError, ArchiText};
-use archi_graph::{Archi, Medium};
+use archi_defs::{Archi, ArchiCause, ArchiError, ArchiText, Medium};
 use std::alloc::Global;
 use syn_base::Name;
+use text_lines::refused_at;
 
 /// This many operators as its kind asks for stand at the medium.
 fn has_stands(medium: &Medium) -> bool
@@ -28,20 +29,20 @@ fn has_stands(medium: &Medium) -> bool
 
 /// The refusal of a medium at which too few operators stand, or too many, at its line.
 fn bad_medium(alloc: Global, line: u32, name: &Name) -> ArchiError
-    ensures { IsStop result (stop line (BadMedium name.now)) }
+    ensures { IsStop result (refusal line (BadMedium name.now)) }
 {
     match name.copy(alloc) {
-        Ok(name) => refusal(line, ArchiCause::BadMedium(name)),
+        Ok(name) => refused_at(line, ArchiCause::BadMedium(name)),
         Err(_) => ArchiError::OutOfMemory,
     }
 }
 
 /// The refusal of two operators that no route joins.
 fn disconnected(alloc: Global, first: &Name, other: &Name) -> ArchiError
-    ensures { IsStop result (stop 0 (Disconnected first.now other.now)) }
+    ensures { IsStop result (refusal 0 (Disconnected first.now other.now)) }
 {
     match (first.copy(alloc), other.copy(alloc)) {
-        (Ok(first), Ok(other)) => refusal(0, ArchiCause::Disconnected(first, other)),
+        (Ok(first), Ok(other)) => refused_at(0, ArchiCause::Disconnected(first, other)),
         _ => ArchiError::OutOfMemory,
     }
 }
@@ -68,7 +69,7 @@ impl<'a> Reader<'a> {
             return Err(bad_line(number));
         };
         if operators.is_empty() {
-            return Err(refusal(0, ArchiCause::NoOperator));
+            return Err(refused_at(0, ArchiCause::NoOperator));
         }
         if let Some(wrong) = wrong_medium(media) {
             return Err(bad_medium(alloc, self.lines[wrong], &media[wrong].name));

@@ -5,12 +5,12 @@ use Rattle.std.specs.List.{list_any, range_with_len}
 use Rattle.std.specs.Str.{bytes_eq}
 use Rattle.std.proofs.lemmas.Option.{slice_get-get_or}
 use Rattle.syn_base.specs.Bytes.{Bytes}
-use Rattle.algo_text.specs.declared.definition.Def.{Def}
-use Rattle.algo_text.specs.declared.definition.Edge.{Edge}
-use Rattle.algo_text.specs.declared.definition.Reference.{Reference}
+use Rattle.algo_rules.specs.declared.Def.{Def}
+use Rattle.algo_rules.specs.declared.Edge.{Edge}
+use Rattle.algo_rules.specs.declared.Reference.{Reference}
+use Rattle.algo_rules.specs.ReferenceLinks.{Links, reaches_itself}
 use Rattle.algo_rules.specs.Links.{definition}
 use Rattle.algo_rules.specs.Graphs.{is_delay, leads_to, names_of, place, same_owner, source_of, sources}
-use Rattle.reference_graph.specs.Links.{Links, reaches_itself}
 use Rattle.body_check.specs.Cycles.{flagged}
 
 module _ (ds : List Def) (rs : List Reference) where

@@ -6,12 +6,12 @@ use Rattle.std.proofs.lemmas.Bool.{cases_lt}
 use Rattle.std.proofs.lemmas.List.{length-map}
 use Rattle.std.proofs.lemmas.List.Elements.{All-append}
 use Rattle.syn_base.specs.Bytes.{Bytes}
-use Rattle.algo_text.specs.declared.definition.Edge.{Edge}
-use Rattle.algo_text.specs.declared.fault.AlgoError.{AlgoError}
+use Rattle.algo_rules.specs.declared.Edge.{Edge}
+use Rattle.algo_rules.specs.declared.AlgoError.{AlgoError}
+use Rattle.algo_rules.specs.Answer.{AreInside}
 use Rattle.algo_rules.specs.declared.ports.Ports.{Ports}
 use Rattle.algo_rules.specs.Links.{first_of}
 use Rattle.algo_rules.specs.Graphs.{dependences, edge_fault, edge_faults, joins, leads_to, place, port_len, source_of, sources}
-use Rattle.reference_graph.specs.Answer.{AreInside}
 use Rattle.body_check.specs.Parts.{of, own, named, givers}
 use Rattle.body_check.specs.declared.parts.GraphParts.{GraphParts}
 use Rattle.body_check.proofs.NamesFound.{no_reference}

@@ -2,11 +2,11 @@
 use Rattle.std.proofs.Common.{◌≡◌, ℕ, zero, suc, ◌+◌, ◌<◌, List, [], ◌∷◌, ◌++◌, length, map, drop, get_or, sym, ◌∙◌, subst, ap, arith, add-one, drop-cons}
 use Rattle.std.specs.Prelude.{Option, Some, None, Err, slice_get, slice_index_or}
 use Rattle.std.proofs.lemmas.List.{get_or_default}
-use Rattle.body_lang.specs.declared.expression.Port.{Port}
-use Rattle.algo_text.specs.declared.definition.Def.{Def}
-use Rattle.algo_text.specs.declared.definition.Edge.{Edge}
-use Rattle.algo_text.specs.declared.definition.Reference.{Reference}
-use Rattle.algo_text.specs.declared.fault.AlgoError.{AlgoError}
+use Rattle.algo_rules.specs.declared.Port.{Port}
+use Rattle.algo_rules.specs.declared.Def.{Def}
+use Rattle.algo_rules.specs.declared.Edge.{Edge}
+use Rattle.algo_rules.specs.declared.Reference.{Reference}
+use Rattle.algo_rules.specs.declared.AlgoError.{AlgoError}
 use Rattle.algo_rules.specs.declared.ports.Ports.{Ports}
 use Rattle.algo_rules.specs.Links.{definition, first_of}
 use Rattle.algo_rules.specs.Ports.{no_ports, ports_of}

@@ -1,8 +1,8 @@
 -- The definitions of cases at their places, one by one.
 use Rattle.std.proofs.Common.{◌≡◌, ℕ, zero, suc, ◌<◌, List, [], ◌∷◌, ◌++◌, length, map, get_or, refl, ap, sym, ◌∙◌, arith}
-use Rattle.algo_text.specs.declared.definition.Case.{Case}
-use Rattle.algo_text.specs.declared.definition.Def.{Def}
 use Rattle.syn_base.specs.Bytes.{Bytes}
+use Rattle.algo_rules.specs.declared.Case.{Case}
+use Rattle.algo_rules.specs.declared.Def.{Def}
 use Rattle.algo_rules.specs.Placed.{IsPlaced, ArePlaced}
 use Rattle.algo_rules.specs.Ports.{no_ports, ports_of}
 use Rattle.algo_rules.specs.declared.ports.Ports.{Ports}

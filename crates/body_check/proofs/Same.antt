@@ -1,6 +1,6 @@
 -- Lists of ports of different lengths.
 use Rattle.std.proofs.Common.{◌≡◌, Bool, true, false, ◌&&◌, suc, List, [], ◌∷◌, length, refl, ap}
-use Rattle.body_lang.specs.declared.expression.Port.{Port}
+use Rattle.algo_rules.specs.declared.Port.{Port}
 use Rattle.algo_rules.specs.Ports.{same_ports}
 
 and_false : (b c : Bool) → c ≡ false → (b && c) ≡ false

@@ -3,11 +3,11 @@ use Rattle.std.proofs.Common.{◌≡◌, ℕ, suc, ◌+◌, ◌*◌, ◌<◌, Bo
 use Rattle.std.specs.Prelude.{Option, Some, None, Err, if◌then◌else◌}
 use Rattle.std.proofs.lemmas.Bool.{lt-ltb}
 use Rattle.std.proofs.lemmas.List.{take_more}
-use Rattle.body_lang.specs.declared.expression.Port.{Port}
 use Rattle.syn_base.specs.Bytes.{Bytes}
-use Rattle.algo_text.specs.declared.definition.Edge.{Edge}
-use Rattle.algo_text.specs.declared.fault.AlgoError.{AlgoError}
-use Rattle.algo_text.specs.declared.fault.AlgoError.TheVariants.{Refused, Limit, TooLarge, OutOfMemory}
+use Rattle.algo_rules.specs.declared.Port.{Port}
+use Rattle.algo_rules.specs.declared.Edge.{Edge}
+use Rattle.algo_rules.specs.declared.AlgoError.{AlgoError}
+use Rattle.algo_rules.specs.declared.AlgoError.TheVariants.{Refused, Limit, TooLarge, OutOfMemory}
 use Rattle.algo_rules.specs.Links.{first_of}
 use Rattle.algo_rules.specs.Ports.{number_of}
 use Rattle.algo_rules.specs.Graphs.{place, port_len, is_connected, edge_fault, edge_faults, joins}

@@ -1,8 +1,8 @@
 -- The bounds that the reader of texts keeps.
 use Rattle.std.specs.Prelude.{◌≤◌, ◌/◌, List, length, All}
-use Rattle.body_lang.specs.declared.expression.Port.{Port}
-use Rattle.algo_text.specs.declared.definition.Body.{Body}
-use Rattle.algo_text.specs.declared.definition.Body.TheVariants.{Constant, Delay, Repeat}
+use Rattle.algo_rules.specs.declared.Port.{Port}
+use Rattle.algo_rules.specs.declared.Body.{Body}
+use Rattle.algo_rules.specs.declared.Body.TheVariants.{Constant, Delay, Repeat}
 use Rattle.algo_rules.specs.declared.ports.Ports.{Ports}
 
 -- At most 64 elements in each port.

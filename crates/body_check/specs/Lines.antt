@@ -1,11 +1,11 @@
 -- What a frontier line uses and how long its outer ports are.
 use Rattle.std.specs.Prelude.{ℕ, Bool, List, Option, Some, None, if◌then◌else◌}
 use Rattle.std.specs.List.{flat_map}
-use Rattle.body_lang.specs.declared.expression.Port.{Port}
-use Rattle.algo_text.specs.declared.definition.FrontierLine.{FrontierLine}
-use Rattle.algo_text.specs.declared.fault.AlgoError.{AlgoError}
-use Rattle.algo_text.specs.declared.fault.AlgoCause.TheVariants.{BadRepeat}
 use Rattle.syn_base.specs.Bytes.{Bytes}
+use Rattle.algo_rules.specs.declared.Port.{Port}
+use Rattle.algo_rules.specs.declared.FrontierLine.{FrontierLine}
+use Rattle.algo_rules.specs.declared.AlgoError.{AlgoError}
+use Rattle.algo_rules.specs.declared.AlgoCause.TheVariants.{BadRepeat}
 use Rattle.algo_rules.specs.Links.{fault}
 use Rattle.algo_rules.specs.Ports.{has_port, len_of}
 use Rattle.algo_rules.specs.Frontiers.{used_by, too_long}

@@ -21,14 +21,15 @@ use Rattle.std.specs.Prelude.{
   ◌==◌,
 }
 use Rattle.std.specs.List.{All}
-use Rattle.body_lang.specs.declared.expression.Port.{Port}
 use Rattle.syn_base.specs.Bytes.{Bytes}
-use Rattle.algo_text.specs.declared.definition.Edge.{Edge}
-use Rattle.algo_text.specs.declared.fault.AlgoError.{AlgoError}
-use Rattle.algo_text.specs.declared.fault.AlgoCause.TheVariants.{UnknownName, WrongLength, TwiceConnected}
+use Rattle.algo_rules.specs.declared.Port.{Port}
+use Rattle.algo_rules.specs.declared.Edge.{Edge}
+use Rattle.algo_rules.specs.declared.AlgoError.{AlgoError}
+use Rattle.algo_rules.specs.declared.AlgoCause.TheVariants.{UnknownName, WrongLength, TwiceConnected}
+use Rattle.algo_rules.specs.Words.{end_word}
 use Rattle.algo_rules.specs.Links.{fault}
 use Rattle.algo_rules.specs.Ports.{no_ports, number_of}
-use Rattle.algo_rules.specs.Graphs.{place, is_connected, written}
+use Rattle.algo_rules.specs.Graphs.{place, is_connected}
 use Rattle.body_check.specs.Parts.{named}
 use Rattle.body_check.specs.declared.parts.GraphParts.{GraphParts}
 
@@ -64,9 +65,9 @@ pub record HasRows (g : GraphParts) : Type 0 where
 
 -- An edge between ports of these lengths, if they are there, into an end that is marked or not.
 abbrev pub edge_by : Bool → Edge → Option ℕ → Option ℕ → Option AlgoError
-edge_by is_twice e None to = fault e.line (UnknownName (written e.from))
-edge_by is_twice e (Some n) None = fault e.line (UnknownName (written e.to))
+edge_by is_twice e None to = fault e.line (UnknownName (end_word e.from))
+edge_by is_twice e (Some n) None = fault e.line (UnknownName (end_word e.to))
 edge_by is_twice e (Some n) (Some m) =
-    if not (n == m) then fault e.line (WrongLength (written e.to)) else
-    if is_twice then fault e.line (TwiceConnected (written e.to)) else
+    if not (n == m) then fault e.line (WrongLength (end_word e.to)) else
+    if is_twice then fault e.line (TwiceConnected (end_word e.to)) else
     None

@@ -1,7 +1,7 @@
 -- A graph with the definitions that its references name.
 use Rattle.std.specs.Prelude.{List, map, Option}
-use Rattle.body_lang.specs.declared.expression.Port.{Port}
 use Rattle.syn_base.specs.Bytes.{Bytes}
+use Rattle.algo_rules.specs.declared.Port.{Port}
 use Rattle.algo_rules.specs.declared.ports.Ports.{Ports}
 use Rattle.algo_rules.specs.Ports.{ports_of}
 use Rattle.algo_rules.specs.Graphs as graphs

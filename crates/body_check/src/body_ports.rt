@@ -6,9 +6,7 @@ ghost use Rattle.body_check.specs.Bounds.{HasShortPorts, IsBounded};
 ghost use Rattle.syn_base.specs.Name.{is_name};
 
 use crate::lookup::len_of;
-use algo_rules::Ports;
-use algo_text::{Body, Frontier, FrontierLine, Output};
-use body_lang::Port;
+use algo_rules::{Body, Frontier, FrontierLine, Output, Port, Ports};
 use std::alloc::Global;
 use syn_base::{Items, Name, OutOfMemory};
 

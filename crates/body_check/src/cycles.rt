@@ -2,18 +2,17 @@
 ghost use Rattle.std.specs.Prelude.{◌≡◌, ◌≤◌, ◌<◌, ◌++◌, ◌&&◌, IfOk, Some, None, length, map};
 ghost use Rattle.std.specs.List.{list_any};
 ghost use Rattle.std.specs.Str.{bytes_eq};
+ghost use Rattle.algo_rules.specs.Answer.{AreInside};
+ghost use Rattle.algo_rules.specs.ReferenceLinks.{numbers, reaches_itself};
 ghost use Rattle.algo_rules.specs.Graphs.{cycle_fault, dependences, is_delay, names_of, same_owner, source_of, sources};
 ghost use Rattle.algo_rules.specs.Links.{definition};
 ghost use Rattle.algo_rules.specs.Placed.{Checks};
-ghost use Rattle.reference_graph.specs.Answer.{AreInside};
-ghost use Rattle.reference_graph.specs.Links.{numbers, reaches_itself};
 ghost use Rattle.body_check.specs.Cycles.{flagged};
 ghost use Rattle.body_check.specs.Parts.{IsPlacedGraph};
 
 use crate::graph_fault::cycle;
 use crate::parts::{GraphParts, find_reference};
-use algo_text::{AlgoError, Body, Def, Reference};
-use reference_graph::reaching;
+use algo_rules::{AlgoError, Body, Def, Reference, reaching};
 use std::alloc::Global;
 use syn_base::{Items, Name, OutOfMemory};
 

@@ -9,7 +9,7 @@ ghost use Rattle.body_check.specs.Parts.{IsPlacedGraph, givers, of, own, takers}
 use crate::graph_fault::{twice, unknown, wrong_length};
 use crate::marks::{is_marked, mark};
 use crate::parts::GraphParts;
-use algo_text::{AlgoError, Edge};
+use algo_rules::{AlgoError, Edge};
 use std::alloc::Global;
 
 impl<'a> GraphParts<'a> {

@@ -4,7 +4,7 @@ ghost use Rattle.algo_rules.specs.Frontiers.{too_long};
 ghost use Rattle.algo_rules.specs.Links.{fault};
 ghost use Rattle.algo_rules.specs.Placed.{Checks};
 
-use algo_text::{AlgoCause, AlgoError, AlgoFault};
+use algo_rules::{AlgoCause, AlgoError, AlgoFault};
 use syn_base::{LimitFault, LimitKind};
 
 /// The refusal of a line.

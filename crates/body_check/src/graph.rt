@@ -6,7 +6,7 @@ ghost use Rattle.algo_rules.specs.Placed.{ArePlaced, Checks};
 ghost use Rattle.algo_rules.specs.Ports.{no_ports, ports_of};
 
 use crate::parts::GraphParts;
-use algo_text::AlgoError;
+use algo_rules::AlgoError;
 use std::alloc::Global;
 
 /// Whether the edges of a graph join what they may, each input has one, and no reference depends on itself.

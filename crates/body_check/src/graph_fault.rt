@@ -1,11 +1,11 @@
 //! The refusals of a graph, each with the end or the names that it tells, or want of memory for them.
 ghost use Rattle.std.specs.Prelude.{◌≡◌, ◌++◌, ◌∷◌, IfOk};
-ghost use Rattle.algo_text.specs.declared.fault.AlgoCause.TheVariants.{UnknownName, WrongLength, TwiceConnected, Unconnected, Cycle};
+ghost use Rattle.algo_rules.specs.declared.AlgoCause.TheVariants.{UnknownName, WrongLength, TwiceConnected, Unconnected, Cycle};
+ghost use Rattle.algo_rules.specs.Returned.{Tells};
+ghost use Rattle.algo_rules.specs.Words.{end_word};
 ghost use Rattle.algo_rules.specs.Links.{fault};
-ghost use Rattle.algo_rules.specs.Graphs.{written};
-ghost use Rattle.algo_text.specs.Returned.{Tells};
 
-use algo_text::{AlgoCause, AlgoError, AlgoFault, End};
+use algo_rules::{AlgoCause, AlgoError, AlgoFault, End};
 use std::alloc::Global;
 use syn_base::{Items, Name, OutOfMemory};
 
@@ -28,7 +28,7 @@ fn joined(alloc: Global, owner: &[u8], port: &[u8]) -> Result<Items<u8>, OutOfMe
 
 /// An end as it is written: a port, or a reference, a dot and its port.
 fn written(alloc: Global, end: &End) -> Result<Items<u8>, OutOfMemory>
-    ensures { IfOk result (λ w. w ≡ written end.now) }
+    ensures { IfOk result (λ w. w ≡ end_word end.now) }
 {
     match &end.owner {
         None => Ok(Items::new(Vec::from_slice(alloc, end.port.as_bytes())?)),
@@ -38,7 +38,7 @@ fn written(alloc: Global, end: &End) -> Result<Items<u8>, OutOfMemory>
 
 /// The refusal of an end of an edge that is not there.
 pub fn unknown(alloc: Global, line: u32, end: &End) -> AlgoError
-    ensures { Tells result (fault line (UnknownName (written end.now))) }
+    ensures { Tells result (fault line (UnknownName (end_word end.now))) }
 {
     match written(alloc, end) {
         Ok(word) => refusal(line, AlgoCause::UnknownName(word)),
@@ -48,7 +48,7 @@ pub fn unknown(alloc: Global, line: u32, end: &End) -> AlgoError
 
 /// The refusal of an edge between unequal lengths, which tells its target.
 pub fn wrong_length(alloc: Global, line: u32, end: &End) -> AlgoError
-    ensures { Tells result (fault line (WrongLength (written end.now))) }
+    ensures { Tells result (fault line (WrongLength (end_word end.now))) }
 {
     match written(alloc, end) {
         Ok(word) => refusal(line, AlgoCause::WrongLength(word)),
@@ -58,7 +58,7 @@ pub fn wrong_length(alloc: Global, line: u32, end: &End) -> AlgoError
 
 /// The refusal of a second edge into its target.
 pub fn twice(alloc: Global, line: u32, end: &End) -> AlgoError
-    ensures { Tells result (fault line (TwiceConnected (written end.now))) }
+    ensures { Tells result (fault line (TwiceConnected (end_word end.now))) }
 {
     match written(alloc, end) {
         Ok(word) => refusal(line, AlgoCause::TwiceConnected(word)),

@@ -4,7 +4,7 @@ ghost use Rattle.algo_rules.specs.Ports.{len_of};
 ghost use Rattle.body_check.specs.Bounds.{AreShort};
 ghost use Rattle.body_check.specs.Lines.{found_len};
 
-use body_lang::Port;
+use algo_rules::Port;
 use syn_base::Name;
 
 /// The length of the port of a name, if there is one.

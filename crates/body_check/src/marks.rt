@@ -4,8 +4,7 @@ ghost use Rattle.body_check.specs.Marks.{mark_at, marked, spot, spot_in};
 ghost use Rattle.body_check.specs.Parts.{IsPlacedGraph};
 
 use crate::parts::{GraphParts, find_port, find_reference};
-use algo_text::End;
-use body_lang::Port;
+use algo_rules::{End, Port};
 use std::alloc::Global;
 use syn_base::OutOfMemory;
 

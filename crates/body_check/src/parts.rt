@@ -4,9 +4,7 @@ ghost use Rattle.algo_rules.specs.Graphs.{place, port_len};
 ghost use Rattle.algo_rules.specs.Ports.{number_of, no_ports};
 ghost use Rattle.body_check.specs.Parts.{named, givers, takers, IsPlacedGraph};
 
-use algo_rules::Ports;
-use algo_text::{Def, Edge, End, Reference};
-use body_lang::Port;
+use algo_rules::{Def, Edge, End, Port, Ports, Reference};
 
 /// A graph, with the definitions of its text.
 #[derive(Clone, Copy)]

@@ -1,7 +1,7 @@
 //! The check of a repetition.
 ghost use Rattle.std.specs.Prelude.{◌≡◌, ℕ, ◌≤◌, ◌&&◌, not, IfSome};
 ghost use Rattle.std.specs.List.{list_all};
-ghost use Rattle.algo_text.specs.Among.{is_among};
+ghost use Rattle.algo_rules.specs.Among.{is_among};
 ghost use Rattle.algo_rules.specs.Frontiers.{used_by, frontier_fault, repeat_fault};
 ghost use Rattle.algo_rules.specs.Placed.{Checks};
 ghost use Rattle.algo_rules.specs.Ports.{has_port};
@@ -10,9 +10,7 @@ ghost use Rattle.body_check.specs.Lines.{all_used, len_where, fault_by};
 
 use crate::frontier_fault::{check_len, refusal};
 use crate::lookup::port_len;
-use algo_rules::Ports;
-use algo_text::{AlgoCause, AlgoError, Frontier, FrontierLine};
-use body_lang::Port;
+use algo_rules::{AlgoCause, AlgoError, Frontier, FrontierLine, Port, Ports};
 use syn_base::Name;
 
 /// Whether the lines of a repetition at `line` use the ports of its body rightly. Line by line,

@@ -6,9 +6,7 @@ ghost use Rattle.algo_rules.specs.Placed.{Checks, ArePlaced};
 ghost use Rattle.algo_rules.specs.Ports.{no_ports, ports_of, same_ports};
 
 use crate::frontier_fault::refusal;
-use algo_rules::Ports;
-use algo_text::{AlgoCause, AlgoError, Case, Def};
-use body_lang::Port;
+use algo_rules::{AlgoCause, AlgoError, Case, Def, Port, Ports};
 use syn_base::Name;
 
 /// A switch, with the definitions of its text.

@@ -9,8 +9,7 @@ ghost use Rattle.body_check.specs.Parts.{IsPlacedGraph, of, own};
 use crate::graph_fault::{open_input, open_output};
 use crate::marks::is_marked;
 use crate::parts::GraphParts;
-use algo_text::{AlgoError, Reference};
-use body_lang::Port;
+use algo_rules::{AlgoError, Port, Reference};
 use std::alloc::Global;
 
 impl<'a> GraphParts<'a> {

@@ -7,7 +7,7 @@ use Rattle.std.proofs.lemmas.List.{take-replicate, drop-replicate, take-append-d
 use Rattle.std.proofs.lemmas.List.Sums.{sum_by-cons}
 use Rattle.syn_base.specs.Rows.{cut}
 use Rattle.syn_base.proofs.Cut.{vector-at, vector_inside}
-use Rattle.body_lang.specs.Expr.{zeros}
+use Rattle.syn_base.specs.Vectors.{zeros}
 
 pub length-cut : (lens : List ℕ) (row : List ℤ) → length (cut lens row) ≡ length lens
 length-cut [] row = refl

@@ -1,22 +1,5 @@
 -- Expressions as plain data, and their value.
-use Rattle.std.specs.Prelude.{
-  ℕ,
-  ◌<◌,
-  ℤ,
-  pos,
-  negsuc,
-  ◌+ℤ◌,
-  List,
-  [],
-  ◌∷◌,
-  ◌++◌,
-  zero,
-  suc,
-  if◌then◌else◌,
-  slice_index_or,
-  map,
-  replicate,
-}
+use Rattle.std.specs.Prelude.{ℕ, ◌<◌, ℤ, pos, negsuc, ◌+ℤ◌, List, [], ◌∷◌, if◌then◌else◌, slice_index_or, map}
 use Rattle.std.specs.Ordering.{int_eq}
 use Rattle.syn_base.specs.declared.arithmetic.Op.{Op}
 use Rattle.syn_base.specs.declared.arithmetic.Op.TheVariants.{Neg}
@@ -31,6 +14,8 @@ use Rattle.body_lang.specs.declared.expression.Expr.TheVariants.{
   Apply',
   Select',
 }
+use Rattle.syn_base.specs.Vectors.{Vector, Values, vector_at, zeros}
+use Rattle.syn_base.specs.Numbers.{numbers_below}
 
 -- An expression, whatever memory holds it.
 pub data Expr : Type 0 where
@@ -51,18 +36,6 @@ view (SumOf k) = sum_over k
 view (NegOf' p e) = negation (view e)
 view (Apply' op p a q b) = apply op (view a) (view b)
 view (Select' p c q a r b) = select (view c) (view a) (view b)
-
--- The value at a port in one reaction: its elements, in order.
-abbrev pub Vector : Type 0
-Vector = List ℤ
-
--- The vectors of several ports, in order.
-abbrev pub Values : Type 0
-Values = List (List ℤ)
-
--- The vector of port k, empty where there is none.
-abbrev pub vector_at : Values → ℕ → Vector
-vector_at vs k = slice_index_or vs k []
 
 -- An element by its number, 0 outside the vector.
 abbrev pub element_at : Vector → ℤ → ℤ
@@ -93,15 +66,6 @@ PortsBelow n (sum_over k) = k < n
 PortsBelow n (negation e) = PortsBelow n e
 PortsBelow n (apply op a b) = PortsBelow n a × PortsBelow n b
 PortsBelow n (select c a b) = PortsBelow n c × (PortsBelow n a × PortsBelow n b)
-
--- The zeros of a vector of this length.
-abbrev pub zeros : ℕ → Vector
-zeros n = replicate n (pos 0)
-
--- The numbers below n.
-abbrev pub numbers_below : ℕ → List ℕ
-numbers_below zero = []
-numbers_below (suc n) = numbers_below n ++ n ∷ []
 
 -- A vector of this length, by its elements.
 abbrev pub vector_of : ℕ → (ℕ → ℤ) → Vector

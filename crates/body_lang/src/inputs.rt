@@ -1,7 +1,7 @@
 //! The values at the ports of an operation: `Ins`, over which expressions are evaluated.
 ghost use Rattle.std.specs.Prelude.{◌≡◌, ◌+◌, ◌<◌, ◌≤◌, ◌++◌, length, take, drop, slice_index_or, slice_set, map, replicate, pos, IfOk};
 ghost use Rattle.syn_base.specs.Rows.{with_value};
-ghost use Rattle.body_lang.specs.Expr.{vector_at, zeros};
+ghost use Rattle.syn_base.specs.Vectors.{vector_at, zeros};
 
 use crate::layout::Layout;
 use std::alloc::{AllocError, Global};
@@ -18,7 +18,7 @@ pub struct Ins {
 impl Model for Ins {
     ghost use Rattle.std.specs.Prelude.{◌≡◌, length, sum};
     ghost use Rattle.syn_base.specs.Rows.{cut};
-    ghost use Rattle.body_lang.specs.Expr.{Values};
+    ghost use Rattle.syn_base.specs.Vectors.{Values};
 
     ghost Value = { Values };
 

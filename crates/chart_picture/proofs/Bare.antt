@@ -6,10 +6,10 @@ use Rattle.std.proofs.lemmas.Bool.{false≢true, and_parts, ne_eqb}
 use Rattle.std.proofs.lemmas.List.Elements.{All-nil, All-cons}
 use Rattle.syn_base.specs.Bytes.{Bytes}
 use Rattle.syn_base.specs.Name.{begins_name, is_name, is_name_byte}
-use Rattle.flat_graph.specs.declared.vertex.Vertex.{Vertex}
-use Rattle.flat_graph.specs.Graph.{Graph, with_vertex, lens_of}
-use Rattle.flat_graph.specs.Valid.{is_flat, is_len, is_path, is_path_byte, is_guard, fits, has_twin}
-use Rattle.flat_graph.proofs.Facts.{vertex_valid}
+use Rattle.self_timed.specs.declared.Vertex.{Vertex}
+use Rattle.self_timed.specs.Graph.{Graph, with_vertex, lens_of}
+use Rattle.self_timed.specs.FlatValid.{is_flat, is_len, is_path, is_path_byte, is_guard, fits, has_twin}
+use Rattle.self_timed.proofs.Facts.{vertex_valid}
 use Rattle.chart_picture.specs.Truth.{NamesNeedNoEscape, is_bare}
 
 module _ (allowed : ℕ → Bool) where

@@ -4,13 +4,13 @@ use Rattle.std.specs.Prelude.{slice_get, nat_lt}
 use Rattle.std.specs.List.{count_by, filter}
 use Rattle.std.proofs.lemmas.Bool.{false≢true, and_parts, ltb-true, eqb-true, ne_eqb, eq-eqb}
 use Rattle.std.proofs.lemmas.List.Sums.{sum_by-cons, sum_by-append}
-use Rattle.archi_graph.specs.declared.medium.Medium.{Medium}
-use Rattle.archi_graph.specs.Archi.{Architecture}
-use Rattle.flat_graph.specs.Graph.{Graph}
-use Rattle.schedule.specs.declared.decision.Transfer.{Transfer}
-use Rattle.schedule.specs.Acts.{Act, carry, run, acts, is_on, is_over}
-use Rattle.schedule.specs.Valid.{is_carried, is_right, are_right, are_placed}
 use Rattle.syn_base.specs.Bytes.{Bytes}
+use Rattle.self_timed.specs.declared.Medium.{Medium}
+use Rattle.self_timed.specs.Archi.{Architecture}
+use Rattle.self_timed.specs.Graph.{Graph}
+use Rattle.self_timed.specs.declared.Transfer.{Transfer}
+use Rattle.self_timed.specs.Acts.{Act, carry, run, acts, is_on, is_over}
+use Rattle.self_timed.specs.ScheduleValid.{is_carried, is_right, are_right, are_placed}
 use Rattle.chart_picture.specs.Truth.{EachHasOneBar, charted, lane_acts}
 use Rattle.chart_picture.proofs.Ordered.{operator_there, medium_there}
 

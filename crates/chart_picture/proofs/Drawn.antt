@@ -5,14 +5,14 @@ use Rattle.std.specs.List.{filter, flat_map}
 use Rattle.std.proofs.lemmas.Bool.{eq-eqb, ne_eqb}
 use Rattle.std.proofs.lemmas.List.{append_assoc}
 use Rattle.std.proofs.lemmas.List.Elements.{filter-append}
-use Rattle.flat_graph.specs.Graph.{Graph}
-use Rattle.archi_graph.specs.Archi.{Architecture}
-use Rattle.schedule.specs.declared.decision.Transfer.{Transfer}
-use Rattle.schedule.specs.declared.decision.Decision.{Decision}
-use Rattle.schedule.specs.Acts.{Act, carry, run, acts_of, is_on, is_over}
 use Rattle.syn_base.specs.Bytes.{Bytes}
+use Rattle.self_timed.specs.Graph.{Graph}
+use Rattle.self_timed.specs.Archi.{Architecture}
+use Rattle.self_timed.specs.declared.Transfer.{Transfer}
+use Rattle.self_timed.specs.declared.Decision.{Decision}
+use Rattle.self_timed.specs.Acts.{Act, carry, run, acts_of, is_on, is_over}
+use Rattle.self_timed.specs.declared.Medium.{Medium}
 use Rattle.svg_text.specs.declared.scale.Scale.{Scale}
-use Rattle.archi_graph.specs.declared.medium.Medium.{Medium}
 use Rattle.chart_picture.specs.Bars.{bar_line, bar_of, bars_text}
 use Rattle.chart_picture.specs.Picture.{lane_part, medium_lanes, operator_lanes}
 

@@ -5,14 +5,14 @@ use Rattle.std.specs.List.{filter, list_all, list_any}
 use Rattle.std.proofs.lemmas.Bool.{false≢true, and_parts, or_cases, leb-true, eqb-true}
 use Rattle.std.proofs.lemmas.List.{append_assoc}
 use Rattle.std.proofs.lemmas.List.Elements.{All-nil, All-cons}
-use Rattle.archi_graph.specs.declared.medium.Medium.{Medium}
-use Rattle.archi_graph.specs.Archi.{Architecture, stands_at}
-use Rattle.flat_graph.specs.declared.vertex.Vertex.{Vertex}
-use Rattle.flat_graph.specs.Graph.{Graph, len_of, with_vertex}
-use Rattle.schedule.specs.declared.decision.Transfer.{Transfer}
-use Rattle.schedule.specs.declared.decision.Decision.{Decision}
-use Rattle.schedule.specs.Acts.{Act, carry, run, acts, start_of, end_of, is_on, is_over, copy, runs, read_by}
-use Rattle.schedule.specs.Valid.{have_ended, lasts, is_carried, is_there, is_held, is_transfer, follows_get, is_placement, is_act, is_right, are_right, are_placed, is_valid}
+use Rattle.self_timed.specs.declared.Medium.{Medium}
+use Rattle.self_timed.specs.Archi.{Architecture, stands_at}
+use Rattle.self_timed.specs.declared.Vertex.{Vertex}
+use Rattle.self_timed.specs.Graph.{Graph, len_of, with_vertex}
+use Rattle.self_timed.specs.declared.Transfer.{Transfer}
+use Rattle.self_timed.specs.declared.Decision.{Decision}
+use Rattle.self_timed.specs.Acts.{Act, carry, run, acts, start_of, end_of, is_on, is_over, copy, runs, read_by}
+use Rattle.self_timed.specs.ScheduleValid.{have_ended, lasts, is_carried, is_there, is_held, is_transfer, follows_get, is_placement, is_act, is_right, are_right, are_placed, is_valid}
 use Rattle.svg_text.specs.declared.scale.Scale.{Scale}
 use Rattle.svg_text.specs.Scale.{place}
 use Rattle.chart_picture.specs.Bars.{Bar, bar_of, bars_of}

@@ -3,8 +3,8 @@ use Rattle.std.proofs.Common.{◌≡◌, [], ◌∷◌, ◌++◌, refl}
 use Rattle.std.specs.Prelude.{codes}
 use Rattle.std.specs.Fmt.{decimal}
 use Rattle.std.specs.List.{flat_map}
-use Rattle.schedule.specs.Acts.{acts, is_on, is_over}
-use Rattle.schedule.proofs.Examples.{
+use Rattle.self_timed.specs.Acts.{acts, is_on, is_over}
+use Rattle.self_timed.proofs.Examples.{
   plain_graph,
   plain_archi,
   plain_schedule,

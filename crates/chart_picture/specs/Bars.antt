@@ -1,24 +1,10 @@
 -- The bars of a chart, one for each operation and each transfer.
-use Rattle.std.specs.Prelude.{
-  ℕ,
-  Bool,
-  if◌then◌else◌,
-  List,
-  [],
-  ◌++◌,
-  length,
-  map,
-  Option,
-  None,
-  Some,
-  codes,
-  slice_get,
-}
+use Rattle.std.specs.Prelude.{ℕ, Bool, if◌then◌else◌, List, [], ◌++◌, length, map, codes, slice_get}
 use Rattle.std.specs.Fmt.{decimal}
 use Rattle.std.specs.List.{filter, flat_map}
 use Rattle.syn_base.specs.Bytes.{Bytes}
-use Rattle.flat_graph.specs.declared.vertex.Kind.{Kind}
-use Rattle.flat_graph.specs.declared.vertex.Kind.TheVariants.{
+use Rattle.self_timed.specs.declared.Kind.{Kind}
+use Rattle.self_timed.specs.declared.Kind.TheVariants.{
   Sensor,
   Actuator,
   Function,
@@ -29,11 +15,9 @@ use Rattle.flat_graph.specs.declared.vertex.Kind.TheVariants.{
   Implode,
   Merge,
 }
-use Rattle.flat_graph.specs.Graph.{Graph, with_vertex}
-use Rattle.archi_graph.specs.declared.medium.Medium.{Medium}
-use Rattle.archi_graph.specs.Archi.{Architecture}
-use Rattle.schedule.specs.Acts.{Act, carry, run, start_of, end_of}
-use Rattle.timing_chart.specs.Chart.{operation_name, operator_name}
+use Rattle.self_timed.specs.Graph.{Graph, with_vertex, operation_name}
+use Rattle.self_timed.specs.Archi.{Architecture, operator_name, medium_name}
+use Rattle.self_timed.specs.Acts.{Act, carry, run, start_of, end_of}
 use Rattle.svg_text.specs.declared.scale.Scale.{Scale}
 use Rattle.svg_text.specs.Scale.{fits, middle, place}
 use Rattle.svg_text.specs.Shapes.{bar_end, bar_text, words_end, words_text}
@@ -76,30 +60,21 @@ bar_line b = bar_text b.class b.left b.right ++ (b.title ++ (bar_end ++ label_te
 unfoldable pub dates_text : ℕ → ℕ → Bytes
 dates_text start end = codes ": " ++ (decimal start ++ (codes " to " ++ decimal end))
 
--- The name of a medium, and the empty text if there is no medium.
-abbrev pub name_or_none : Option Medium → Bytes
-name_or_none None = []
-name_or_none (Some m) = m.name
-
--- The name of medium m, and the empty text if there is no such medium.
-abbrev pub medium_name : List Medium → ℕ → Bytes
-medium_name media m = name_or_none (slice_get media m)
-
 -- ` over MEDIUM, FROM to TO`
 unfoldable pub way_text : Architecture → ℕ → ℕ → ℕ → Bytes
 way_text a medium from to =
     codes " over " ++
     (medium_name a.media medium ++
-    (codes ", " ++ (operator_name [] a.operators from ++ (codes " to " ++ operator_name [] a.operators to))))
+    (codes ", " ++ (operator_name a.operators from ++ (codes " to " ++ operator_name a.operators to))))
 
 module _ (g : Graph) (a : Architecture) where
   -- `OPERATION: START to END on OPERATOR`, and `OPERATION, output PORT: START to END over MEDIUM, FROM to TO`
   unfoldable pub title_of : ℕ → ℕ → Act → Bytes
   title_of start end (run d) =
-      operation_name g.vertices [] d.op ++
-      (dates_text start end ++ (codes " on " ++ operator_name [] a.operators d.operator))
+      operation_name g.vertices d.op ++
+      (dates_text start end ++ (codes " on " ++ operator_name a.operators d.operator))
   title_of start end (carry t) =
-      operation_name g.vertices [] t.source.vertex ++
+      operation_name g.vertices t.source.vertex ++
       (codes ", output " ++ (decimal t.source.port ++ (dates_text start end ++ way_text a t.medium t.from t.to)))
 
   -- The class of the bar of an act: that of the kind of its operation for a run, empty if there is
@@ -110,8 +85,8 @@ module _ (g : Graph) (a : Architecture) where
 
   -- the operation that runs, or whose value is carried
   abbrev pub act_label : Act → Bytes
-  act_label (run d) = operation_name g.vertices [] d.op
-  act_label (carry t) = operation_name g.vertices [] t.source.vertex
+  act_label (run d) = operation_name g.vertices d.op
+  act_label (carry t) = operation_name g.vertices t.source.vertex
 
   -- an act as a bar
   abbrev pub bar_of : Scale → Act → Bar

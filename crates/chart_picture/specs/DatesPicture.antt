@@ -3,11 +3,11 @@ use Rattle.std.specs.Prelude.{ℕ, zero, suc, ◌+◌, ◌-◌, ◌*◌, ◌^◌
 use Rattle.std.specs.Fmt.{decimal}
 use Rattle.std.specs.List.{flat_map, range_with_len}
 use Rattle.syn_base.specs.Bytes.{Bytes}
-use Rattle.flat_graph.specs.Graph.{Graph}
-use Rattle.archi_graph.specs.declared.medium.Medium.{Medium}
-use Rattle.archi_graph.specs.Archi.{Architecture}
-use Rattle.schedule.specs.declared.decision.Schedule.{Schedule}
-use Rattle.schedule.specs.Acts.{Act, acts, length_of}
+use Rattle.self_timed.specs.Graph.{Graph}
+use Rattle.self_timed.specs.declared.Medium.{Medium}
+use Rattle.self_timed.specs.Archi.{Architecture}
+use Rattle.self_timed.specs.declared.Schedule.{Schedule}
+use Rattle.self_timed.specs.Acts.{Act, acts, length_of}
 use Rattle.self_timed.specs.declared.dates.Span.{Span}
 use Rattle.self_timed.specs.Running.{span}
 use Rattle.self_timed.specs.Told.{start_at, end_at}

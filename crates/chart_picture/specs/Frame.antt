@@ -2,7 +2,7 @@
 use Rattle.std.specs.Prelude.{ℕ, ◌+◌, ◌*◌, ◌++◌, length, map, max, min, codes}
 use Rattle.std.specs.Fmt.{decimal}
 use Rattle.syn_base.specs.Bytes.{Bytes}
-use Rattle.archi_graph.specs.Archi.{Architecture}
+use Rattle.self_timed.specs.Archi.{Architecture}
 use Rattle.svg_text.specs.declared.scale.Scale.{Scale}
 use Rattle.svg_text.specs.declared.shapes.Point.{Point}
 use Rattle.svg_text.specs.Axis.{longest}

@@ -1,9 +1,9 @@
 -- The picture entry by entry, as it is drawn.
 use Rattle.std.specs.Prelude.{ℕ, zero, suc, List, [], ◌++◌, length}
 use Rattle.syn_base.specs.Bytes.{Bytes}
-use Rattle.flat_graph.specs.Graph.{Graph}
-use Rattle.archi_graph.specs.Archi.{Architecture}
-use Rattle.schedule.specs.Acts.{Act}
+use Rattle.self_timed.specs.Graph.{Graph}
+use Rattle.self_timed.specs.Archi.{Architecture}
+use Rattle.self_timed.specs.Acts.{Act}
 use Rattle.self_timed.specs.declared.dates.Span.{Span}
 use Rattle.self_timed.specs.Told.{reaction_at}
 use Rattle.dates_text.specs.Printed.{dated_by}

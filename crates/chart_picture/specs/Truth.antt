@@ -21,16 +21,15 @@ use Rattle.std.specs.Prelude.{
 use Rattle.std.specs.List.{count_by, filter}
 use Rattle.syn_base.specs.Bytes.{Bytes}
 use Rattle.syn_base.specs.Name.{is_name}
-use Rattle.flat_graph.specs.declared.vertex.Vertex.{Vertex}
-use Rattle.flat_graph.specs.Graph.{Graph}
-use Rattle.flat_graph.specs.Valid.{is_flat}
-use Rattle.archi_graph.specs.Archi.{Architecture}
-use Rattle.schedule.specs.declared.decision.Schedule.{Schedule}
-use Rattle.schedule.specs.declared.decision.Transfer.{Transfer}
-use Rattle.schedule.specs.Acts.{Act, carry, acts, is_over, is_on, start_of, end_of, length_of}
-use Rattle.schedule.specs.Tight.{reads_from}
-use Rattle.schedule.specs.Valid.{is_valid}
-use Rattle.timing_chart.specs.Chart.{operation_name}
+use Rattle.self_timed.specs.declared.Vertex.{Vertex}
+use Rattle.self_timed.specs.Graph.{Graph, operation_name}
+use Rattle.self_timed.specs.FlatValid.{is_flat}
+use Rattle.self_timed.specs.Archi.{Architecture}
+use Rattle.self_timed.specs.declared.Schedule.{Schedule}
+use Rattle.self_timed.specs.declared.Transfer.{Transfer}
+use Rattle.self_timed.specs.Acts.{Act, carry, acts, is_over, is_on, start_of, end_of, length_of}
+use Rattle.self_timed.specs.Tight.{reads_from}
+use Rattle.self_timed.specs.ScheduleValid.{is_valid}
 use Rattle.svg_text.specs.declared.scale.Scale.{Scale}
 use Rattle.svg_text.specs.Scale.{place}
 use Rattle.chart_picture.specs.Arrows.{takes}
@@ -79,5 +78,5 @@ is_bare b = not ((b == 34) || (b == 38) || (b == 39) || (b == 60) || (b == 62))
 -- The names of operations, and those of operators and media, need no escape.
 abbrev pub NamesNeedNoEscape : Type 0
 NamesNeedNoEscape =
-    ((g : Graph) (v : ℕ) → IsTrue (is_flat g) → All (λ b. IsTrue (is_bare b)) (operation_name g.vertices [] v))
+    ((g : Graph) (v : ℕ) → IsTrue (is_flat g) → All (λ b. IsTrue (is_bare b)) (operation_name g.vertices v))
     × ((name : Bytes) → IsTrue (is_name name) → All (λ b. IsTrue (is_bare b)) name)

@@ -1,12 +1,11 @@
 //! The arrows of a chart, from each transfer to whoever reads what it brings.
 ghost use Rattle.std.specs.Prelude.{◌≡◌, ◌++◌, ◌+◌, ◌<◌, ◌^◌, ◌∷◌, [], OnOk, length, map, slice_get};
 ghost use Rattle.std.specs.List.{flat_map, list_any};
-ghost use Rattle.schedule.specs.Acts.{acts_of, carry, copy, run, sources_of};
+ghost use Rattle.self_timed.specs.Acts.{acts_of, carry, copy, run, sources_of};
 ghost use Rattle.chart_picture.specs.Arrows.{act_link, arrows_text, brings, edge_from, edge_to, link_text, links_from, links_to};
 
 use crate::sheet::{Sheet, operators_in};
-use flat_graph::{Flat, Guard, Source, Vertex};
-use schedule::{Decision, Transfer};
+use self_timed::{Decision, Flat, Guard, Source, Transfer, Vertex};
 use svg_text::{END_GROUP, Point, append_arrow, begin_group};
 use syn_base::{OutOfMemory, append};
 

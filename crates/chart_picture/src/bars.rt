@@ -1,14 +1,12 @@
 //! The bars of a chart.
 ghost use Rattle.std.specs.Prelude.{◌≡◌, ◌++◌, [], OnOk, codes, length, slice_get};
 ghost use Rattle.std.specs.Fmt.{decimal};
-ghost use Rattle.flat_graph.specs.Graph.{with_vertex};
-ghost use Rattle.schedule.specs.Acts.{carry, run};
+ghost use Rattle.self_timed.specs.Graph.{with_vertex};
+ghost use Rattle.self_timed.specs.Acts.{carry, run};
 ghost use Rattle.chart_picture.specs.Bars.{act_class, bar_line, bar_of, class_of, dates_text, label_text, label_words, title_of, way_text};
 
 use crate::sheet::{Sheet, medium_name, operation_name, operator_name};
-use archi_graph::Archi;
-use flat_graph::{Flat, Kind};
-use schedule::{Decision, Transfer};
+use self_timed::{Archi, Decision, Flat, Kind, Transfer};
 use svg_text::{begin_bar, begin_text, end_bar, end_text, fits, middle};
 use syn_base::{OutOfMemory, append, append_count};
 

@@ -5,7 +5,7 @@ ghost use Rattle.chart_picture.specs.DatesPicture.{board_text, ground_text, lane
 
 use crate::frame::{Lane, begin_lane, height_of_lanes};
 use crate::sheet::operators_in;
-use archi_graph::{Archi, Medium};
+use self_timed::{Archi, Medium};
 use svg_text::{
     END_GROUP, Point, Scale, append_axis, append_line, begin_group, begin_text, end_text,
 };

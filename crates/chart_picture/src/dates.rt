@@ -1,7 +1,7 @@
 //! The picture of the dates under given ticks, drawn for the command `dates`.
 ghost use Rattle.std.specs.Prelude.{◌≡◌, ◌≤◌, ◌++◌, IfOk, OnOk, length};
-ghost use Rattle.schedule.specs.Acts.{acts, acts_of};
-ghost use Rattle.sequence_build_laws.specs.Built.{program_of};
+ghost use Rattle.self_timed.specs.Acts.{acts, acts_of};
+ghost use Rattle.self_timed.specs.Built.{program_of};
 ghost use Rattle.self_timed.specs.Entries.{AreWithin};
 ghost use Rattle.self_timed.specs.Told.{HaveEntries, IsValidForSome, entries_of};
 ghost use Rattle.dates_text.specs.Printed.{EachFits, HaveSpans, entry_span};
@@ -12,11 +12,7 @@ use crate::board::{append_board, append_note, repeated};
 use crate::picture::{begin_picture, end_picture};
 use crate::reaction::{Reaction, append_reaction};
 use crate::sheet::Sheet;
-use archi_graph::Archi;
-use executive_program::Program;
-use flat_graph::Flat;
-use schedule::{Decision, Schedule};
-use self_timed::{Actual, Dates, dates_of};
+use self_timed::{Actual, Archi, Dates, Decision, Flat, Program, Schedule, dates_of};
 use std::alloc::Global;
 use svg_text::{Scale, widened};
 use syn_base::OutOfMemory;

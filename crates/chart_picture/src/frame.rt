@@ -4,7 +4,7 @@ ghost use Rattle.svg_text.specs.Axis.{longest};
 ghost use Rattle.chart_picture.specs.Frame.{ground_text, height_of_lanes, lane_text, margin, name_text, size_of};
 
 use crate::sheet::{media_in, operators_in};
-use archi_graph::{Archi, Medium};
+use self_timed::{Archi, Medium};
 use svg_text::{Point, Scale, append_class, begin_aside, begin_group, end_text};
 use syn_base::{Name, OutOfMemory, append, append_count};
 

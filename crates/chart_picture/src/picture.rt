@@ -1,6 +1,6 @@
 //! The picture as a whole, drawn for the command `chart`.
 ghost use Rattle.std.specs.Prelude.{◌≡◌, ◌++◌, ◌+◌, ◌≤◌, ◌<◌, ◌^◌, OnErr, OnOk, codes, length, map};
-ghost use Rattle.schedule.specs.Acts.{acts_of, carry, is_on, is_over};
+ghost use Rattle.self_timed.specs.Acts.{acts_of, carry, is_on, is_over};
 ghost use Rattle.chart_picture.specs.Bars.{bars_text};
 ghost use Rattle.chart_picture.specs.Picture.{begin_text, lane_part, lanes_text, legend_text, medium_lanes, operator_lanes, picture, plot_text, scale_of, whole_text};
 
@@ -8,9 +8,7 @@ use crate::arrows::append_arrows;
 use crate::bars::{append_carry, append_run};
 use crate::frame::{Lane, begin_lane, height_of_lanes, margin, size_of};
 use crate::sheet::{Sheet, operators_in};
-use archi_graph::{Archi, Medium};
-use flat_graph::Flat;
-use schedule::{Decision, Schedule, Transfer};
+use self_timed::{Archi, Decision, Flat, Medium, Schedule, Transfer};
 use std::alloc::Global;
 use svg_text::{
     END, END_GROUP, LEGEND, Point, Scale, append_axis, append_head, begin_group, widened,

@@ -1,6 +1,6 @@
 //! The part of a picture that shows one reaction.
 ghost use Rattle.std.specs.Prelude.{◌+◌, ◌*◌, ◌++◌, ◌∷◌, [], ◌≡◌, ◌≤◌, ◌<◌, ◌^◌, OnOk, length, map};
-ghost use Rattle.schedule.specs.Acts.{acts_of, carry, run};
+ghost use Rattle.self_timed.specs.Acts.{acts_of, carry, run};
 ghost use Rattle.self_timed.specs.Told.{reaction_at, span_at};
 ghost use Rattle.dates_text.specs.Listing.{dated};
 ghost use Rattle.dates_text.specs.Printed.{Fit, dated_by};
@@ -11,8 +11,7 @@ ghost use Rattle.chart_picture.specs.Printed.{drawn_reaction};
 
 use crate::bars::{append_title_of_run, append_title_of_transfer};
 use crate::sheet::{Sheet, operators_in};
-use schedule::{Decision, Transfer};
-use self_timed::{Dates, Span};
+use self_timed::{Dates, Decision, Span, Transfer};
 use svg_text::{END_GROUP, begin_shade, begin_tile, end_bar};
 use syn_base::{OutOfMemory, append, append_count};
 

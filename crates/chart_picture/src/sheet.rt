@@ -1,10 +1,9 @@
 //! What a picture is drawn from, and the names in it.
 ghost use Rattle.std.specs.Prelude.{◌≡◌, ◌≤◌, ◌+◌, [], length};
-ghost use Rattle.timing_chart.specs.Chart.{operation_name, operator_name};
-ghost use Rattle.chart_picture.specs.Bars.{medium_name};
+ghost use Rattle.self_timed.specs.Graph.{operation_name};
+ghost use Rattle.self_timed.specs.Archi.{operator_name, medium_name};
 
-use archi_graph::Archi;
-use flat_graph::Flat;
+use self_timed::{Archi, Flat};
 use svg_text::Scale;
 
 /// The operations, the architecture, and the scale on which dates are drawn.
@@ -17,7 +16,7 @@ pub struct Sheet<'a> {
 
 /// The name of an operation, empty where there is none of this number.
 pub fn operation_name(flat: &Flat, op: u32) -> &[u8]
-    ensures { result.now ≡ operation_name flat.now.vertices [] op }
+    ensures { result.now ≡ operation_name flat.now.vertices op }
 {
     match flat.vertices().get(op as usize) {
         Some(vertex) => vertex.name.as_slice(),
@@ -27,7 +26,7 @@ pub fn operation_name(flat: &Flat, op: u32) -> &[u8]
 
 /// The name of an operator, empty where there is none of this number.
 pub fn operator_name(archi: &Archi, operator: u32) -> &[u8]
-    ensures { result.now ≡ operator_name [] archi.now.operators operator }
+    ensures { result.now ≡ operator_name archi.now.operators operator }
 {
     let operators = archi.operators();
     let operator = operator as usize;

@@ -3,10 +3,10 @@ use Rattle.std.proofs.Common.{◌≡◌, ℕ, true, List, refl, sym, subst}
 use Rattle.std.specs.Prelude.{slice_get, Option, Some, is_none}
 use Rattle.std.specs.Cmp.Derive.{both_true}
 use Rattle.std.proofs.lemmas.Bool.{and_parts}
-use Rattle.flat_graph.specs.declared.vertex.Vertex.{Vertex}
-use Rattle.executive_program.specs.declared.program.Program.{Program}
-use Rattle.executive_program.specs.Instructions.{turn}
-use Rattle.executive_program.specs.Places.{caller_of, ins_in, outs_in}
+use Rattle.sequence_build_laws.specs.declared.Vertex.{Vertex}
+use Rattle.sequence_build_laws.specs.declared.Program.{Program}
+use Rattle.sequence_build_laws.specs.Instructions.{turn}
+use Rattle.sequence_build_laws.specs.Places.{caller_of, ins_in, outs_in}
 use Rattle.order_check.specs.Calls.{called_at, is_before_twin}
 use Rattle.program_walks.proofs.ListTests.{from_zero, to_zero}
 use Rattle.order_check.proofs.Called.{twins_of, of_twins, only_call, of_only_call, call_alone}

@@ -3,10 +3,10 @@ use Rattle.std.proofs.Common.{◌≡◌, ℕ, Bool, true, false, cond, List, [],
 use Rattle.std.specs.Cmp.Derive.{both_true}
 use Rattle.std.proofs.lemmas.Bool.{false≢true, and_parts}
 use Rattle.std.proofs.lemmas.Option.{same_Some}
-use Rattle.flat_graph.specs.Graph.{Graph}
-use Rattle.archi_graph.specs.declared.medium.Seq.{Seq}
-use Rattle.executive_program.specs.declared.program.Program.{Program}
-use Rattle.executive_program.specs.WellFormed.{IsWellFormed}
+use Rattle.sequence_build_laws.specs.Graph.{Graph}
+use Rattle.sequence_build_laws.specs.declared.Seq.{Seq}
+use Rattle.sequence_build_laws.specs.declared.Program.{Program}
+use Rattle.sequence_build_laws.specs.WellFormed.{IsWellFormed}
 use Rattle.order_check.specs.Checked.{communicators, on_media, counts}
 use Rattle.program_walks.specs.Opened.{are_opened}
 use Rattle.order_check.proofs.Exact.{communicators_of, of_communicators, on_media_of, of_on_media, counts_of, of_counts}

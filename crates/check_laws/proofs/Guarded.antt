@@ -3,10 +3,10 @@ use Rattle.std.proofs.Common.{◌≡◌, ℕ, ◌<◌, true, ◌&&◌, map, leng
 use Rattle.std.specs.Prelude.{Some, nat_lt, slice_get}
 use Rattle.std.specs.Cmp.Derive.{both_true}
 use Rattle.std.proofs.lemmas.Bool.{and_parts}
-use Rattle.executive_program.specs.declared.program.Program.{Program}
-use Rattle.executive_program.specs.Instructions.{Reader, readers}
-use Rattle.executive_program.specs.Places.{reader, writer_of, written_at}
-use Rattle.executive_program.specs.WellFormed.{operator_of}
+use Rattle.sequence_build_laws.specs.declared.Program.{Program}
+use Rattle.sequence_build_laws.specs.Instructions.{Reader, readers}
+use Rattle.sequence_build_laws.specs.Places.{reader, writer_of, written_at}
+use Rattle.sequence_build_laws.specs.WellFormed.{operator_of}
 use Rattle.program_walks.specs.Pairs.{has_operator, is_read_between, is_written_between}
 use Rattle.program_walks.proofs.Guarded.{written_of, of_written, read_of, of_read, all_numbered, pair_passes, all_of}
 use Rattle.check_laws.specs.Items.{IsGuarded}

@@ -3,19 +3,19 @@ use Rattle.std.proofs.Common.{◌≡◌, ℕ, zero, suc, ◌+◌, ◌<◌, Bool,
 use Rattle.std.specs.Prelude.{slice_get}
 use Rattle.std.specs.List.{range_with_len}
 use Rattle.std.proofs.lemmas.Option.{same_Some, slice_get_within}
-use Rattle.flat_graph.specs.Graph.{Graph}
-use Rattle.archi_graph.specs.declared.medium.Seq.{Seq}
-use Rattle.archi_graph.specs.declared.medium.Medium.{Medium}
-use Rattle.archi_graph.specs.Archi.{Architecture, stands_at}
-use Rattle.archi_graph.specs.Sequences.{sequences, sequences_of, communicators, communicator, computation}
-use Rattle.executive_program.specs.declared.program.Instr.{Instr}
-use Rattle.executive_program.specs.declared.program.Instr.TheVariants.{Suc0, Suc1, Pre0, Pre1, Call, Send, Recv, Sync}
-use Rattle.executive_program.specs.declared.program.SeqCode.{SeqCode}
-use Rattle.executive_program.specs.declared.program.Program.{Program}
-use Rattle.executive_program.specs.Instructions.{prologue, prologue_of, operator, operator_in, communications, readers, is_communication}
-use Rattle.executive_program.specs.Places.{transfer, opening_signals, signals_of}
-use Rattle.executive_program.specs.WellFormed.{Stands, IsOrder}
-use Rattle.executive_program.proofs.Reading.{from_repeated}
+use Rattle.sequence_build_laws.specs.Graph.{Graph}
+use Rattle.sequence_build_laws.specs.declared.Seq.{Seq}
+use Rattle.sequence_build_laws.specs.declared.Medium.{Medium}
+use Rattle.sequence_build_laws.specs.Archi.{Architecture, stands_at}
+use Rattle.sequence_build_laws.specs.Sequences.{sequences, sequences_of, communicators, communicator, computation}
+use Rattle.sequence_build_laws.specs.declared.Instr.{Instr}
+use Rattle.sequence_build_laws.specs.declared.Instr.TheVariants.{Suc0, Suc1, Pre0, Pre1, Call, Send, Recv, Sync}
+use Rattle.sequence_build_laws.specs.declared.SeqCode.{SeqCode}
+use Rattle.sequence_build_laws.specs.declared.Program.{Program}
+use Rattle.sequence_build_laws.specs.Instructions.{prologue, prologue_of, operator, operator_in, communications, readers, is_communication}
+use Rattle.sequence_build_laws.specs.Places.{transfer, opening_signals, signals_of}
+use Rattle.sequence_build_laws.specs.WellFormed.{Stands, IsOrder}
+use Rattle.sequence_build_laws.proofs.Reading.{from_repeated}
 use Rattle.sequence_build_laws.proofs.Lists.{in_flat, map_at}
 use Rattle.sequence_build_laws.proofs.Loops.{code_there}
 use Rattle.sequence_build_laws.proofs.Sequences.{range_at, range_length}

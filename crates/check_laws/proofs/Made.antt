@@ -5,15 +5,15 @@ use Rattle.std.specs.List.{range_with_len}
 use Rattle.std.proofs.lemmas.Bool.{false≢true, lt-ltb, le-ltb, ltb-true}
 use Rattle.std.proofs.lemmas.List.FromFn.{length-range_with_len}
 use Rattle.std.proofs.lemmas.Option.{same_Some}
-use Rattle.flat_graph.specs.Graph.{Graph}
-use Rattle.archi_graph.specs.declared.medium.Seq.{Seq}
-use Rattle.executive_program.specs.declared.program.Instr.{Instr}
-use Rattle.executive_program.specs.declared.program.Instr.TheVariants.{Call, Send, Recv}
-use Rattle.executive_program.specs.declared.program.Program.{Program}
-use Rattle.executive_program.specs.Instructions.{turn, medium, operator, communications}
-use Rattle.executive_program.specs.Places.{writing, transfer, output_at}
-use Rattle.executive_program.specs.WellFormed.{Stands, WritesAt, IsOrder, place_in}
 use Rattle.order_check.specs.Carries.{origin, origin_of, received, sent_on}
+use Rattle.sequence_build_laws.specs.Graph.{Graph}
+use Rattle.sequence_build_laws.specs.declared.Seq.{Seq}
+use Rattle.sequence_build_laws.specs.declared.Instr.{Instr}
+use Rattle.sequence_build_laws.specs.declared.Instr.TheVariants.{Call, Send, Recv}
+use Rattle.sequence_build_laws.specs.declared.Program.{Program}
+use Rattle.sequence_build_laws.specs.Instructions.{turn, medium, operator, communications}
+use Rattle.sequence_build_laws.specs.Places.{writing, transfer, output_at}
+use Rattle.sequence_build_laws.specs.WellFormed.{Stands, WritesAt, IsOrder, place_in}
 use Rattle.sequence_build_laws.proofs.Lists.{tally, tally_yes, tally_not}
 use Rattle.sequence_build_laws.proofs.Sequences.{range_there}
 use Rattle.check_laws.specs.Items.{is_made, made_from}

@@ -2,8 +2,8 @@
 use Rattle.std.proofs.Common.{◌≡◌, ℕ, ◌<◌, true, refl}
 use Rattle.std.specs.Cmp.Derive.{both_true}
 use Rattle.std.proofs.lemmas.Bool.{and_parts}
-use Rattle.executive_program.specs.declared.program.Program.{Program}
-use Rattle.executive_program.specs.MicroSteps.{transfers}
+use Rattle.sequence_build_laws.specs.declared.Program.{Program}
+use Rattle.sequence_build_laws.specs.MicroSteps.{transfers}
 use Rattle.program_walks.specs.Walks.{all_at, all_below}
 use Rattle.order_check.specs.Transfers.{is_received, is_sent, receiver_of, sender_of}
 use Rattle.program_walks.proofs.ListTests.{below_of, of_below}

@@ -1,19 +1,19 @@
 -- The tests of names and of buffers are true exactly where these are right.
 use Rattle.std.proofs.Common.{◌≡◌, ℕ, inl, inr, Bool, true, ◌&&◌, List, [], length, refl, sym, subst, eq-eqb}
-use Rattle.std.specs.Prelude.{slice_get, Option, Some, None, nat_lt}
+use Rattle.std.specs.Prelude.{slice_get, Option, Some, None, nat_lt, is_none}
 use Rattle.std.specs.List.{list_all}
 use Rattle.std.specs.Cmp.Derive.{both_true}
 use Rattle.std.proofs.lemmas.Bool.{and_parts, eqb-true, ltb-true, lt-ltb}
-use Rattle.flat_graph.specs.declared.vertex.Vertex.{Vertex}
-use Rattle.flat_graph.specs.Graph.{Graph}
-use Rattle.archi_graph.specs.declared.medium.Seq.{Seq}
-use Rattle.executive_program.specs.declared.program.Instr.{Instr}
-use Rattle.executive_program.specs.declared.program.Instr.TheVariants.{Suc0, Suc1, Pre0, Pre1, Call, Send, Recv, Sync}
-use Rattle.executive_program.specs.declared.program.SeqCode.{SeqCode}
-use Rattle.executive_program.specs.declared.program.Program.{Program}
-use Rattle.executive_program.specs.Instructions.{turn, medium, prologue, prologue_of, len_of}
-use Rattle.executive_program.specs.MicroSteps.{transfers}
-use Rattle.executive_program.specs.Places.{calls, caller_of, ins_in, outs_in}
+use Rattle.sequence_build_laws.specs.declared.Vertex.{Vertex}
+use Rattle.sequence_build_laws.specs.Graph.{Graph}
+use Rattle.sequence_build_laws.specs.declared.Seq.{Seq}
+use Rattle.sequence_build_laws.specs.declared.Instr.{Instr}
+use Rattle.sequence_build_laws.specs.declared.Instr.TheVariants.{Suc0, Suc1, Pre0, Pre1, Call, Send, Recv, Sync}
+use Rattle.sequence_build_laws.specs.declared.SeqCode.{SeqCode}
+use Rattle.sequence_build_laws.specs.declared.Program.{Program}
+use Rattle.sequence_build_laws.specs.Instructions.{turn, medium, prologue, prologue_of, len_of}
+use Rattle.sequence_build_laws.specs.MicroSteps.{transfers}
+use Rattle.sequence_build_laws.specs.Places.{calls, caller_of, ins_in, outs_in}
 use Rattle.program_walks.specs.Walks.{all_at, all_below}
 use Rattle.order_check.specs.Checked.{are_below}
 use Rattle.program_walks.specs.Buffers.{are_buffers}
@@ -28,7 +28,6 @@ use Rattle.order_check.proofs.Kept.{kept_of, of_kept}
 use Rattle.program_walks.proofs.ListTests.{all_here, all_there as each_there, stands_of, of_stands, from_zero, to_zero, below_of, of_below}
 use Rattle.order_check.proofs.Listed.{sequences_of_test, test_of_sequences}
 use Rattle.program_walks.proofs.Written.{buffers_of, of_buffers}
-use Rattle.std.specs.Prelude.{is_none}
 use Rattle.check_laws.specs.Items.{NamesThere, AreNamed, IsCalledOnce, AreWritten, is_made}
 use Rattle.check_laws.specs.Tests.{all_there, are_named, are_called, is_called, fits, has_same_len, are_written}
 

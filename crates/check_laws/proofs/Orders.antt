@@ -4,19 +4,20 @@ use Rattle.std.specs.Prelude.{slice_get}
 use Rattle.std.proofs.lemmas.Bool.{cases_eq}
 use Rattle.std.proofs.lemmas.Option.{same_Some, slice_get_within}
 use Rattle.std.proofs.lemmas.List.{take_all}
-use Rattle.flat_graph.specs.declared.vertex.Vertex.{Vertex}
-use Rattle.flat_graph.specs.Graph.{Graph}
-use Rattle.archi_graph.specs.declared.medium.Seq.{Seq}
-use Rattle.executive_program.specs.declared.program.Instr.{Instr}
-use Rattle.executive_program.specs.declared.program.Instr.TheVariants.{Suc0, Suc1, Pre0, Pre1, Call, Send, Recv, Sync}
-use Rattle.executive_program.specs.declared.program.Program.{Program}
-use Rattle.executive_program.specs.Instructions.{is_communication, turn, medium, operator, communications}
-use Rattle.executive_program.specs.MicroSteps.{transfers}
-use Rattle.executive_program.specs.Places.{writing, pair, transfer, places, carried}
-use Rattle.executive_program.specs.WellFormed.{Stands, Communicates, NamesIn, IsCalled, IsBuffer, IsPair, IsTransfer, FollowsLoops, IsOrder, place_in}
+use Rattle.sequence_build_laws.specs.declared.Vertex.{Vertex}
+use Rattle.sequence_build_laws.specs.Graph.{Graph}
+use Rattle.sequence_build_laws.specs.declared.Seq.{Seq}
+use Rattle.sequence_build_laws.specs.declared.Instr.{Instr}
+use Rattle.sequence_build_laws.specs.declared.Instr.TheVariants.{Suc0, Suc1, Pre0, Pre1, Call, Send, Recv, Sync}
+use Rattle.sequence_build_laws.specs.declared.Program.{Program}
+use Rattle.sequence_build_laws.specs.Instructions.{is_communication, turn, medium, operator, communications}
+use Rattle.sequence_build_laws.specs.MicroSteps.{transfers}
+use Rattle.sequence_build_laws.specs.Places.{writing, pair, transfer, places, carried}
+use Rattle.sequence_build_laws.specs.WellFormed.{Stands, Communicates, NamesIn, IsCalled, IsBuffer, IsPair, IsTransfer, FollowsLoops, IsOrder, place_in}
 use Rattle.sequence_build_laws.proofs.Lists.{counts_tally, tally, tally_grows, tally_same}
 use Rattle.check_laws.specs.Items.{NamesThere, IsTransferred, HasItems}
-use Rattle.check_laws.specs.Run.{Place, awaited, Keeps, on_medium, send_of, receive_of, receive_before}
+use Rattle.check_laws.specs.Run.{Place, awaited, on_medium, send_of, receive_of, receive_before}
+use Rattle.check_laws.proofs.Running.{Keeps}
 
 module _ (p : Program) where
   -- of one sequence the t-th communication is one instruction

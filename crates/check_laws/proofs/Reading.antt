@@ -6,15 +6,15 @@ use Rattle.std.specs.Cmp.Derive.{both_true}
 use Rattle.std.proofs.lemmas.Bool.{cases_eq}
 use Rattle.std.proofs.lemmas.List.{length-map}
 use Rattle.std.proofs.lemmas.Option.{slice_get_within}
-use Rattle.flat_graph.specs.Graph.{Graph}
-use Rattle.archi_graph.specs.declared.medium.Seq.{Seq}
-use Rattle.executive_program.specs.declared.program.Instr.{Instr}
-use Rattle.executive_program.specs.declared.program.SeqCode.{SeqCode}
-use Rattle.executive_program.specs.declared.program.Program.{Program}
-use Rattle.executive_program.specs.Instructions.{reads, writes, turn, turn_of, Reader, readers_from, readers}
-use Rattle.executive_program.specs.Places.{pair, reader, reader_or, writing}
-use Rattle.executive_program.specs.WellFormed.{Stands, ReadsAt, IsOrder, operator_of, place_in}
-use Rattle.executive_program.proofs.Reading.{any_at, any_of, of_reads, writes_of, to_readers, in_all}
+use Rattle.sequence_build_laws.specs.Graph.{Graph}
+use Rattle.sequence_build_laws.specs.declared.Seq.{Seq}
+use Rattle.sequence_build_laws.specs.declared.Instr.{Instr}
+use Rattle.sequence_build_laws.specs.declared.SeqCode.{SeqCode}
+use Rattle.sequence_build_laws.specs.declared.Program.{Program}
+use Rattle.sequence_build_laws.specs.Instructions.{reads, writes, turn, turn_of, Reader, readers_from, readers}
+use Rattle.sequence_build_laws.specs.Places.{pair, reader, reader_or, writing}
+use Rattle.sequence_build_laws.specs.WellFormed.{Stands, ReadsAt, IsOrder, operator_of, place_in}
+use Rattle.sequence_build_laws.proofs.Reading.{any_at, any_of, of_reads, writes_of, to_readers, in_all}
 use Rattle.sequence_build_laws.proofs.Lists.{counts_tally}
 use Rattle.sequence_build_laws.proofs.Loops.{code_there}
 use Rattle.sequence_build_laws.proofs.Turns.{mine, place_rises}

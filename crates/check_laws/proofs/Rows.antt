@@ -1,10 +1,10 @@
 -- The run computed on worked programs: one that comes to its end, the same with a signal moved, and one that stops.
 use Rattle.std.proofs.Common.{◌≡◌, ℕ, List, [], ◌∷◌, ◌++◌, Option, Some, None, refl}
-use Rattle.schedule.proofs.Examples.{bus_graph, bus_archi, speed_graph, speed_archi}
-use Rattle.executive_program.specs.declared.program.Instr.{Instr}
-use Rattle.executive_program.specs.declared.program.Instr.TheVariants.{Suc0, Suc1, Pre0, Pre1, Call, Send, Recv}
-use Rattle.executive_program.specs.declared.program.Program.{Program}
-use Rattle.archi_graph.specs.Sequences.{sequences}
+use Rattle.sequence_build_laws.proofs.Examples.{bus_graph, bus_archi, speed_graph, speed_archi}
+use Rattle.sequence_build_laws.specs.declared.Instr.{Instr}
+use Rattle.sequence_build_laws.specs.declared.Instr.TheVariants.{Suc0, Suc1, Pre0, Pre1, Call, Send, Recv}
+use Rattle.sequence_build_laws.specs.declared.Program.{Program}
+use Rattle.sequence_build_laws.specs.Sequences.{sequences}
 use Rattle.sequence_build_laws.proofs.Rows.{code, on, one, eight}
 use Rattle.check_laws.specs.Run.{Place, run, stuck}
 use Rattle.check_laws.specs.Tests.{Cause, sequences_differ, calls_wrong, transfers_wrong, buffers_wrong, pairs_wrong, prologue_wrong, stuck_at, cause}

@@ -4,17 +4,22 @@ use Rattle.std.specs.Prelude.{slice_get, nat_lt}
 use Rattle.std.proofs.lemmas.Bool.{false≢true, cases_eq, cases_lt, ne_eqb, lt-ltb, ltb-true}
 use Rattle.std.proofs.lemmas.Option.{same_Some, slice_get_within}
 use Rattle.std.proofs.lemmas.List.{take_all, take-append-le}
-use Rattle.interleavings.specs.Owners.{sum_below}
-use Rattle.executive_program.specs.declared.program.Instr.{Instr}
-use Rattle.executive_program.specs.declared.program.Program.{Program}
-use Rattle.executive_program.specs.Instructions.{turn}
-use Rattle.executive_program.specs.WellFormed.{Stands, place_in, FollowsLoops}
-use Rattle.interleavings.proofs.Sums.{le_below, more_below, none_below}
+use Rattle.sequence_build_laws.specs.Owners.{sum_below}
+use Rattle.sequence_build_laws.specs.declared.Instr.{Instr}
+use Rattle.sequence_build_laws.specs.declared.Program.{Program}
+use Rattle.sequence_build_laws.specs.Instructions.{turn}
+use Rattle.sequence_build_laws.specs.WellFormed.{Stands, place_in, FollowsLoops}
+use Rattle.sequence_build_laws.proofs.InterleavingSums.{le_below, more_below, none_below}
 use Rattle.sequence_build_laws.proofs.Lists.{get_some, from_append, tally, counts_tally, tally-append, tally_grows, take_next}
 use Rattle.sequence_build_laws.proofs.Loops.{code_there}
 use Rattle.sequence_build_laws.proofs.Turns.{mine, seen, unseen, entry, place_here}
-use Rattle.check_laws.specs.Run.{Place, made, awaited, Keeps, is_past, may_go, is_ready, next, step_with, run_from, run, left_from, stuck, IsRun}
+use Rattle.check_laws.specs.Run.{Place, made, awaited, is_past, may_go, is_ready, next, step_with, run_from, run, left_from, stuck, IsRun}
 use Rattle.check_laws.proofs.Searches.{lowest_none, lowest_some, none_left, all_made}
+
+-- In this order each instruction comes after what it awaits.
+abbrev pub Keeps : Program → List ℕ → Type 0
+Keeps p order = (s a : ℕ) (x : Instr) (y : Place) → Stands p s a x → awaited p s a x ≡ Some y →
+    place_in order y.sequence y.at < place_in order s a
 
 pub made_is : (order : List ℕ) (s : ℕ) → made order s ≡ tally (mine s) order
 made_is order s = counts_tally (mine s) order

@@ -2,14 +2,14 @@
 use Rattle.std.proofs.Common.{◌≡◌, ℕ, zero, suc, Bool, true, false, cond, List, [], ◌∷◌, take, Option, Some, None, refl, sym, ap, arith, ◌∙◌, eq-eqb}
 use Rattle.std.specs.Prelude.{slice_get}
 use Rattle.std.proofs.lemmas.Option.{same_Some}
-use Rattle.executive_program.specs.declared.program.Instr.{Instr}
-use Rattle.executive_program.specs.declared.program.Instr.TheVariants.{Suc0, Suc1, Pre0, Pre1, Call, Send, Recv, Sync}
-use Rattle.executive_program.specs.declared.program.SeqCode.{SeqCode}
-use Rattle.executive_program.specs.declared.program.Program.{Program}
-use Rattle.executive_program.specs.Instructions.{is_communication, medium_in, turn_of, turn, operator}
-use Rattle.executive_program.specs.MicroSteps.{sent_in, sent_by, sent, is_on, first_of}
-use Rattle.executive_program.specs.Places.{transfer}
-use Rattle.executive_program.proofs.Passing.{on_is}
+use Rattle.sequence_build_laws.specs.declared.Instr.{Instr}
+use Rattle.sequence_build_laws.specs.declared.Instr.TheVariants.{Suc0, Suc1, Pre0, Pre1, Call, Send, Recv, Sync}
+use Rattle.sequence_build_laws.specs.declared.SeqCode.{SeqCode}
+use Rattle.sequence_build_laws.specs.declared.Program.{Program}
+use Rattle.sequence_build_laws.specs.Instructions.{is_communication, medium_in, turn_of, turn, operator}
+use Rattle.sequence_build_laws.specs.MicroSteps.{sent_in, sent_by, sent, is_on, first_of}
+use Rattle.sequence_build_laws.specs.Places.{transfer}
+use Rattle.sequence_build_laws.proofs.Passing.{on_is}
 use Rattle.sequence_build_laws.proofs.Lists.{tally, counts_tally}
 use Rattle.check_laws.specs.Items.{IsTransferred}
 use Rattle.check_laws.proofs.Orders.{Part, sends, receives, waits, part}

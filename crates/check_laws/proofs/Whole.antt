@@ -1,6 +1,6 @@
 -- The laws of the check.
 use Rattle.std.proofs.Common.{length}
-use Rattle.archi_graph.specs.Sequences.{sequences}
+use Rattle.sequence_build_laws.specs.Sequences.{sequences}
 use Rattle.check_laws.specs.Laws.{RunIsOrder, OrderIsFound, WellFormedHasItems, CauseIsExact, NoCauseIsWellFormed, RunsAreOrders, RunsStopAlike}
 use Rattle.check_laws.specs.Run.{run}
 use Rattle.check_laws.proofs.Running.{is_run, none_stuck, follows_loops, keeps_awaited, stop_alike}

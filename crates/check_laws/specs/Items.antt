@@ -23,14 +23,14 @@ use Rattle.std.specs.Prelude.{
   [],
 }
 use Rattle.std.specs.List.{count_by}
-use Rattle.flat_graph.specs.declared.vertex.Vertex.{Vertex}
-use Rattle.flat_graph.specs.declared.vertex.Kind.TheVariants.{Get}
-use Rattle.flat_graph.specs.Graph.{Graph}
-use Rattle.archi_graph.specs.declared.medium.Seq.{Seq}
-use Rattle.executive_program.specs.declared.program.Instr.{Instr}
-use Rattle.executive_program.specs.declared.program.Instr.TheVariants.{Suc0, Suc1, Pre0, Pre1, Call, Send, Recv, Sync}
-use Rattle.executive_program.specs.declared.program.Program.{Program}
-use Rattle.executive_program.specs.Instructions.{
+use Rattle.sequence_build_laws.specs.declared.Vertex.{Vertex}
+use Rattle.sequence_build_laws.specs.declared.Kind.TheVariants.{Get}
+use Rattle.sequence_build_laws.specs.Graph.{Graph}
+use Rattle.sequence_build_laws.specs.declared.Seq.{Seq}
+use Rattle.sequence_build_laws.specs.declared.Instr.{Instr}
+use Rattle.sequence_build_laws.specs.declared.Instr.TheVariants.{Suc0, Suc1, Pre0, Pre1, Call, Send, Recv, Sync}
+use Rattle.sequence_build_laws.specs.declared.Program.{Program}
+use Rattle.sequence_build_laws.specs.Instructions.{
   is_communication,
   turn,
   prologue,
@@ -41,12 +41,9 @@ use Rattle.executive_program.specs.Instructions.{
   is_guarded,
   readers,
 }
-use Rattle.executive_program.specs.MicroSteps.{transfers}
-use Rattle.executive_program.specs.Places.{writing, pair, transfer, calling, opening_of, carried, places}
-use Rattle.order_check.specs.declared.carrying.Origin.{Origin}
-use Rattle.order_check.specs.declared.carrying.Origin.TheVariants.{Made, Received, Nowhere}
-use Rattle.order_check.specs.Carries.{origin}
-use Rattle.executive_program.specs.WellFormed.{
+use Rattle.sequence_build_laws.specs.MicroSteps.{transfers}
+use Rattle.sequence_build_laws.specs.Places.{writing, pair, transfer, calling, carried, places, AreOpened}
+use Rattle.sequence_build_laws.specs.WellFormed.{
   Stands,
   IsOnly,
   Communicates,
@@ -57,6 +54,9 @@ use Rattle.executive_program.specs.WellFormed.{
   CarryInOrder,
   CarryOutputs,
 }
+use Rattle.order_check.specs.declared.carrying.Origin.{Origin}
+use Rattle.order_check.specs.declared.carrying.Origin.TheVariants.{Made, Received, Nowhere}
+use Rattle.order_check.specs.Carries.{origin}
 
 -- a call is met here, or further back from the buffer that is sent
 abbrev pub made_from : Origin → (ℕ → Bool) → Bool
@@ -167,11 +167,6 @@ module _ (p : Program) where
     pub numbered : map (λ o. Some o) p.pairs ≡ map (λ r. operator_of p r.buffer) (readers p)
     pub pairs : (q : ℕ) → q < length p.pairs → IsGuarded q
 
-  -- Each prologue opens the pairs by which its sequence reads, by number and once for
-  -- each place, and does nothing else.
-  abbrev pub AreOpened : Type 0
-  AreOpened = (s : ℕ) → s < length p.seqs → prologue p s ≡ opening_of p s
-
   -- all of it, for a flat graph and an architecture with these sequences, this many operators and this many media
   pub record HasItems (g : Graph) (seqs : List Seq) (operators media : ℕ) : Type 0 where
     pub named : AreNamed (length g.vertices) operators seqs
@@ -179,4 +174,4 @@ module _ (p : Program) where
     pub transferred : AreTransferred media
     pub written : AreWritten g media
     pub guarded : AreGuarded
-    pub opened : AreOpened
+    pub opened : AreOpened p

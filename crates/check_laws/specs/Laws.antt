@@ -1,13 +1,14 @@
 -- The laws of the check of a program: whether there is a serial order.
 use Rattle.std.specs.Prelude.{◌≡◌, ◌↔◌, ℕ, IsTrue, List, [], length, Some, None, slice_get}
-use Rattle.flat_graph.specs.declared.vertex.Vertex.{Vertex}
-use Rattle.flat_graph.specs.Graph.{Graph}
-use Rattle.archi_graph.specs.Archi.{Architecture, is_archi}
-use Rattle.archi_graph.specs.declared.medium.Seq.{Seq}
-use Rattle.archi_graph.specs.Sequences.{sequences}
-use Rattle.executive_program.specs.declared.program.Program.{Program}
-use Rattle.executive_program.specs.WellFormed.{IsOrder, IsWellFormed}
-use Rattle.check_laws.specs.Items.{AreNamed, IsCalledOnce, AreTransferred, AreWritten, AreGuarded, AreOpened, HasItems}
+use Rattle.sequence_build_laws.specs.declared.Vertex.{Vertex}
+use Rattle.sequence_build_laws.specs.Graph.{Graph}
+use Rattle.sequence_build_laws.specs.Archi.{Architecture, is_archi}
+use Rattle.sequence_build_laws.specs.declared.Seq.{Seq}
+use Rattle.sequence_build_laws.specs.Sequences.{sequences}
+use Rattle.sequence_build_laws.specs.declared.Program.{Program}
+use Rattle.sequence_build_laws.specs.WellFormed.{IsOrder, IsWellFormed}
+use Rattle.sequence_build_laws.specs.Places.{AreOpened}
+use Rattle.check_laws.specs.Items.{AreNamed, IsCalledOnce, AreTransferred, AreWritten, AreGuarded, HasItems}
 use Rattle.check_laws.specs.Run.{next, run, left_from, stuck, IsRun}
 use Rattle.check_laws.specs.Tests.{
   Cause,

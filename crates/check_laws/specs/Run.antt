@@ -23,13 +23,13 @@ use Rattle.std.specs.Prelude.{
   slice_get,
 }
 use Rattle.std.specs.List.{count_by}
-use Rattle.interleavings.specs.Owners.{sum_below}
-use Rattle.executive_program.specs.declared.program.Instr.{Instr}
-use Rattle.executive_program.specs.declared.program.Instr.TheVariants.{Suc1, Send, Recv, Sync}
-use Rattle.executive_program.specs.declared.program.Program.{Program}
-use Rattle.executive_program.specs.Instructions.{turn, medium, communications}
-use Rattle.executive_program.specs.Places.{writing, pair, transfer}
-use Rattle.executive_program.specs.WellFormed.{Stands, place_in}
+use Rattle.sequence_build_laws.specs.Owners.{sum_below}
+use Rattle.sequence_build_laws.specs.declared.Instr.{Instr}
+use Rattle.sequence_build_laws.specs.declared.Instr.TheVariants.{Suc1, Send, Recv, Sync}
+use Rattle.sequence_build_laws.specs.declared.Program.{Program}
+use Rattle.sequence_build_laws.specs.Instructions.{turn, medium, communications}
+use Rattle.sequence_build_laws.specs.Places.{writing, pair, transfer}
+use Rattle.sequence_build_laws.specs.WellFormed.{Stands, place_in}
 
 -- a place of a loop
 pub record Place : Type 0 where
@@ -83,11 +83,6 @@ module _ (p : Program) where
   awaited s a (Sync o q) = on_medium (medium p s) (λ m. receive_of m (communications p s a))
   awaited s a (Send b o) = on_medium (medium p s) (λ m. receive_before m (communications p s a))
   awaited s a _ = None
-
-  -- in this order each instruction stands after what it awaits
-  abbrev pub Keeps : List ℕ → Type 0
-  Keeps order = (s a : ℕ) (x : Instr) (y : Place) → Stands p s a x → awaited s a x ≡ Some y →
-      place_in order y.sequence y.at < place_in order s a
 
   -- The instruction at the given place is among those that these entries make; it is
   -- true if no place is given.

@@ -18,16 +18,16 @@ use Rattle.std.specs.Prelude.{
   slice_get,
 }
 use Rattle.std.specs.List.{list_all}
-use Rattle.flat_graph.specs.declared.vertex.Vertex.{Vertex}
-use Rattle.archi_graph.specs.declared.medium.Seq.{Seq}
-use Rattle.executive_program.specs.declared.program.Instr.{Instr}
-use Rattle.executive_program.specs.declared.program.Instr.TheVariants.{Send, Recv, Sync}
-use Rattle.executive_program.specs.declared.program.SeqCode.{SeqCode}
-use Rattle.executive_program.specs.declared.program.Program.{Program}
-use Rattle.executive_program.specs.Instructions.{Reader, readers, turn, medium, operator, len_of}
-use Rattle.executive_program.specs.MicroSteps.{transfers}
-use Rattle.executive_program.specs.Places.{calls, caller_of, ins_in, outs_in, communication_at, writer_of, written_at}
-use Rattle.executive_program.specs.WellFormed.{operator_of}
+use Rattle.sequence_build_laws.specs.declared.Vertex.{Vertex}
+use Rattle.sequence_build_laws.specs.declared.Seq.{Seq}
+use Rattle.sequence_build_laws.specs.declared.Instr.{Instr}
+use Rattle.sequence_build_laws.specs.declared.Instr.TheVariants.{Send, Recv, Sync}
+use Rattle.sequence_build_laws.specs.declared.SeqCode.{SeqCode}
+use Rattle.sequence_build_laws.specs.declared.Program.{Program}
+use Rattle.sequence_build_laws.specs.Instructions.{Reader, readers, turn, medium, operator, len_of}
+use Rattle.sequence_build_laws.specs.MicroSteps.{transfers}
+use Rattle.sequence_build_laws.specs.Places.{calls, caller_of, ins_in, outs_in, communication_at, writer_of, written_at}
+use Rattle.sequence_build_laws.specs.WellFormed.{operator_of}
 use Rattle.program_walks.specs.Walks.{all_at, all_below, implies}
 use Rattle.order_check.specs.Checked.{names_in, communicators, on_media, counts}
 use Rattle.program_walks.specs.Buffers.{are_buffers}

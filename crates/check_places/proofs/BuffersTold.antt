@@ -5,15 +5,15 @@ use Rattle.std.specs.List.{list_all, list_any, position_or_len}
 use Rattle.std.specs.Cmp.Derive.{both_true}
 use Rattle.std.proofs.lemmas.Bool.{and_parts, eqb-true, false≢true, le-leb, ltb-false, ltb-true}
 use Rattle.std.proofs.lemmas.Option.{same_Some}
-use Rattle.executive_program.specs.declared.program.Instr.{Instr}
-use Rattle.executive_program.specs.declared.program.Instr.TheVariants.{Suc0, Suc1, Pre0, Pre1, Call, Send, Recv, Sync}
-use Rattle.executive_program.specs.declared.program.Buffer as declared_buffer
-use Rattle.executive_program.specs.declared.program.SeqCode.{SeqCode}
-use Rattle.executive_program.specs.declared.program.Program.{Program}
-use Rattle.executive_program.specs.Instructions.{depth_of, is_guarded, operator, turn, turn_of, writes}
-use Rattle.executive_program.specs.Places.{output_at, sequence_where, written_at, writer_of, writing}
-use Rattle.executive_program.specs.WellFormed.{operator_is}
-use Rattle.executive_program.proofs.Reading.{of_writes}
+use Rattle.sequence_build_laws.specs.declared.Instr.{Instr}
+use Rattle.sequence_build_laws.specs.declared.Instr.TheVariants.{Suc0, Suc1, Pre0, Pre1, Call, Send, Recv, Sync}
+use Rattle.sequence_build_laws.specs.declared.Buffer as declared_buffer
+use Rattle.sequence_build_laws.specs.declared.SeqCode.{SeqCode}
+use Rattle.sequence_build_laws.specs.declared.Program.{Program}
+use Rattle.sequence_build_laws.specs.Instructions.{depth_of, is_guarded, operator, turn, turn_of, writes}
+use Rattle.sequence_build_laws.specs.Places.{output_at, sequence_where, written_at, writer_of, writing}
+use Rattle.sequence_build_laws.specs.WellFormed.{operator_is}
+use Rattle.sequence_build_laws.proofs.Reading.{of_writes}
 use Rattle.program_walks.specs.Walks.{implies, names as names_it}
 use Rattle.program_tables.specs.declared.mark_table.Mark.{Mark}
 use Rattle.program_tables.specs.declared.roles.Role.TheVariants.{Read, Written}

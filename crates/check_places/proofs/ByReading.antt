@@ -3,12 +3,12 @@ use Rattle.std.proofs.Common.{◌≡◌, ◌≢◌, ℕ, zero, suc, ◌+◌, ◌
 use Rattle.std.specs.Prelude.{Option, Some, None, slice_get, option_map}
 use Rattle.std.proofs.lemmas.List.{length-map}
 use Rattle.std.proofs.lemmas.Option.{same_Some, slice_get-map}
-use Rattle.executive_program.specs.declared.program.Program.{Program}
-use Rattle.executive_program.specs.Blocks.{blocks, repeated}
-use Rattle.executive_program.specs.Instructions.{Reader, depth_of, readers, readers_from}
-use Rattle.executive_program.specs.MicroSteps.{first_of}
-use Rattle.executive_program.specs.Places.{opening_signals, reader, reader_or}
-use Rattle.executive_program.proofs.Reading.{from_readers}
+use Rattle.sequence_build_laws.specs.declared.Program.{Program}
+use Rattle.sequence_build_laws.specs.Blocks.{blocks, repeated}
+use Rattle.sequence_build_laws.specs.Instructions.{Reader, depth_of, readers, readers_from}
+use Rattle.sequence_build_laws.specs.MicroSteps.{first_of}
+use Rattle.sequence_build_laws.specs.Places.{opening_signals, reader, reader_or}
+use Rattle.sequence_build_laws.proofs.Reading.{from_readers}
 use Rattle.sequence_build_laws.proofs.Guards.{in_blocks}
 use Rattle.program_tables.specs.declared.readings.Reading.{Reading}
 use Rattle.program_tables.specs.Readings.{reading_of, readings}

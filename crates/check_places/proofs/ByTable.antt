@@ -1,13 +1,14 @@
 -- Where buffers are wrong in what they carry, by the table of what is met from each.
 use Rattle.std.proofs.Common.{◌≡◌, ℕ, ◌<◌, List, length, ap, ◌∙◌}
 use Rattle.std.specs.Prelude.{Option, slice_get}
-use Rattle.executive_program.specs.declared.program.Program.{Program}
-use Rattle.executive_program.specs.Places.{carried, written_at, writer_of}
-use Rattle.executive_program.specs.MicroSteps.{first_of}
+use Rattle.sequence_build_laws.specs.declared.Program.{Program}
+use Rattle.sequence_build_laws.specs.Places.{carried, written_at, writer_of}
+use Rattle.sequence_build_laws.specs.MicroSteps.{first_of}
+use Rattle.sequence_build_laws.specs.Graph.{same_source}
 use Rattle.program_tables.specs.declared.crossings.Crossing.{Crossing}
 use Rattle.program_tables.specs.Crossings.{crossing}
 use Rattle.order_check.specs.declared.carrying.Origin.{Origin}
-use Rattle.order_check.specs.Carries.{is_kept, same_source}
+use Rattle.order_check.specs.Carries.{is_kept}
 use Rattle.check_laws.specs.Items.{is_made}
 use Rattle.check_laws.specs.Tests.{has_same_len}
 use Rattle.macro_check.specs.Carrying.{carries_alike, follow, follow_all, is_as_long, is_call, origin_or}

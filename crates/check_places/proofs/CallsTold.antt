@@ -3,15 +3,15 @@ use Rattle.std.proofs.Common.{◌≡◌, ℕ, suc, ◌+◌, ◌<◌, true, false
 use Rattle.std.specs.Prelude.{Option, Some, None, is_none, slice_get, ℤ}
 use Rattle.std.specs.Cmp.Derive.{both_true}
 use Rattle.std.proofs.lemmas.Bool.{and_parts, eqb-true, false≢true, lt-ltb}
-use Rattle.flat_graph.specs.declared.vertex.Kind.{Kind}
-use Rattle.flat_graph.specs.declared.vertex.Kind.TheVariants.{Get}
-use Rattle.flat_graph.specs.declared.vertex.Vertex.{Vertex}
-use Rattle.flat_graph.specs.Graph.{Graph}
-use Rattle.archi_graph.specs.declared.medium.Seq.{Seq}
-use Rattle.executive_program.specs.declared.program.Instr.TheVariants.{Call}
-use Rattle.executive_program.specs.declared.program.Program.{Program}
-use Rattle.executive_program.specs.Instructions.{medium}
-use Rattle.executive_program.specs.Places.{caller_of, calling}
+use Rattle.sequence_build_laws.specs.declared.Kind.{Kind}
+use Rattle.sequence_build_laws.specs.declared.Kind.TheVariants.{Get}
+use Rattle.sequence_build_laws.specs.declared.Vertex.{Vertex}
+use Rattle.sequence_build_laws.specs.Graph.{Graph}
+use Rattle.sequence_build_laws.specs.declared.Seq.{Seq}
+use Rattle.sequence_build_laws.specs.declared.Instr.TheVariants.{Call}
+use Rattle.sequence_build_laws.specs.declared.Program.{Program}
+use Rattle.sequence_build_laws.specs.Instructions.{medium}
+use Rattle.sequence_build_laws.specs.Places.{caller_of, calling}
 use Rattle.program_walks.proofs.ListTests.{all_here}
 use Rattle.program_walks.proofs.Readings.{same_numbers}
 use Rattle.program_tables.specs.declared.mark_table.Mark.{Mark}

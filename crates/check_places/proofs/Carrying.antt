@@ -4,20 +4,19 @@ use Rattle.std.specs.Prelude.{Option, Some, None, nat_lt, slice_get}
 use Rattle.std.specs.Cmp.Derive.{both_true}
 use Rattle.std.proofs.lemmas.Bool.{and_parts, eqb-true, false≢true, lt-ltb, ltb-true}
 use Rattle.std.proofs.lemmas.Option.{same_Some, slice_get_within}
-use Rattle.flat_graph.specs.declared.vertex.Guard.{Guard}
-use Rattle.flat_graph.specs.declared.vertex.Source.{Source}
-use Rattle.flat_graph.specs.declared.vertex.Vertex.{Vertex}
-use Rattle.flat_graph.specs.Graph.{Graph}
-use Rattle.executive_program.specs.declared.program.Buffer as declared_buffer
-use Rattle.executive_program.specs.declared.program.Instr.TheVariants.{Call}
-use Rattle.executive_program.specs.declared.program.Program.{Program}
-use Rattle.executive_program.specs.Instructions.{len_of, turn}
-use Rattle.executive_program.specs.Places.{caller_of, carried, ins_in, outs_in, places}
-use Rattle.executive_program.specs.WellFormed.{HasLength, Stands, len_is}
+use Rattle.sequence_build_laws.specs.declared.Guard.{Guard}
+use Rattle.sequence_build_laws.specs.declared.Source.{Source}
+use Rattle.sequence_build_laws.specs.declared.Vertex.{Vertex}
+use Rattle.sequence_build_laws.specs.Graph.{Graph, same_source}
+use Rattle.sequence_build_laws.specs.declared.Buffer as declared_buffer
+use Rattle.sequence_build_laws.specs.declared.Instr.TheVariants.{Call}
+use Rattle.sequence_build_laws.specs.declared.Program.{Program}
+use Rattle.sequence_build_laws.specs.Instructions.{len_of, turn}
+use Rattle.sequence_build_laws.specs.Places.{caller_of, carried, ins_in, outs_in, places}
+use Rattle.sequence_build_laws.specs.WellFormed.{HasLength, Stands, len_is}
 use Rattle.sequence_build_laws.proofs.Lists.{get_drop}
 use Rattle.program_walks.proofs.Readings.{entry_is, is_entry}
 use Rattle.order_check.specs.Calls.{called_at, carries, gives_at, has_len, has_output}
-use Rattle.order_check.specs.Carries.{same_source}
 use Rattle.order_check.proofs.Kept.{is_same_source, same_source_is}
 use Rattle.check_laws.specs.Items.{IsCalledOnce}
 use Rattle.check_places.specs.Ahead.{CarryBelow, Fits, GiveBelow, Takes}

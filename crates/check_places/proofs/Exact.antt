@@ -1,10 +1,10 @@
 -- There is no reason exactly where there is no cause.
 use Rattle.std.proofs.Common.{◌≡◌, length, Option, Some, None, refl, sym, ap, ◌∙◌}
 use Rattle.std.specs.Prelude.{IsTrue}
-use Rattle.flat_graph.specs.Graph.{Graph}
-use Rattle.archi_graph.specs.Archi.{Architecture, is_archi}
-use Rattle.archi_graph.specs.Sequences.{sequences}
-use Rattle.executive_program.specs.declared.program.Program.{Program}
+use Rattle.sequence_build_laws.specs.Graph.{Graph}
+use Rattle.sequence_build_laws.specs.Archi.{Architecture, is_archi}
+use Rattle.sequence_build_laws.specs.Sequences.{sequences}
+use Rattle.sequence_build_laws.specs.declared.Program.{Program}
 use Rattle.check_laws.specs.Tests.{Cause, cause}
 use Rattle.check_laws.proofs.Whole.{no_cause_is_well_formed}
 use Rattle.check_places.specs.Why.{why, why_by}

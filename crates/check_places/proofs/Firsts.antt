@@ -3,7 +3,7 @@ use Rattle.std.proofs.Common.{◌≡◌, ℕ, zero, suc, ◌+◌, ◌<◌, ◌�
 use Rattle.std.specs.Prelude.{◌⊎◌}
 use Rattle.std.proofs.lemmas.Bool.{cases_lt}
 use Rattle.std.specs.List.{range_with_len}
-use Rattle.executive_program.specs.MicroSteps.{first_of}
+use Rattle.sequence_build_laws.specs.MicroSteps.{first_of}
 use Rattle.check_places.specs.declared.place.Place.{Place}
 use Rattle.check_places.specs.First.{first_below, first_from}
 

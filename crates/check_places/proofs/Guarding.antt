@@ -4,10 +4,10 @@ use Rattle.std.specs.Prelude.{None, length, nat_lt, slice_get}
 use Rattle.std.specs.List.{list_all}
 use Rattle.std.specs.Cmp.Derive.{both_true}
 use Rattle.std.proofs.lemmas.Bool.{and_parts}
-use Rattle.executive_program.specs.declared.program.Program.{Program}
-use Rattle.executive_program.specs.Instructions.{Reader}
-use Rattle.executive_program.specs.Places.{writer_of, written_at}
-use Rattle.executive_program.specs.WellFormed.{operator_of}
+use Rattle.sequence_build_laws.specs.declared.Program.{Program}
+use Rattle.sequence_build_laws.specs.Instructions.{Reader}
+use Rattle.sequence_build_laws.specs.Places.{writer_of, written_at}
+use Rattle.sequence_build_laws.specs.WellFormed.{operator_of}
 use Rattle.program_walks.specs.Pairs.{has_operator}
 use Rattle.program_walks.specs.Walks.{implies}
 use Rattle.program_tables.specs.declared.mark_table.Mark.{Mark}

@@ -5,19 +5,19 @@ use Rattle.std.specs.Cmp.Derive.{both_true}
 use Rattle.std.specs.List.{list_all}
 use Rattle.std.proofs.lemmas.Bool.{and_parts, false≢true, eqb-true}
 use Rattle.std.proofs.lemmas.Option.{same_Some}
-use Rattle.executive_program.specs.declared.program.Instr.{Instr}
-use Rattle.executive_program.specs.declared.program.Instr.TheVariants.{Suc0, Suc1, Pre0, Pre1, Call, Send, Recv, Sync}
-use Rattle.executive_program.specs.declared.program.Program.{Program}
-use Rattle.executive_program.specs.Instructions.{turn}
-use Rattle.executive_program.specs.WellFormed.{ReadsAt, Stands, WritesAt}
+use Rattle.sequence_build_laws.specs.declared.Instr.{Instr}
+use Rattle.sequence_build_laws.specs.declared.Instr.TheVariants.{Suc0, Suc1, Pre0, Pre1, Call, Send, Recv, Sync}
+use Rattle.sequence_build_laws.specs.declared.Program.{Program}
+use Rattle.sequence_build_laws.specs.Instructions.{turn}
+use Rattle.sequence_build_laws.specs.WellFormed.{ReadsAt, Stands, WritesAt}
 use Rattle.program_walks.specs.Walks.{all_at, every, implies, names as names_it}
 use Rattle.program_walks.proofs.ListTests.{all_here, every_of, from_zero, implied, implying, of_every, to_zero}
 use Rattle.program_walks.proofs.Readings.{entry_is, is_entry}
 use Rattle.program_tables.specs.declared.mark_table.Mark.{Mark}
 use Rattle.program_tables.specs.declared.roles.Role.{Role}
 use Rattle.program_tables.specs.declared.roles.Role.TheVariants.{Called, Read, Written}
-use Rattle.program_tables.specs.Marks.{marks_of, named, test_of}
-use Rattle.program_tables.proofs.Lone.{stands_are}
+use Rattle.program_tables.specs.Marks.{marks_of, named}
+use Rattle.program_tables.proofs.Lone.{stands_are, test_of}
 use Rattle.program_tables.proofs.Naming.{all_marks, named_in}
 use Rattle.check_places.specs.First.{first_failing}
 use Rattle.check_places.specs.Wrong.{Calls, IsEarlier, Reads, WritesAs}

@@ -5,14 +5,14 @@ use Rattle.std.specs.List.{count_by, list_all}
 use Rattle.std.proofs.lemmas.Bool.{false≢true}
 use Rattle.std.proofs.lemmas.List.Sums.{sum_by-cons}
 use Rattle.std.proofs.lemmas.Option.{same_Some}
-use Rattle.executive_program.specs.declared.program.Instr.{Instr}
-use Rattle.executive_program.specs.declared.program.SeqCode.{SeqCode}
-use Rattle.executive_program.specs.declared.program.Program.{Program}
-use Rattle.executive_program.specs.Instructions.{is_communication, medium, medium_in, turn, turn_of}
-use Rattle.executive_program.specs.MicroSteps.{is_on}
-use Rattle.executive_program.specs.Places.{communication_at}
-use Rattle.executive_program.specs.WellFormed.{Communicates}
-use Rattle.executive_program.proofs.Passing.{on_is, is_on_it}
+use Rattle.sequence_build_laws.specs.declared.Instr.{Instr}
+use Rattle.sequence_build_laws.specs.declared.SeqCode.{SeqCode}
+use Rattle.sequence_build_laws.specs.declared.Program.{Program}
+use Rattle.sequence_build_laws.specs.Instructions.{is_communication, medium, medium_in, turn, turn_of}
+use Rattle.sequence_build_laws.specs.MicroSteps.{is_on}
+use Rattle.sequence_build_laws.specs.Places.{communication_at}
+use Rattle.sequence_build_laws.specs.WellFormed.{Communicates}
+use Rattle.sequence_build_laws.proofs.Passing.{on_is, is_on_it}
 
 counted : (y : Instr) (zs : List Instr) → count_by is_communication (y ∷ zs) ≡ cond (is_communication y) 1 0 + count_by is_communication zs
 counted y zs = sum_by-cons (λ x. cond (is_communication x) 1 0) y zs

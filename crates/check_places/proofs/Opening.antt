@@ -3,12 +3,12 @@ use Rattle.std.proofs.Common.{◌≡◌, ℕ, zero, suc, ◌+◌, Bool, true, fa
 use Rattle.std.specs.Prelude.{None}
 use Rattle.std.proofs.lemmas.Bool.{false≢true, eqb-true}
 use Rattle.std.proofs.lemmas.List.{map-append}
-use Rattle.executive_program.specs.declared.program.Instr.{Instr}
-use Rattle.executive_program.specs.declared.program.Instr.TheVariants.{Suc0, Suc1, Pre0, Pre1, Call, Send, Recv, Sync}
-use Rattle.executive_program.specs.declared.program.Program.{Program}
-use Rattle.executive_program.specs.Blocks.{blocks, repeated}
-use Rattle.executive_program.specs.Instructions.{readers}
-use Rattle.executive_program.specs.Places.{opening_of, opening_signals, signals_empty, signals_of}
+use Rattle.sequence_build_laws.specs.declared.Instr.{Instr}
+use Rattle.sequence_build_laws.specs.declared.Instr.TheVariants.{Suc0, Suc1, Pre0, Pre1, Call, Send, Recv, Sync}
+use Rattle.sequence_build_laws.specs.declared.Program.{Program}
+use Rattle.sequence_build_laws.specs.Blocks.{blocks, repeated}
+use Rattle.sequence_build_laws.specs.Instructions.{readers}
+use Rattle.sequence_build_laws.specs.Places.{opening_of, opening_signals, signals_empty, signals_of}
 use Rattle.check_places.specs.declared.place.Part.TheVariants.{Prologue}
 use Rattle.check_places.specs.declared.place.Rule.TheVariants.{MissingSignal}
 use Rattle.check_places.specs.declared.place.Subject.TheVariants.{Pair}

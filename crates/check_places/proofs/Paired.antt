@@ -5,15 +5,15 @@ use Rattle.std.specs.List.{list_all, list_any}
 use Rattle.std.specs.Cmp.Derive.{both_true}
 use Rattle.std.proofs.lemmas.Bool.{and_parts, eqb-true, false≢true, lt-ltb, ltb-false, ltb-true}
 use Rattle.std.proofs.lemmas.Option.{slice_get-map}
-use Rattle.flat_graph.specs.Graph.{Graph}
-use Rattle.executive_program.specs.declared.program.Instr.TheVariants.{Suc0, Suc1, Pre0, Pre1}
-use Rattle.executive_program.specs.declared.program.Program.{Program}
-use Rattle.executive_program.specs.declared.program.SeqCode.{SeqCode}
-use Rattle.executive_program.specs.Instructions.{Reader, reads, readers, readers_from, turn, turn_of, writes}
-use Rattle.executive_program.specs.Places.{reader, reader_or, signals_empty, signals_full, takes_empty, takes_full, writer_of, writing, written_at}
-use Rattle.executive_program.specs.WellFormed.{operator_of}
-use Rattle.executive_program.proofs.Passing.{empty_signalled, empty_taken, full_signalled, full_taken}
-use Rattle.executive_program.proofs.Reading.{any_of, from_readers, reads_of}
+use Rattle.sequence_build_laws.specs.Graph.{Graph}
+use Rattle.sequence_build_laws.specs.declared.Instr.TheVariants.{Suc0, Suc1, Pre0, Pre1}
+use Rattle.sequence_build_laws.specs.declared.Program.{Program}
+use Rattle.sequence_build_laws.specs.declared.SeqCode.{SeqCode}
+use Rattle.sequence_build_laws.specs.Instructions.{Reader, reads, readers, readers_from, turn, turn_of, writes}
+use Rattle.sequence_build_laws.specs.Places.{reader, reader_or, signals_empty, signals_full, takes_empty, takes_full, writer_of, writing, written_at}
+use Rattle.sequence_build_laws.specs.WellFormed.{operator_of}
+use Rattle.sequence_build_laws.proofs.Passing.{empty_signalled, empty_taken, full_signalled, full_taken}
+use Rattle.sequence_build_laws.proofs.Reading.{any_of, from_readers, reads_of}
 use Rattle.sequence_build_laws.proofs.Guards.{in_blocks}
 use Rattle.program_walks.specs.Acts.{is_only, passes}
 use Rattle.program_walks.specs.Pairs.{has_operator, is_read_between, is_written_between}
@@ -24,8 +24,8 @@ use Rattle.program_walks.proofs.Readings.{same_numbers}
 use Rattle.program_tables.specs.declared.mark_table.Mark.{Mark}
 use Rattle.program_tables.specs.declared.roles.Role.{Role}
 use Rattle.program_tables.specs.declared.roles.Role.TheVariants.{Read, EmptyTaken, FullSignalled, FullTaken, EmptySignalled}
-use Rattle.program_tables.specs.Marks.{first_at, lone, marks_of, test_of}
-use Rattle.program_tables.proofs.Lone.{lone_at, lone_is, only_first, stands_are}
+use Rattle.program_tables.specs.Marks.{first_at, lone, marks_of}
+use Rattle.program_tables.proofs.Lone.{lone_at, lone_is, only_first, stands_are, test_of}
 use Rattle.check_laws.specs.Items.{AreWritten}
 use Rattle.check_laws.specs.Tests.{guards}
 use Rattle.check_places.specs.declared.place.Spot.{Spot}

@@ -4,12 +4,12 @@ use Rattle.std.specs.Prelude.{Option, Some, None, nat_lt, slice_get}
 use Rattle.std.specs.Cmp.Derive.{both_true}
 use Rattle.std.proofs.lemmas.Bool.{and_parts, cases_lt, ltb-false, ltb-true}
 use Rattle.std.proofs.lemmas.Option.{slice_get_within}
-use Rattle.flat_graph.specs.Graph.{Graph}
-use Rattle.archi_graph.specs.declared.medium.Seq.{Seq}
-use Rattle.executive_program.specs.declared.program.Program.{Program}
-use Rattle.executive_program.specs.Instructions.{Reader, readers}
-use Rattle.executive_program.specs.Places.{writer_of, written_at}
-use Rattle.executive_program.specs.WellFormed.{operator_of}
+use Rattle.sequence_build_laws.specs.Graph.{Graph}
+use Rattle.sequence_build_laws.specs.declared.Seq.{Seq}
+use Rattle.sequence_build_laws.specs.declared.Program.{Program}
+use Rattle.sequence_build_laws.specs.Instructions.{Reader, readers}
+use Rattle.sequence_build_laws.specs.Places.{writer_of, written_at}
+use Rattle.sequence_build_laws.specs.WellFormed.{operator_of}
 use Rattle.program_walks.specs.Pairs.{has_operator, is_read_between, is_written_between}
 use Rattle.program_walks.proofs.ListTests.{to_zero}
 use Rattle.program_tables.specs.declared.roles.Role.TheVariants.{Read, EmptyTaken, FullSignalled, FullTaken, EmptySignalled}

@@ -2,8 +2,8 @@
 use Rattle.std.proofs.Common.{◌≡◌, ℕ, ◌+◌, ◌<◌, ◌≤◌, List, [], ◌∷◌, length, drop, get_or, sym, ap, refl, add-one, drop-cons, eq-eqb, ne_eqb, arith, ◌∙◌}
 use Rattle.std.specs.Prelude.{Option, Some, None, nat_eq}
 use Rattle.std.proofs.lemmas.List.{drop_all, length-drop}
-use Rattle.archi_graph.specs.declared.medium.Seq.{Seq}
-use Rattle.executive_program.specs.declared.program.SeqCode.{SeqCode}
+use Rattle.sequence_build_laws.specs.declared.Seq.{Seq}
+use Rattle.sequence_build_laws.specs.declared.SeqCode.{SeqCode}
 use Rattle.check_places.specs.declared.place.Rule.TheVariants.{OtherSequence}
 use Rattle.check_places.specs.declared.place.Subject.TheVariants.{Expected}
 use Rattle.check_places.specs.declared.place.Place.{Place}

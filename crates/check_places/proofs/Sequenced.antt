@@ -4,9 +4,10 @@ use Rattle.std.specs.Prelude.{Option, Some, None}
 use Rattle.std.specs.Cmp.Derive.{both_true}
 use Rattle.std.proofs.lemmas.Bool.{and_parts, eqb-true, false≢true}
 use Rattle.program_walks.proofs.Readings.{same_numbers}
-use Rattle.archi_graph.specs.declared.medium.Seq.{Seq}
-use Rattle.executive_program.specs.declared.program.SeqCode.{SeqCode}
-use Rattle.order_check.specs.Sequenced.{is_of, same_medium}
+use Rattle.sequence_build_laws.specs.declared.Seq.{Seq}
+use Rattle.sequence_build_laws.specs.declared.SeqCode.{SeqCode}
+use Rattle.sequence_build_laws.specs.Instructions.{same_medium}
+use Rattle.order_check.specs.Sequenced.{is_of}
 use Rattle.check_places.specs.declared.place.Rule.TheVariants.{OtherSequence}
 use Rattle.check_places.specs.declared.place.Subject.TheVariants.{Expected}
 use Rattle.check_places.specs.First.{broken}

@@ -3,7 +3,7 @@ use Rattle.std.proofs.Common.{◌≡◌, ℕ, zero, suc, ◌+◌, ◌<◌, ◌�
 use Rattle.std.specs.Prelude.{Option, Some, None, slice_get}
 use Rattle.std.specs.List.{range_with_len}
 use Rattle.std.proofs.lemmas.Option.{same_Some}
-use Rattle.executive_program.specs.MicroSteps.{first_of}
+use Rattle.sequence_build_laws.specs.MicroSteps.{first_of}
 use Rattle.program_tables.specs.declared.mark_table.Mark.{Mark}
 use Rattle.check_places.specs.declared.place.Place.{Place}
 use Rattle.check_places.specs.declared.place.Rule.{Rule}

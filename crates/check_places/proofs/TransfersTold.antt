@@ -4,16 +4,16 @@ use Rattle.std.specs.Prelude.{Option, Some, None, nat_lt, slice_get}
 use Rattle.std.specs.List.{count_by, list_all, list_any, position_or_len}
 use Rattle.std.specs.Cmp.Derive.{both_true}
 use Rattle.std.proofs.lemmas.Bool.{and_parts, eqb-true, false≢true, ltb-false, ltb-true}
-use Rattle.flat_graph.specs.Graph.{Graph}
-use Rattle.archi_graph.specs.declared.medium.Seq.{Seq}
-use Rattle.executive_program.specs.declared.program.Instr.{Instr}
-use Rattle.executive_program.specs.declared.program.Instr.TheVariants.{Suc0, Suc1, Pre0, Pre1, Call, Send, Recv, Sync}
-use Rattle.executive_program.specs.declared.program.SeqCode.{SeqCode}
-use Rattle.executive_program.specs.declared.program.Program.{Program}
-use Rattle.executive_program.specs.Instructions.{is_communication, medium, medium_in, operator, turn, turn_of}
-use Rattle.executive_program.specs.MicroSteps.{is_on, transfers}
-use Rattle.executive_program.specs.Places.{communication_at, is_receive, is_send, receives_at, sends_at}
-use Rattle.executive_program.proofs.Reading.{any_at}
+use Rattle.sequence_build_laws.specs.Graph.{Graph}
+use Rattle.sequence_build_laws.specs.declared.Seq.{Seq}
+use Rattle.sequence_build_laws.specs.declared.Instr.{Instr}
+use Rattle.sequence_build_laws.specs.declared.Instr.TheVariants.{Suc0, Suc1, Pre0, Pre1, Call, Send, Recv, Sync}
+use Rattle.sequence_build_laws.specs.declared.SeqCode.{SeqCode}
+use Rattle.sequence_build_laws.specs.declared.Program.{Program}
+use Rattle.sequence_build_laws.specs.Instructions.{is_communication, medium, medium_in, operator, turn, turn_of}
+use Rattle.sequence_build_laws.specs.MicroSteps.{is_on, transfers}
+use Rattle.sequence_build_laws.specs.Places.{communication_at, is_receive, is_send, receives_at, sends_at}
+use Rattle.sequence_build_laws.proofs.Reading.{any_at}
 use Rattle.program_walks.specs.Walks.{all_below, implies}
 use Rattle.program_walks.proofs.ListTests.{all_here, all_there as each_there, implied, not_true, of_below, to_zero}
 use Rattle.program_walks.proofs.Readings.{same_numbers}

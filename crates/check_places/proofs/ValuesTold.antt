@@ -5,15 +5,15 @@ use Rattle.std.specs.Prelude.{Option, Some, None, slice_get}
 use Rattle.std.specs.Cmp.Derive.{both_true}
 use Rattle.std.proofs.lemmas.Bool.{eqb-true, false≢true}
 use Rattle.std.proofs.lemmas.Option.{slice_get_within}
-use Rattle.flat_graph.specs.declared.vertex.Guard.{Guard}
-use Rattle.flat_graph.specs.declared.vertex.Source.{Source}
-use Rattle.flat_graph.specs.declared.vertex.Vertex.{Vertex}
-use Rattle.flat_graph.specs.Graph.{Graph}
-use Rattle.archi_graph.specs.declared.medium.Seq.{Seq}
-use Rattle.executive_program.specs.declared.program.Program.{Program}
-use Rattle.executive_program.specs.Instructions.{len_of, turn}
-use Rattle.executive_program.specs.MicroSteps.{first_of, transfers}
-use Rattle.executive_program.specs.Places.{caller_of, carried, ins_in, outs_in, transfer, writing, written_at, writer_of}
+use Rattle.sequence_build_laws.specs.declared.Guard.{Guard}
+use Rattle.sequence_build_laws.specs.declared.Source.{Source}
+use Rattle.sequence_build_laws.specs.declared.Vertex.{Vertex}
+use Rattle.sequence_build_laws.specs.Graph.{Graph}
+use Rattle.sequence_build_laws.specs.declared.Seq.{Seq}
+use Rattle.sequence_build_laws.specs.declared.Program.{Program}
+use Rattle.sequence_build_laws.specs.Instructions.{len_of, turn}
+use Rattle.sequence_build_laws.specs.MicroSteps.{first_of, transfers}
+use Rattle.sequence_build_laws.specs.Places.{caller_of, carried, ins_in, outs_in, transfer, writing, written_at, writer_of}
 use Rattle.program_walks.specs.Buffers.{has_places, is_buffer}
 use Rattle.program_walks.specs.Walks.{all_below}
 use Rattle.program_walks.proofs.ListTests.{of_below, to_zero}

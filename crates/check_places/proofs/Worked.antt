@@ -3,20 +3,20 @@ use Rattle.std.proofs.Common.{◌≡◌, ℕ, zero, suc, ◌<◌, ◌⊎◌, Lis
 use Rattle.std.specs.Prelude.{slice_get}
 use Rattle.std.proofs.lemmas.Bool.{false≢true}
 use Rattle.std.proofs.lemmas.Option.{same_Some, slice_get_within}
-use Rattle.flat_graph.specs.Graph.{Graph}
-use Rattle.flat_graph.specs.declared.vertex.Source.{Source}
-use Rattle.flat_graph.specs.declared.vertex.Kind.{Kind}
-use Rattle.flat_graph.specs.declared.vertex.Kind.TheVariants.{Sensor, Actuator}
-use Rattle.flat_graph.specs.declared.vertex.Vertex.{Vertex}
-use Rattle.archi_graph.specs.declared.medium.Seq.{Seq}
-use Rattle.executive_program.specs.declared.program.Instr.{Instr}
-use Rattle.executive_program.specs.declared.program.Instr.TheVariants.{Suc0, Suc1, Pre0, Pre1, Call, Send, Recv}
-use Rattle.executive_program.specs.declared.program.Buffer as declared_buffer
-use Rattle.executive_program.specs.declared.program.SeqCode.{SeqCode}
-use Rattle.executive_program.specs.declared.program.Program.{Program}
-use Rattle.executive_program.specs.Instructions.{Reader, turn}
-use Rattle.executive_program.specs.Places.{calls, ins_in, signals_empty, takes_empty}
-use Rattle.executive_program.specs.WellFormed.{Stands, WritesAt}
+use Rattle.sequence_build_laws.specs.Graph.{Graph}
+use Rattle.sequence_build_laws.specs.declared.Source.{Source}
+use Rattle.sequence_build_laws.specs.declared.Kind.{Kind}
+use Rattle.sequence_build_laws.specs.declared.Kind.TheVariants.{Sensor, Actuator}
+use Rattle.sequence_build_laws.specs.declared.Vertex.{Vertex}
+use Rattle.sequence_build_laws.specs.declared.Seq.{Seq}
+use Rattle.sequence_build_laws.specs.declared.Instr.{Instr}
+use Rattle.sequence_build_laws.specs.declared.Instr.TheVariants.{Suc0, Suc1, Pre0, Pre1, Call, Send, Recv}
+use Rattle.sequence_build_laws.specs.declared.Buffer as declared_buffer
+use Rattle.sequence_build_laws.specs.declared.SeqCode.{SeqCode}
+use Rattle.sequence_build_laws.specs.declared.Program.{Program}
+use Rattle.sequence_build_laws.specs.Instructions.{Reader, turn}
+use Rattle.sequence_build_laws.specs.Places.{calls, ins_in, signals_empty, takes_empty}
+use Rattle.sequence_build_laws.specs.WellFormed.{Stands, WritesAt}
 use Rattle.program_walks.specs.Acts.{passes}
 use Rattle.check_places.specs.declared.place.Part.TheVariants.{Loop, Prologue}
 use Rattle.check_places.specs.declared.place.Rule.{Rule}

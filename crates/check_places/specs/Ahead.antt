@@ -17,14 +17,14 @@ use Rattle.std.specs.Prelude.{
   [],
 }
 use Rattle.std.specs.List.{count_by}
-use Rattle.flat_graph.specs.declared.vertex.Source.{Source}
-use Rattle.flat_graph.specs.declared.vertex.Vertex.{Vertex}
-use Rattle.flat_graph.specs.Graph.{Graph}
-use Rattle.archi_graph.specs.declared.medium.Seq.{Seq}
-use Rattle.executive_program.specs.declared.program.Instr.{Instr}
-use Rattle.executive_program.specs.declared.program.Instr.TheVariants.{Suc0, Suc1, Pre1, Send, Recv, Sync}
-use Rattle.executive_program.specs.declared.program.Program.{Program}
-use Rattle.executive_program.specs.Instructions.{
+use Rattle.sequence_build_laws.specs.declared.Source.{Source}
+use Rattle.sequence_build_laws.specs.declared.Vertex.{Vertex}
+use Rattle.sequence_build_laws.specs.Graph.{Graph}
+use Rattle.sequence_build_laws.specs.declared.Seq.{Seq}
+use Rattle.sequence_build_laws.specs.declared.Instr.{Instr}
+use Rattle.sequence_build_laws.specs.declared.Instr.TheVariants.{Suc0, Suc1, Pre1, Send, Recv, Sync}
+use Rattle.sequence_build_laws.specs.declared.Program.{Program}
+use Rattle.sequence_build_laws.specs.Instructions.{
   Reader,
   is_communication,
   len_of,
@@ -34,9 +34,9 @@ use Rattle.executive_program.specs.Instructions.{
   readers,
   turn,
 }
-use Rattle.executive_program.specs.MicroSteps.{transfers}
-use Rattle.executive_program.specs.Places.{calling, carried, opening_of, places, transfer, writing}
-use Rattle.executive_program.specs.WellFormed.{Communicates, IsBuffer, IsOnly, Stands, operator_is, operator_of}
+use Rattle.sequence_build_laws.specs.MicroSteps.{transfers}
+use Rattle.sequence_build_laws.specs.Places.{calling, carried, opening_of, places, transfer, writing}
+use Rattle.sequence_build_laws.specs.WellFormed.{Communicates, IsBuffer, IsOnly, Stands, operator_is, operator_of}
 use Rattle.check_laws.specs.Items.{IsCalledOnce, IsGuarded, IsWrittenOnce, NamesThere}
 use Rattle.check_places.specs.declared.place.Part.{Part}
 use Rattle.check_places.specs.declared.place.Part.TheVariants.{Loop, Prologue}

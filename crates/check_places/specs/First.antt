@@ -1,7 +1,7 @@
 -- The first place of several.
 use Rattle.std.specs.Prelude.{ℕ, ◌+◌, Bool, cond, List, [], ◌∷◌, Option, Some, None}
 use Rattle.std.specs.List.{range_with_len}
-use Rattle.executive_program.specs.MicroSteps.{first_of}
+use Rattle.sequence_build_laws.specs.MicroSteps.{first_of}
 use Rattle.program_tables.specs.declared.mark_table.Mark.{Mark}
 use Rattle.check_places.specs.declared.place.Part.{Part}
 use Rattle.check_places.specs.declared.place.Part.TheVariants.{Loop}

@@ -18,14 +18,14 @@ use Rattle.std.specs.Prelude.{
   slice_get,
 }
 use Rattle.std.specs.List.{list_all}
-use Rattle.executive_program.specs.declared.program.Instr.{Instr}
-use Rattle.executive_program.specs.declared.program.SeqCode.{SeqCode}
-use Rattle.executive_program.specs.declared.program.Program.{Program}
-use Rattle.executive_program.specs.Blocks.{blocks, repeated}
-use Rattle.executive_program.specs.Instructions.{Reader, readers}
-use Rattle.executive_program.specs.MicroSteps.{first_of}
-use Rattle.executive_program.specs.Places.{opening_signals, signals_empty, written_at, writer_of}
-use Rattle.executive_program.specs.WellFormed.{operator_of}
+use Rattle.sequence_build_laws.specs.declared.Instr.{Instr}
+use Rattle.sequence_build_laws.specs.declared.SeqCode.{SeqCode}
+use Rattle.sequence_build_laws.specs.declared.Program.{Program}
+use Rattle.sequence_build_laws.specs.Blocks.{blocks, repeated}
+use Rattle.sequence_build_laws.specs.Instructions.{Reader, readers}
+use Rattle.sequence_build_laws.specs.MicroSteps.{first_of}
+use Rattle.sequence_build_laws.specs.Places.{opening_signals, signals_empty, written_at, writer_of}
+use Rattle.sequence_build_laws.specs.WellFormed.{operator_of}
 use Rattle.program_tables.specs.declared.mark_table.Mark.{Mark}
 use Rattle.program_tables.specs.declared.roles.Role.TheVariants.{
   Read,
@@ -54,7 +54,7 @@ use Rattle.check_places.specs.declared.place.Rule.TheVariants.{
 use Rattle.check_places.specs.declared.place.Subject.TheVariants.{Pair, Sequence}
 use Rattle.check_places.specs.First.{broken, first_failing, first_from, in_loop, spot_at, unless}
 
--- these places are one instruction of sequence s, before instruction a of it, or after it
+-- These places are one instruction of sequence s, before its instruction a.
 abbrev pub is_taken_before : ℕ → ℕ → List Mark → Bool
 is_taken_before s a takes = lone s takes && nat_lt (first_at takes) a
 
@@ -62,7 +62,7 @@ is_taken_before s a takes = lone s takes && nat_lt (first_at takes) a
 abbrev pub is_signalled_after : ℕ → ℕ → List Mark → Bool
 is_signalled_after s a signals = lone s signals && nat_lt a (first_at signals)
 
--- they are one instruction of sequence s, before its reads among these, or after them
+-- These takes are one instruction of sequence s, before all of its reads among these places.
 abbrev pub is_taken_first : ℕ → List Mark → List Mark → Bool
 is_taken_first s reads takes =
     lone s takes && list_all (λ m. implies (nat_eq m.sequence s) (nat_lt (first_at takes) m.at)) reads

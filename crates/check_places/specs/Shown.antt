@@ -15,16 +15,16 @@ use Rattle.std.specs.Prelude.{
   None,
   slice_get,
 }
-use Rattle.flat_graph.specs.declared.vertex.Vertex.{Vertex}
-use Rattle.flat_graph.specs.Graph.{Graph}
-use Rattle.archi_graph.specs.Archi.{Architecture, is_archi}
-use Rattle.archi_graph.specs.Sequences.{sequences}
-use Rattle.archi_graph.specs.declared.medium.Seq.{Seq}
-use Rattle.executive_program.specs.declared.program.Program.{Program}
-use Rattle.executive_program.specs.Instructions.{Reader, len_of, medium, readers}
-use Rattle.executive_program.specs.MicroSteps.{transfers}
-use Rattle.executive_program.specs.Places.{transfer}
-use Rattle.executive_program.specs.WellFormed.{IsWellFormed}
+use Rattle.sequence_build_laws.specs.declared.Vertex.{Vertex}
+use Rattle.sequence_build_laws.specs.Graph.{Graph}
+use Rattle.sequence_build_laws.specs.Archi.{Architecture, is_archi}
+use Rattle.sequence_build_laws.specs.Sequences.{sequences}
+use Rattle.sequence_build_laws.specs.declared.Seq.{Seq}
+use Rattle.sequence_build_laws.specs.declared.Program.{Program}
+use Rattle.sequence_build_laws.specs.Instructions.{Reader, len_of, medium, readers}
+use Rattle.sequence_build_laws.specs.MicroSteps.{transfers}
+use Rattle.sequence_build_laws.specs.Places.{transfer}
+use Rattle.sequence_build_laws.specs.WellFormed.{IsWellFormed}
 use Rattle.check_laws.specs.Items.{IsTransferred, IsWrittenOnce}
 use Rattle.check_laws.specs.Run.{made, run, stuck}
 use Rattle.check_laws.specs.Tests.{

@@ -1,10 +1,10 @@
 -- Where transfers are wrong.
 use Rattle.std.specs.Prelude.{ℕ, nat_lt, length, Option, None, slice_get}
-use Rattle.executive_program.specs.declared.program.SeqCode.{SeqCode}
-use Rattle.executive_program.specs.declared.program.Program.{Program}
-use Rattle.executive_program.specs.Instructions.{operator, turn}
-use Rattle.executive_program.specs.MicroSteps.{first_of, transfers}
-use Rattle.executive_program.specs.Places.{communication_at}
+use Rattle.sequence_build_laws.specs.declared.SeqCode.{SeqCode}
+use Rattle.sequence_build_laws.specs.declared.Program.{Program}
+use Rattle.sequence_build_laws.specs.Instructions.{operator, turn}
+use Rattle.sequence_build_laws.specs.MicroSteps.{first_of, transfers}
+use Rattle.sequence_build_laws.specs.Places.{communication_at}
 use Rattle.program_tables.specs.declared.crossings.Crossing.{Crossing}
 use Rattle.program_tables.specs.Crossings.{crossing}
 use Rattle.order_check.specs.Checked.{is_at_medium, is_counted, is_medium}

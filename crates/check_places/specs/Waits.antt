@@ -1,8 +1,8 @@
 -- What the sequences wait for at which a run stops.
 use Rattle.std.specs.Prelude.{ℕ, List, map, Option, Some, None, slice_get}
-use Rattle.executive_program.specs.declared.program.Instr.{Instr}
-use Rattle.executive_program.specs.declared.program.Program.{Program}
-use Rattle.executive_program.specs.Instructions.{turn}
+use Rattle.sequence_build_laws.specs.declared.Instr.{Instr}
+use Rattle.sequence_build_laws.specs.declared.Program.{Program}
+use Rattle.sequence_build_laws.specs.Instructions.{turn}
 use Rattle.check_laws.specs.Run.{awaited}
 use Rattle.check_laws.specs.Run as run
 use Rattle.macro_check.specs.Awaiting.{stand_or}

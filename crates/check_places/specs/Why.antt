@@ -1,8 +1,8 @@
 -- Why a program is not well formed: the first place that shows its first cause.
 use Rattle.std.specs.Prelude.{ℕ, List, length, Option, Some, None}
-use Rattle.flat_graph.specs.declared.vertex.Vertex.{Vertex}
-use Rattle.archi_graph.specs.declared.medium.Seq.{Seq}
-use Rattle.executive_program.specs.declared.program.Program.{Program}
+use Rattle.sequence_build_laws.specs.declared.Vertex.{Vertex}
+use Rattle.sequence_build_laws.specs.declared.Seq.{Seq}
+use Rattle.sequence_build_laws.specs.declared.Program.{Program}
 use Rattle.check_laws.specs.Items.{AreTransferred}
 use Rattle.macro_check.specs.Awaiting.{MayRun}
 use Rattle.macro_check.specs.Carrying.{AreLow}

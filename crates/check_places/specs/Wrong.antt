@@ -22,15 +22,15 @@ use Rattle.std.specs.Prelude.{
   [],
 }
 use Rattle.std.specs.List.{count_by}
-use Rattle.flat_graph.specs.declared.vertex.Kind.TheVariants.{Get}
-use Rattle.flat_graph.specs.declared.vertex.Source.{Source}
-use Rattle.flat_graph.specs.declared.vertex.Vertex.{Vertex}
-use Rattle.flat_graph.specs.Graph.{Graph}
-use Rattle.archi_graph.specs.declared.medium.Seq.{Seq}
-use Rattle.executive_program.specs.declared.program.Instr.{Instr}
-use Rattle.executive_program.specs.declared.program.Instr.TheVariants.{Suc0, Suc1, Pre0, Pre1, Call, Send, Recv, Sync}
-use Rattle.executive_program.specs.declared.program.Program.{Program}
-use Rattle.executive_program.specs.Instructions.{
+use Rattle.sequence_build_laws.specs.declared.Kind.TheVariants.{Get}
+use Rattle.sequence_build_laws.specs.declared.Source.{Source}
+use Rattle.sequence_build_laws.specs.declared.Vertex.{Vertex}
+use Rattle.sequence_build_laws.specs.Graph.{Graph}
+use Rattle.sequence_build_laws.specs.declared.Seq.{Seq}
+use Rattle.sequence_build_laws.specs.declared.Instr.{Instr}
+use Rattle.sequence_build_laws.specs.declared.Instr.TheVariants.{Suc0, Suc1, Pre0, Pre1, Call, Send, Recv, Sync}
+use Rattle.sequence_build_laws.specs.declared.Program.{Program}
+use Rattle.sequence_build_laws.specs.Instructions.{
   Reader,
   depth_of,
   is_communication,
@@ -42,9 +42,9 @@ use Rattle.executive_program.specs.Instructions.{
   readers,
   turn,
 }
-use Rattle.executive_program.specs.MicroSteps.{transfers}
-use Rattle.executive_program.specs.Places.{calling, carried, opening_of, places, transfer}
-use Rattle.executive_program.specs.WellFormed.{
+use Rattle.sequence_build_laws.specs.MicroSteps.{transfers}
+use Rattle.sequence_build_laws.specs.Places.{calling, carried, opening_of, places, transfer}
+use Rattle.sequence_build_laws.specs.WellFormed.{
   Communicates,
   HasLength,
   IsOnly,

@@ -2,7 +2,7 @@
 ghost use Rattle.std.specs.Prelude.{◌≡◌, ℕ, ◌<◌, [], ◌∷◌, length, nat_eq, slice_get};
 ghost use Rattle.std.specs.List.{list_all, list_any};
 ghost use Rattle.program_walks.specs.Buffers.{has_places, is_operator};
-ghost use Rattle.executive_program.specs.Instructions.{is_guarded};
+ghost use Rattle.sequence_build_laws.specs.Instructions.{is_guarded};
 ghost use Rattle.program_tables.specs.MarkRows.{row};
 ghost use Rattle.program_tables.specs.declared.roles.Role.TheVariants.{Read, Written};
 ghost use Rattle.program_tables.specs.Marks.{marks_of};
@@ -11,9 +11,9 @@ ghost use Rattle.check_places.specs.Buffers.{buffer_place, buffer_place_by, is_n
 
 use crate::first::{broken, broken_at, first_of, in_loop, unless};
 use crate::place::{Place, Rule, Subject};
-use executive_program::Program;
 use program_tables::{Mark, MarkTable, is_in};
 use program_walks::{depth_of, operator_of};
+use sequence_build_laws::Program;
 
 /// Whether a buffer is there and belongs to an operator.
 fn is_on_operator(program: &Program, buffer: usize, operator: u32) -> bool

@@ -1,11 +1,11 @@
 //! Where the calls of operations are wrong.
 ghost use Rattle.std.specs.Prelude.{◌≡◌, ℕ, ◌<◌, ◌∷◌, ◌&&◌, nat_eq, nat_lt, is_none, length};
-ghost use Rattle.executive_program.specs.Places.{caller_of};
+ghost use Rattle.sequence_build_laws.specs.Places.{caller_of};
+ghost use Rattle.sequence_build_laws.specs.Instructions.{medium};
 ghost use Rattle.program_tables.specs.MarkRows.{row};
 ghost use Rattle.program_tables.specs.declared.roles.Role.TheVariants.{Called};
 ghost use Rattle.program_tables.specs.Marks.{marks_of};
 ghost use Rattle.order_check.specs.Calls.{called_at, is_before_twin};
-ghost use Rattle.executive_program.specs.Instructions.{medium};
 ghost use Rattle.check_places.specs.declared.place.Rule.TheVariants.{CalledAgain, CalledInThread, GetNotBeforeSet};
 ghost use Rattle.check_places.specs.declared.place.Subject.TheVariants.{Operation};
 ghost use Rattle.check_places.specs.First.{broken, broken_at, first_failing, in_loop, unless};
@@ -13,10 +13,9 @@ ghost use Rattle.check_places.specs.Calls.{call_place_by, calls_place, is_same};
 
 use crate::first::{broken, broken_at, first_of, in_loop, unless};
 use crate::place::{Place, Rule, Subject};
-use executive_program::Program;
-use flat_graph::{Kind, Vertex};
 use program_tables::{Mark, MarkTable};
 use program_walks::{caller_of, first_call, medium_of, turn_of};
+use sequence_build_laws::{Kind, Program, Vertex};
 
 /// Whether two places are one instruction.
 fn is_same(mark: Mark, other: Mark) -> bool

@@ -1,7 +1,7 @@
 //! Places as they are put together: the instruction that shows one, a rule that is broken unless something holds, and
 //! the first of two.
 ghost use Rattle.std.specs.Prelude.{◌≡◌};
-ghost use Rattle.executive_program.specs.MicroSteps.{first_of};
+ghost use Rattle.sequence_build_laws.specs.MicroSteps.{first_of};
 ghost use Rattle.check_places.specs.First.{broken, broken_at, in_loop, spot_at, unless};
 
 use crate::place::{Part, Place, Rule, Spot, Subject};

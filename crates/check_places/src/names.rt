@@ -1,15 +1,15 @@
 //! Where sequences and names are wrong.
 ghost use Rattle.std.specs.Prelude.{◌≡◌, Some};
-ghost use Rattle.executive_program.specs.declared.program.SeqCode.{SeqCode};
-ghost use Rattle.order_check.specs.Sequenced.{is_of, same_medium};
+ghost use Rattle.sequence_build_laws.specs.declared.SeqCode.{SeqCode};
+ghost use Rattle.sequence_build_laws.specs.Instructions.{same_medium};
+ghost use Rattle.order_check.specs.Sequenced.{is_of};
 ghost use Rattle.check_places.specs.First.{first_from};
 ghost use Rattle.check_places.specs.Names.{name_place, names_place, sequence_place};
 
 use crate::first::{broken, first_of, spot_at, unless};
 use crate::place::{Part, Place, Rule, Subject};
-use archi_graph::Seq;
-use executive_program::{Instr, Program, SeqCode};
 use macro_check::is_there;
+use sequence_build_laws::{Instr, Program, Seq, SeqCode};
 
 /// How many operations and operators there are.
 #[derive(Clone, Copy, Drop)]

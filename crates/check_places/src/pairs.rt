@@ -2,8 +2,8 @@
 ghost use Rattle.std.specs.Prelude.{◌≡◌, ◌<◌, ◌&&◌, nat_eq, nat_lt, not, length, slice_get, None};
 ghost use Rattle.std.specs.List.{list_all};
 ghost use Rattle.program_walks.specs.Pairs.{has_operator};
-ghost use Rattle.executive_program.specs.WellFormed.{operator_of};
-ghost use Rattle.executive_program.specs.Places.{written_at, writer_of};
+ghost use Rattle.sequence_build_laws.specs.WellFormed.{operator_of};
+ghost use Rattle.sequence_build_laws.specs.Places.{written_at, writer_of};
 ghost use Rattle.program_tables.specs.declared.roles.Role.TheVariants.{Read};
 ghost use Rattle.program_tables.specs.Marks.{first_at, marks_of};
 ghost use Rattle.program_walks.specs.Walks.{implies};
@@ -17,9 +17,9 @@ ghost use Rattle.check_places.specs.Pairs.{declared_place, is_signalled_after, i
 
 use crate::first::{broken, first_of, in_loop, unless};
 use crate::place::{Place, Rule, Spot, Subject};
-use executive_program::Program;
 use macro_check::Tables;
 use program_tables::{Mark, PairTables, Reading, Write, first_at, is_lone, write_of};
+use sequence_build_laws::Program;
 
 /// Whether a pair and a buffer are there and belong to the same operator.
 fn has_operator(program: &Program, pair: usize, buffer: usize) -> bool

@@ -1,15 +1,15 @@
 //! Where prologues are wrong.
 ghost use Rattle.std.specs.Prelude.{◌≡◌, ℕ, ◌++◌, IfOk, OnOk};
-ghost use Rattle.executive_program.specs.Blocks.{repeated};
+ghost use Rattle.sequence_build_laws.specs.Blocks.{repeated};
 ghost use Rattle.program_tables.specs.Readings.{readings};
 ghost use Rattle.check_places.specs.First.{broken, spot_at};
 ghost use Rattle.check_places.specs.Pairs.{pairs_signalled, prologue_place, signal_place};
 
 use crate::first::{broken, spot_at};
 use crate::place::{Part, Place, Rule, Subject};
-use executive_program::{Instr, Program, SeqCode};
 use program_tables::Reading;
 use program_walks::{depth_of, signals_empty};
+use sequence_build_laws::{Instr, Program, SeqCode};
 use std::alloc::Global;
 use syn_base::OutOfMemory;
 

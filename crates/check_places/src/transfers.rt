@@ -1,6 +1,6 @@
 //! Where transfers are wrong.
 ghost use Rattle.std.specs.Prelude.{◌≡◌, ℕ, ◌&&◌, slice_get};
-ghost use Rattle.executive_program.specs.Instructions.{operator, turn};
+ghost use Rattle.sequence_build_laws.specs.Instructions.{operator, turn};
 ghost use Rattle.order_check.specs.Checked.{is_at_medium, is_counted, is_medium};
 ghost use Rattle.program_tables.specs.Crossings.{crossing, crossings, crossings_on};
 ghost use Rattle.check_laws.specs.Tests.{waits_between};
@@ -10,12 +10,12 @@ ghost use Rattle.check_places.specs.Transfers.{awaited_place, count_place, first
 
 use crate::first::{broken, first_of, in_loop, unless};
 use crate::place::{Place, Rule, Subject};
-use executive_program::{Instr, Program, SeqCode};
 use order_check::{is_receive_from, is_send_to, is_wait};
 use program_tables::Crossing;
 use program_walks::{
     communication_at, count_communications, is_on, operator_of, transfers, turn_of,
 };
+use sequence_build_laws::{Instr, Program, SeqCode};
 use syn_base::Items;
 
 /// Whether a sequence with these instructions is a communicator, or has no communication.

@@ -1,7 +1,7 @@
 //! Where buffers carry what they may not: what comes from no call, what an operation does not take or give, and what a
 //! transfer changes.
 ghost use Rattle.std.specs.Prelude.{◌≡◌, ℕ, ◌+◌, ◌<◌, ◌≤◌, ◌^◌, drop, length, nat_eq, slice_get};
-ghost use Rattle.executive_program.specs.Places.{caller_of};
+ghost use Rattle.sequence_build_laws.specs.Places.{caller_of};
 ghost use Rattle.program_tables.specs.MarkRows.{row};
 ghost use Rattle.program_tables.specs.declared.roles.Role.TheVariants.{Called, Written};
 ghost use Rattle.program_tables.specs.Crossings.{crossing, crossings, crossings_on};
@@ -15,12 +15,11 @@ ghost use Rattle.check_places.specs.Buffers.{fit_place, fit_place_at, given_plac
 
 use crate::first::{broken, first_of, in_loop, unless};
 use crate::place::{Place, Rule, Spot, Subject};
-use executive_program::Program;
-use flat_graph::{Guard, Source, Vertex};
 use macro_check::{Tables, carries, carries_alike, gives_at, is_as_long, is_call, origin_in};
 use order_check::{Origin, ins_of, outs_of};
 use program_tables::{Crossing, Mark, call_of, write_of};
 use program_walks::{Stand, turn_of};
+use sequence_build_laws::{Guard, Program, Source, Vertex};
 use syn_base::Items;
 
 /// A program with the sources that its buffers carry and the operations that it calls.

@@ -1,15 +1,15 @@
 //! What the sequences wait for at which a run stops.
 ghost use Rattle.std.specs.Prelude.{◌≡◌, ℕ, map, slice_get, IfOk};
-ghost use Rattle.executive_program.specs.Instructions.{turn};
+ghost use Rattle.sequence_build_laws.specs.Instructions.{turn};
 ghost use Rattle.macro_check.specs.Awaiting.{MayRun, place_of};
 ghost use Rattle.macro_check.specs.Tabled.{AreTables};
 ghost use Rattle.check_places.specs.Waits.{awaits, spot_of, waiting, waitings};
 
 use crate::place::{Part, Spot, Waiting};
 use check_cause::Stop;
-use executive_program::Program;
 use macro_check::{Tables, awaited};
 use program_walks::{Stand, turn_of};
+use sequence_build_laws::Program;
 use std::alloc::Global;
 use syn_base::OutOfMemory;
 

@@ -1,8 +1,8 @@
 //! Why a program is refused: its first cause, and the first place that shows it.
 ghost use Rattle.std.specs.Prelude.{◌≡◌, ◌↔◌, ℕ, ◌<◌, ◌≤◌, ◌^◌, IfOk, IfSome, IsNone, Some, length, map};
-ghost use Rattle.archi_graph.specs.Sequences.{sequences};
-ghost use Rattle.executive_program.specs.Instructions.{turn};
-ghost use Rattle.executive_program.specs.WellFormed.{IsWellFormed};
+ghost use Rattle.sequence_build_laws.specs.Sequences.{sequences};
+ghost use Rattle.sequence_build_laws.specs.Instructions.{turn};
+ghost use Rattle.sequence_build_laws.specs.WellFormed.{IsWellFormed};
 ghost use Rattle.check_laws.specs.Items.{AreTransferred};
 ghost use Rattle.check_laws.specs.Tests.{Cause, cause};
 ghost use Rattle.macro_check.specs.Awaiting.{MayRun, place_of};
@@ -25,11 +25,9 @@ use crate::prologues::prologue_place;
 use crate::transfers::transfers_place;
 use crate::values::{Carried, first_fit, first_kept, first_made};
 use crate::waits::waitings;
-use archi_graph::Archi;
 use check_cause::{CheckCause, Stop};
-use executive_program::Program;
-use flat_graph::{Flat, Vertex};
 use macro_check::{CheckError, Tables, find_sources, find_tables, macro_check};
+use sequence_build_laws::{Archi, Flat, Program, Vertex};
 use std::alloc::Global;
 use syn_base::{Items, OutOfMemory};
 

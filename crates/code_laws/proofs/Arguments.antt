@@ -9,8 +9,8 @@ use Rattle.std.proofs.lemmas.Str.Parse.{IsNumeralModel, numerals_by_fold}
 use Rattle.syn_base.specs.Name.{is_name, is_name_byte, is_digit, is_letter, begins_name}
 use Rattle.syn_base.specs.Integer.{number_after}
 use Rattle.syn_base.proofs.Decimal as integers
-use Rattle.flat_graph.specs.Valid.{is_path, is_path_byte}
 use Rattle.syn_base.specs.Bytes.{Bytes}
+use Rattle.sequence_build_laws.specs.FlatValid.{is_path, is_path_byte}
 use Rattle.macro_code.specs.Forms.{has_bytes, natural, number_in, buffer_in, each_in, with_first}
 use Rattle.macro_code.specs.Text.{buffer_name}
 use Rattle.code_laws.proofs.Forms.{is_word_byte, is_argument, all_of}

@@ -7,19 +7,20 @@ use Rattle.std.proofs.lemmas.Bool.{and_parts, and_from, lt-ltb, le-leb, eqb-true
 use Rattle.std.proofs.lemmas.Option.{slice_get-get_or}
 use Rattle.std.proofs.lemmas.List.{length_push, get_or_push, map-append}
 use Rattle.syn_base.specs.Name.{is_name}
-use Rattle.flat_graph.specs.Graph.{Graph}
-use Rattle.archi_graph.specs.Archi.{Architecture, ascends_from}
-use Rattle.executive_program.specs.declared.program.Buffer.{Buffer}
+use Rattle.sequence_build_laws.specs.Graph.{Graph}
+use Rattle.sequence_build_laws.specs.Archi.{Architecture, ascends_from}
+use Rattle.sequence_build_laws.specs.declared.Buffer.{Buffer}
 use Rattle.macro_code.specs.declared.macros.Macro.TheVariants as macros
 use Rattle.macro_code.specs.Text.{line, pairs_on, buffer_name, places_of, alloc_line, alloc_lines, operator_name}
-use Rattle.macro_code.specs.declared.fault.CodeError.{CodeError}
+use Rattle.macro_code.specs.Refusals.{CodeRefusal}
 use Rattle.macro_code.specs.declared.fault.CodeCause.TheVariants.{BadArgument}
 use Rattle.macro_code.specs.declared.numbered.Numbered.{Numbered}
 use Rattle.macro_code.specs.declared.numbered.Size.{Size}
 use Rattle.macro_code.specs.declared.stage.Stage.TheVariants.{Outside, Named, Declared}
 use Rattle.syn_base.specs.Bytes.{Bytes}
 use Rattle.macro_code.specs.Forms.{Declaration, declaration_in, declared_by, buffer_in, number_in, at_least, from_to}
-use Rattle.macro_code.specs.ReadText.{Reading, and_then, argument, known, refused, name_of, place_in, follows, last_of, numbered, with_pairs, with_buffer, at_processor, ascending, operation_names}
+use Rattle.macro_code.specs.ReadText.{Reading, argument, known, name_of, place_in, follows, last_of, numbered, with_pairs, with_buffer, at_processor, ascending, operation_names}
+use Rattle.text_lines.specs.Refusals.{and_then, refused}
 use Rattle.code_laws.proofs.Arguments.{is_small, number_back, number_argument, buffer_back, buffer_argument, each_back, each_argument, name_argument}
 use Rattle.code_laws.proofs.Forms.{is_argument}
 use Rattle.code_laws.proofs.Named.{names, AreNamed}
@@ -28,7 +29,7 @@ use Rattle.code_laws.proofs.ReadLines as lines
 use Rattle.code_laws.proofs.Instructions.{Read, stands, one_argument}
 
 -- one argument that is a name
-pub name_back : {A : Type 0} (n : ℕ) (w : Bytes) (go : Bytes → Result A CodeError) → is_name w ≡ true → and_then (name_of n (Some (w ∷ []))) go ≡ go w
+pub name_back : {A : Type 0} (n : ℕ) (w : Bytes) (go : Bytes → Result A CodeRefusal) → is_name w ≡ true → and_then (name_of n (Some (w ∷ []))) go ≡ go w
 name_back n w go h = ap (λ (b : Bool). and_then (argument n (if b then Some w else None)) go) h
 
 declared_steps : (b l d : ℕ) (o p q : Option ℕ) → o ≡ Some b → p ≡ Some l → q ≡ Some d → declared_by o p q ≡ Some (record { number = b; len = l; depth = d })
@@ -129,7 +130,7 @@ module _ (g : Graph) (a : Architecture) (known_names : AreNamed g a) where
       let at = record r { stage = Outside } in
       lines.macro_reads (operation_names g) a at (at_processor a r o) n macros.Processor (w ∷ []) (one_argument w (name_argument w it.passes))
       (stands g a known_names at n (Some (w ∷ [])) macros.Processor (at_processor a r o) refl
-      (ap (λ (x : Result ℕ CodeError). and_then x (λ (p : ℕ). Ok (at_processor a at p)))
+      (ap (λ (x : Result ℕ CodeRefusal). and_then x (λ (p : ℕ). Ok (at_processor a at p)))
       (name_back n w (λ (v : Bytes). and_then (known n v (place_in a.operators v)) (λ (p : ℕ). if follows r.operator p then Ok p else refused n BadArgument)) it.passes
       ∙ ap (λ (p : Option ℕ). and_then (known n w p) (λ (q : ℕ). if follows r.operator q then Ok q else refused n BadArgument)) it.place
       ∙ ap (λ (b : Bool). if b then Ok o else refused n BadArgument) f)))
@@ -142,7 +143,7 @@ module _ (g : Graph) (a : Architecture) (known_names : AreNamed g a) where
       let ws = map decimal qs in
       lines.macro_reads (operation_names g) a at (with_pairs r n qs) n macros.Semaphores ws (each_argument decimal number_argument qs small)
       (stands g a known_names at n (Some ws) macros.Semaphores (with_pairs r n qs) refl
-      (ap (λ (x : Result (List ℕ) CodeError). and_then x (λ (ps : List ℕ). Ok (with_pairs at n ps)))
+      (ap (λ (x : Result (List ℕ) CodeRefusal). and_then x (λ (ps : List ℕ). Ok (with_pairs at n ps)))
       (ap (λ (o : Option (List ℕ)). and_then (argument n o) (λ (ps : List ℕ). ascending n ps)) (each_back number_in decimal number_back qs small)
       ∙ ap (λ (b : Bool). if b then Ok qs else refused n BadArgument) rising)))
 
@@ -159,7 +160,7 @@ module _ (g : Graph) (a : Architecture) (known_names : AreNamed g a) where
       let ws = buffer_name b ∷ decimal x.len ∷ places_of x.depth in
       lines.macro_reads (operation_names g) a at to n macros.Alloc ws it.arguments
       (stands g a known_names at n (Some ws) macros.Alloc to refl
-      (ap (λ (y : Result Declaration CodeError). and_then y (λ (d : Declaration). Ok (with_buffer at n d)))
+      (ap (λ (y : Result Declaration CodeRefusal). and_then y (λ (d : Declaration). Ok (with_buffer at n d)))
       (ap (λ (o : Option Declaration). and_then (argument n o) (λ (d : Declaration). if follows (last_of here) d.number then Ok d else refused n BadArgument)) it.back
       ∙ ap (λ (t : Bool). if t then Ok (record { number = b; len = x.len; depth = x.depth }) else refused n BadArgument) (above.follow b (omega arith)))))
 

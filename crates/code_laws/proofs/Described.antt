@@ -3,26 +3,27 @@ use Rattle.std.proofs.Common.{◌≡◌, ℕ, ◌+◌, Bool, not, true, false, �
 use Rattle.std.specs.List.{list_all}
 use Rattle.text_lines.specs.Text.{lines_of}
 use Rattle.syn_base.specs.Name.{is_name}
-use Rattle.archi_graph.specs.declared.medium.Medium.{Medium}
-use Rattle.archi_graph.specs.Archi.{names_of}
-use Rattle.archi_defs.specs.declared.fault.ArchiError.{ArchiError}
-use Rattle.archi_defs.specs.declared.fault.ArchiCause.TheVariants.{BadLine}
 use Rattle.syn_base.specs.Bytes.{Bytes}
-use Rattle.archi_defs.specs.Text.{Described, Reading, start, refused, with_some, and_then, next_line, rest_of, whole_of, whole, has_stands, all_joined, apart, described, description_of}
+use Rattle.text_lines.specs.Refusals.{refused, with_some, and_then}
 use Rattle.archi_reader.proofs.Endings.{told, media_told}
 use Rattle.archi_reader.proofs.Counted.{IsSpelled, follows_next}
 use Rattle.archi_reader.proofs.Accepted.{described_are}
+use Rattle.sequence_build_laws.specs.declared.Medium.{Medium}
+use Rattle.sequence_build_laws.specs.Archi.{names_of}
+use Rattle.sequence_build_laws.specs.Refusals.{ArchiRefusal}
+use Rattle.sequence_build_laws.specs.declared.ArchiCause.TheVariants.{BadLine}
+use Rattle.sequence_build_laws.specs.Text.{Described, Reading, start, next_line, rest_of, whole_of, whole, has_stands, all_joined, apart, described, description_of}
 use Rattle.code_laws.specs.ReadsBack.{DescribedReadBack}
 use Rattle.code_laws.proofs.ReadBack.{built_read_back}
 
 abbrev HasNames : Described → Type 0
 HasNames d = list_all is_name (names_of d.archi.operators d.archi.media) ≡ true
 
-passed : (b : Bool) (e : ArchiError) (go : Result Described ArchiError) (d : Described) → (if b then Err e else go) ≡ Ok d → go ≡ Ok d
+passed : (b : Bool) (e : ArchiRefusal) (go : Result Described ArchiRefusal) (d : Described) → (if b then Err e else go) ≡ Ok d → go ≡ Ok d
 passed true e go d h = cc
 passed false e go d h = h
 
-not_told : (o : Option ℕ) (media : List Medium) (lines : List ℕ) (go : Result Described ArchiError) (d : Described) → told o media lines go ≡ Ok d → go ≡ Ok d
+not_told : (o : Option ℕ) (media : List Medium) (lines : List ℕ) (go : Result Described ArchiRefusal) (d : Described) → told o media lines go ≡ Ok d → go ≡ Ok d
 not_told None media lines go d h = h
 not_told (Some k) media lines go d h = cc
 
@@ -44,7 +45,7 @@ behind_lines : (lines : List Bytes) (r : Reading) (n : ℕ) (d : Described) → 
 behind_lines [] r n d spelled h = at_the_end r n d spelled h
 behind_lines (line ∷ lines) r n d spelled h = by (next_line r n line) refl h (λ t s k. behind_lines lines t (n + 1) d s k)
   where
-    by : (read : Result Reading ArchiError) → next_line r n line ≡ read → and_then read (λ t. rest_of t (n + 1) lines) ≡ Ok d
+    by : (read : Result Reading ArchiRefusal) → next_line r n line ≡ read → and_then read (λ t. rest_of t (n + 1) lines) ≡ Ok d
         → ((t : Reading) → IsSpelled t → rest_of t (n + 1) lines ≡ Ok d → HasNames d) → HasNames d
     by (Ok t) e k go = go t (follows_next r t n line spelled e).spelled k
     by (Err x) e k go = absurd (cc)

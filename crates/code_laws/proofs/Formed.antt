@@ -6,21 +6,21 @@ use Rattle.std.proofs.lemmas.Bool.{and_parts, and_from, ne_eqb, cases_eq, cases_
 use Rattle.std.proofs.lemmas.List.{length-map}
 use Rattle.std.proofs.lemmas.List.Sums.{sum_by-cons}
 use Rattle.std.proofs.lemmas.Option.{same_Some, slice_get_within}
-use Rattle.flat_graph.specs.Graph.{Graph}
-use Rattle.archi_graph.specs.declared.medium.Seq.{Seq}
-use Rattle.archi_graph.specs.Archi.{Architecture}
-use Rattle.archi_graph.specs.Sequences.{sequences}
-use Rattle.executive_program.specs.declared.program.Instr.{Instr}
-use Rattle.executive_program.specs.declared.program.Instr.TheVariants.{Suc0, Suc1, Pre0, Pre1, Call, Send, Recv, Sync}
-use Rattle.executive_program.specs.declared.program.Buffer.{Buffer}
-use Rattle.executive_program.specs.declared.program.SeqCode.{SeqCode}
-use Rattle.executive_program.specs.declared.program.Program.{Program}
-use Rattle.executive_program.specs.Blocks.{blocks, repeated}
-use Rattle.executive_program.specs.Instructions.{reads, writes, turn, turn_of, prologue_of, operator, operator_in, communications, is_communication, Reader, waits_for, readers_from, readers}
-use Rattle.executive_program.specs.MicroSteps.{transfers}
-use Rattle.executive_program.specs.Places.{places, reader, reader_or, writing, opening_signals, signals_of, opening_of}
-use Rattle.executive_program.specs.WellFormed.{Stands, WritesAt, ReadsAt, Communicates, IsTransfer, IsOrder, operator_is, operator_of}
-use Rattle.executive_program.proofs.Reading.{any_of, reads_of, from_readers, from_repeated}
+use Rattle.sequence_build_laws.specs.Graph.{Graph}
+use Rattle.sequence_build_laws.specs.declared.Seq.{Seq}
+use Rattle.sequence_build_laws.specs.Archi.{Architecture}
+use Rattle.sequence_build_laws.specs.Sequences.{sequences}
+use Rattle.sequence_build_laws.specs.declared.Instr.{Instr}
+use Rattle.sequence_build_laws.specs.declared.Instr.TheVariants.{Suc0, Suc1, Pre0, Pre1, Call, Send, Recv, Sync}
+use Rattle.sequence_build_laws.specs.declared.Buffer.{Buffer}
+use Rattle.sequence_build_laws.specs.declared.SeqCode.{SeqCode}
+use Rattle.sequence_build_laws.specs.declared.Program.{Program}
+use Rattle.sequence_build_laws.specs.Blocks.{blocks, repeated}
+use Rattle.sequence_build_laws.specs.Instructions.{reads, writes, turn, turn_of, prologue_of, operator, operator_in, communications, is_communication, Reader, waits_for, readers_from, readers}
+use Rattle.sequence_build_laws.specs.MicroSteps.{transfers}
+use Rattle.sequence_build_laws.specs.Places.{places, reader, reader_or, writing, opening_signals, signals_of, opening_of}
+use Rattle.sequence_build_laws.specs.WellFormed.{Stands, WritesAt, ReadsAt, Communicates, IsTransfer, IsOrder, operator_is, operator_of}
+use Rattle.sequence_build_laws.proofs.Reading.{any_of, reads_of, from_readers, from_repeated}
 use Rattle.macro_code.specs.Text.{pairs_on}
 use Rattle.code_laws.proofs.Arguments.{is_small}
 use Rattle.code_laws.proofs.ListPlaces.{got_some, got_map, map_got, all_here, all_there}

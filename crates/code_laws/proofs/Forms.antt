@@ -6,9 +6,9 @@ use Rattle.std.specs.Str.{bytes_eq}
 use Rattle.std.proofs.lemmas.Bool.{and_parts, and_from, leb-true, le-leb, ne_eqb, or_right, not-true}
 use Rattle.std.proofs.lemmas.List.{take_at, drop_at, length_push}
 use Rattle.std.proofs.lemmas.List.Folds.{list_all-append, list_any-append}
-use Rattle.syn_base.specs.Bytes.{Bytes}
+use Rattle.syn_base.specs.Bytes.{Bytes, each_after_comma}
 use Rattle.macro_code.specs.Forms.{listed, call, is_open, is_semicolon, is_comma, is_mark, is_unmarked, before, after, is_closed, inside, has_bytes, may_name, list_form, name_form, word_form, lists_form, operation_form, call_form, arguments_of}
-use Rattle.macro_code.specs.Text.{joined, each_after_comma}
+use Rattle.macro_code.specs.Text.{joined}
 use Rattle.code_laws.proofs.Bytes.{is_plain}
 
 -- a byte of an argument or of an operation's name, and a byte of a list of arguments

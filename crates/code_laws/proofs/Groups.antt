@@ -5,12 +5,12 @@ use Rattle.std.specs.List.{list_all, flat_map, range_with_len}
 use Rattle.std.proofs.lemmas.Bool.{and_parts, and_from, lt-ltb, le-leb, leb-true, ltb-true, ne_eqb}
 use Rattle.std.proofs.lemmas.List.Folds.{list_all-append, list_all-map}
 use Rattle.std.proofs.lemmas.List.Concat.{flat_map-cons, flat_map-append}
-use Rattle.archi_graph.specs.declared.medium.Medium.{Medium}
-use Rattle.archi_graph.specs.declared.medium.Seq.{Seq}
-use Rattle.archi_graph.specs.Archi.{ascends_from, stands_at}
-use Rattle.archi_graph.specs.Sequences.{computation, communicator, communicators, sequences_of}
-use Rattle.executive_program.specs.declared.program.SeqCode.{SeqCode}
 use Rattle.syn_base.specs.Bytes.{Bytes}
+use Rattle.sequence_build_laws.specs.declared.Medium.{Medium}
+use Rattle.sequence_build_laws.specs.declared.Seq.{Seq}
+use Rattle.sequence_build_laws.specs.Archi.{ascends_from, stands_at}
+use Rattle.sequence_build_laws.specs.Sequences.{computation, communicator, communicators, sequences_of}
+use Rattle.sequence_build_laws.specs.declared.SeqCode.{SeqCode}
 use Rattle.code_laws.proofs.Threads.{AreThreads, is_elsewhere, flat_none}
 
 -- the numbers of the media at which an operator stands, where the first has number k

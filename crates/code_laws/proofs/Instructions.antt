@@ -5,25 +5,27 @@ use Rattle.std.specs.Fmt.{decimal}
 use Rattle.std.proofs.lemmas.Bool.{and_parts, and_from, ltb-true}
 use Rattle.std.proofs.lemmas.List.Concat.{flat_map-cons}
 use Rattle.syn_base.specs.Name.{is_name}
-use Rattle.flat_graph.specs.Graph.{Graph}
-use Rattle.archi_graph.specs.Archi.{Architecture}
-use Rattle.executive_program.specs.declared.program.Instr.{Instr}
-use Rattle.executive_program.specs.declared.program.Instr.TheVariants as instr
-use Rattle.executive_program.specs.declared.program.Instr.TheVariants.{Suc0, Suc1, Pre0, Pre1, Call, Send, Recv, Sync}
+use Rattle.sequence_build_laws.specs.Graph.{Graph}
+use Rattle.sequence_build_laws.specs.Archi.{Architecture}
+use Rattle.sequence_build_laws.specs.declared.Instr.{Instr}
+use Rattle.sequence_build_laws.specs.declared.Instr.TheVariants as instr
+use Rattle.sequence_build_laws.specs.declared.Instr.TheVariants.{Suc0, Suc1, Pre0, Pre1, Call, Send, Recv, Sync}
 use Rattle.macro_code.specs.declared.macros.Macro.{Macro}
 use Rattle.macro_code.specs.declared.macros.Macro.TheVariants as macros
 use Rattle.macro_code.specs.Text.{buffer_name, operator_name, operation_name, instr_line, body_text}
-use Rattle.macro_code.specs.declared.fault.CodeError.{CodeError}
+use Rattle.macro_code.specs.Refusals.{CodeRefusal}
 use Rattle.macro_code.specs.declared.fault.CodeCause.TheVariants.{UnknownName, BadLine}
 use Rattle.macro_code.specs.declared.stage.Stage.TheVariants.{Prologue, Turn}
 use Rattle.syn_base.specs.Bytes.{Bytes}
 use Rattle.macro_code.specs.Forms.{buffer_in, number_in, each_in}
-use Rattle.macro_code.specs.ReadText.{Reading, Arguments, Moved, Ends, and_then, argument, known, refused, named, place_in, operation_names, is_among, is_known, first_unknown, unless_unknown, takes_instr, starts_more, may_stand, with_instr, declared_buffer, macro_line, placed_line, pair_line, transfer_line, sync_line, call_line, call_of}
+use Rattle.macro_code.specs.ReadText.{Reading, Arguments, Moved, Ends, argument, known, place_in, operation_names, is_among, is_known, first_unknown, unless_unknown, takes_instr, starts_more, may_stand, with_instr, declared_buffer, macro_line, placed_line, pair_line, transfer_line, sync_line, call_line, call_of}
+use Rattle.text_lines.specs.Refusals.{and_then, refused}
 use Rattle.code_laws.proofs.Arguments.{is_small, number_back, number_argument, buffer_back, buffer_argument, each_back, each_argument, name_argument, path_argument}
 use Rattle.code_laws.proofs.Forms.{is_argument}
 use Rattle.code_laws.proofs.Named.{names, AreNamed}
 use Rattle.code_laws.proofs.ReadLines as lines
 use Rattle.code_laws.proofs.ReadLines.{Reads}
+use Rattle.text_lines.specs.Text.{some_name}
 
 -- a number that is declared here, and that 64 bits hold
 abbrev pub is_there : List ℕ → ℕ → Bool
@@ -100,7 +102,7 @@ module _ (g : Graph) (a : Architecture) (known_names : AreNamed g a) where
   pair_back : (r : Reading) (n q : ℕ) (make : ℕ → Instr) → is_there r.pairs_here q ≡ true → pair_line r n make (Some (decimal q ∷ [])) ≡ Ok (with_instr r (make q))
   pair_back r n q make h =
       let both = and_parts (is_among r.pairs_here q) (is_small q) h in
-      ap (λ (x : Result ℕ CodeError). and_then x (λ (k : ℕ). Ok (with_instr r (make k)))) (pair_steps n q r.pairs_here (decimal q) (number_in (decimal q)) (number_back q both.1) both.0)
+      ap (λ (x : Result ℕ CodeRefusal). and_then x (λ (k : ℕ). Ok (with_instr r (make k)))) (pair_steps n q r.pairs_here (decimal q) (number_in (decimal q)) (number_back q both.1) both.0)
 
   pair_argument : (here : List ℕ) (q : ℕ) → is_there here q ≡ true → list_all is_argument (decimal q ∷ []) ≡ true
   pair_argument here q h = one_argument (decimal q) (number_argument q (and_parts (is_among here q) (is_small q) h).1)
@@ -111,8 +113,8 @@ module _ (g : Graph) (a : Architecture) (known_names : AreNamed g a) where
       let both = and_parts (is_among r.buffers_here b) (is_small b) h in
       let it = known_names.operator o l in
       let v = operator_name (names g a) o in
-      ap (λ (x : Result Moved CodeError). and_then x (λ (t : Moved). Ok (with_instr r (make t.buffer t.operator))))
-      (ap (λ (x : Option ℕ). and_then (argument n x) (λ (c : ℕ). and_then (argument n (named v)) (λ (_ : Bytes). and_then (declared_buffer n r.buffers_here (buffer_name b) c) (λ (_ : ℕ).
+      ap (λ (x : Result Moved CodeRefusal). and_then x (λ (t : Moved). Ok (with_instr r (make t.buffer t.operator))))
+      (ap (λ (x : Option ℕ). and_then (argument n x) (λ (c : ℕ). and_then (argument n (some_name v)) (λ (_ : Bytes). and_then (declared_buffer n r.buffers_here (buffer_name b) c) (λ (_ : ℕ).
       and_then (known n v (place_in a.operators v)) (λ (d : ℕ). Ok (moved c d)))))) (buffer_back b both.1)
       ∙ moved_steps n b o r.buffers_here (buffer_name b) v (Some b) (place_in a.operators v) (is_name v) (is_among r.buffers_here b) refl it.passes both.0 it.place)
 
@@ -127,7 +129,7 @@ module _ (g : Graph) (a : Architecture) (known_names : AreNamed g a) where
       let j = known_names.operator p k in
       let v = operator_name (names g a) o in
       let w = operator_name (names g a) p in
-      ap (λ (x : Result Ends CodeError). and_then x (λ (e : Ends). Ok (with_instr r (instr.Sync e.from e.to))))
+      ap (λ (x : Result Ends CodeRefusal). and_then x (λ (e : Ends). Ok (with_instr r (instr.Sync e.from e.to))))
       (ends_steps n o p v w (place_in a.operators v) (place_in a.operators w) (is_name v) (is_name w) i.passes j.passes i.place j.place)
 
   call_back : (r : Reading) (n v : ℕ) (ins outs : List ℕ) → takes_instr r ≡ true → v < length g.vertices → list_all (is_there r.buffers_here) ins ≡ true → list_all (is_there r.buffers_here) outs ≡ true
@@ -137,7 +139,7 @@ module _ (g : Graph) (a : Architecture) (known_names : AreNamed g a) where
       let w = operation_name (names g a) v in
       let here = r.buffers_here in
       ap (λ (b : Bool). if b then and_then (call_of (operation_names g) n here w (map buffer_name ins) (map buffer_name outs)) (λ (x : Instr). Ok (with_instr r x)) else refused n BadLine) takes
-      ∙ ap (λ (x : Result Instr CodeError). and_then x (λ (y : Instr). Ok (with_instr r y)))
+      ∙ ap (λ (x : Result Instr CodeRefusal). and_then x (λ (y : Instr). Ok (with_instr r y)))
       (call_steps n v ins outs w (each_in buffer_in (map buffer_name ins)) (each_in buffer_in (map buffer_name outs)) (place_in (operation_names g) w) (first_unknown here (map buffer_name ins)) (first_unknown here (map buffer_name outs))
       (each_back buffer_in buffer_name buffer_back ins (all_small here ins i)) (each_back buffer_in buffer_name buffer_back outs (all_small here outs o)) it.place (all_known here ins i) (all_known here outs o))
 

@@ -5,19 +5,19 @@ use Rattle.std.specs.List.{list_any}
 use Rattle.std.proofs.lemmas.Bool.{and_parts, and_from, cases_eq, cases_Bool, leb-true}
 use Rattle.std.proofs.lemmas.List.{length-map}
 use Rattle.std.proofs.lemmas.Option.{same_Some, slice_get_within}
-use Rattle.flat_graph.specs.Graph.{Graph}
-use Rattle.flat_graph.specs.Valid.{is_flat, is_len}
-use Rattle.archi_graph.specs.Archi.{Architecture}
-use Rattle.archi_graph.specs.Sequences.{sequences}
-use Rattle.executive_program.specs.declared.program.Instr.{Instr}
-use Rattle.executive_program.specs.declared.program.Instr.TheVariants.{Suc0, Suc1, Pre0, Pre1, Call, Send, Recv, Sync}
-use Rattle.executive_program.specs.declared.program.Buffer.{Buffer}
-use Rattle.executive_program.specs.declared.program.SeqCode.{SeqCode}
-use Rattle.executive_program.specs.declared.program.Program.{Program}
-use Rattle.executive_program.specs.Instructions.{reads, writes, turn, turn_of, operator, communications, Reader, waits_for, readers_from, readers, len_of, len_in}
-use Rattle.executive_program.specs.Places.{places, reader, reader_or, writing, pair, carried}
-use Rattle.executive_program.specs.WellFormed.{place_in, Stands, WritesAt, ReadsAt, IsOrder, IsTransfer, CarryOutputs, len_is, operator_of}
-use Rattle.executive_program.proofs.Reading.{any_at, any_of, of_reads, writes_of, reader_is, to_readers, in_all}
+use Rattle.sequence_build_laws.specs.Graph.{Graph}
+use Rattle.sequence_build_laws.specs.FlatValid.{is_flat, is_len}
+use Rattle.sequence_build_laws.specs.Archi.{Architecture}
+use Rattle.sequence_build_laws.specs.Sequences.{sequences}
+use Rattle.sequence_build_laws.specs.declared.Instr.{Instr}
+use Rattle.sequence_build_laws.specs.declared.Instr.TheVariants.{Suc0, Suc1, Pre0, Pre1, Call, Send, Recv, Sync}
+use Rattle.sequence_build_laws.specs.declared.Buffer.{Buffer}
+use Rattle.sequence_build_laws.specs.declared.SeqCode.{SeqCode}
+use Rattle.sequence_build_laws.specs.declared.Program.{Program}
+use Rattle.sequence_build_laws.specs.Instructions.{reads, writes, turn, turn_of, operator, communications, Reader, waits_for, readers_from, readers, len_of, len_in}
+use Rattle.sequence_build_laws.specs.Places.{places, reader, reader_or, writing, pair, carried}
+use Rattle.sequence_build_laws.specs.WellFormed.{place_in, Stands, WritesAt, ReadsAt, IsOrder, IsTransfer, CarryOutputs, len_is, operator_of}
+use Rattle.sequence_build_laws.proofs.Reading.{any_at, any_of, of_reads, writes_of, reader_is, to_readers, in_all}
 use Rattle.sequence_build_laws.proofs.Turns.{mine, place_rises}
 use Rattle.sequence_build_laws.proofs.Lists.{counts_tally}
 use Rattle.code_laws.proofs.ListPlaces.{got_some, all_here}

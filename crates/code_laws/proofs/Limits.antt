@@ -1,27 +1,29 @@
 -- Within the limits of a program, its numbers are small and its lengths too; and a reader of texts counts the same words, since the prologues of a well-formed program send nothing.
-use Rattle.std.proofs.Common.{◌≡◌, ℕ, zero, suc, ◌+◌, ◌-◌, ◌*◌, ◌^◌, ◌<◌, ◌≤◌, Bool, true, false, ◌&&◌, if◌then◌else◌, cond, min, max, nat_le, nat_lt, List, [], ◌∷◌, length, Option, Some, None, Ok, refl, sym, ap, ap₂, inl, inr, arith, ◌∙◌}
+use Rattle.std.proofs.Common.{◌≡◌, ℕ, zero, suc, ◌+◌, ◌-◌, ◌*◌, ◌^◌, ◌<◌, ◌≤◌, Bool, true, false, ◌&&◌, if◌then◌else◌, cond, min, max, nat_le, nat_lt, List, [], ◌∷◌, length, Option, Some, None, Result, Ok, refl, sym, ap, ap₂, inl, inr, arith, ◌∙◌}
 use Rattle.std.specs.List.{list_all, sum_by}
 use Rattle.std.proofs.lemmas.Bool.{and_parts, and_from, lt-ltb, le-ltb, le-leb, ltb-false, cases_lt}
 use Rattle.std.proofs.lemmas.Nat.{mul-le}
 use Rattle.std.proofs.lemmas.Option.{slice_get_within}
-use Rattle.interleavings.specs.Owners.{sum_below}
-use Rattle.syn_base.specs.Limits.{bound_of}
+use Rattle.syn_base.specs.Limits.{bound_of, above}
 use Rattle.syn_base.specs.declared.limits.LimitKind.{LimitKind}
 use Rattle.syn_base.specs.declared.limits.LimitKind.TheVariants.{Words, MicroSteps}
 use Rattle.syn_base.specs.declared.limits.LimitFault.{LimitFault}
-use Rattle.executive_program.specs.declared.program.Instr.{Instr}
-use Rattle.executive_program.specs.declared.program.Instr.TheVariants.{Suc0, Suc1, Pre0, Pre1, Call, Send, Recv, Sync}
-use Rattle.executive_program.specs.declared.program.Buffer.{Buffer}
-use Rattle.executive_program.specs.declared.program.SeqCode.{SeqCode}
-use Rattle.executive_program.specs.declared.program.Program.{Program}
-use Rattle.executive_program.specs.Instructions.{len_of, len_in, depth_of, depth_in}
-use Rattle.executive_program.specs.MicroSteps.{words, wire_len, longest_sent, longest_on, is_on}
-use Rattle.executive_program.specs.Steps.{all_turns}
-use Rattle.interleavings.proofs.Sums.{same_below}
-use Rattle.executive_program.proofs.MicroCounts.{by_place}
-use Rattle.sequence_build.specs.Limit.{above, program_limit}
+use Rattle.sequence_build_laws.specs.Owners.{sum_below}
+use Rattle.sequence_build_laws.specs.declared.Instr.{Instr}
+use Rattle.sequence_build_laws.specs.declared.Instr.TheVariants.{Suc0, Suc1, Pre0, Pre1, Call, Send, Recv, Sync}
+use Rattle.sequence_build_laws.specs.declared.Buffer.{Buffer}
+use Rattle.sequence_build_laws.specs.declared.SeqCode.{SeqCode}
+use Rattle.sequence_build_laws.specs.declared.Program.{Program}
+use Rattle.sequence_build_laws.specs.Instructions.{len_of, len_in, depth_of, depth_in}
+use Rattle.sequence_build_laws.specs.MicroSteps.{words, wire_len, longest_sent, longest_on, is_on}
+use Rattle.sequence_build_laws.specs.Steps.{all_turns}
+use Rattle.sequence_build_laws.proofs.InterleavingSums.{same_below}
+use Rattle.sequence_build_laws.proofs.MicroCounts.{by_place}
+use Rattle.sequence_build.specs.Limit.{program_limit}
 use Rattle.macro_code.specs.ReadText as text
 use Rattle.macro_code.specs.ReadText.{limited, within_steps}
+use Rattle.macro_code.specs.Refusals.{CodeRefusal}
+use Rattle.text_lines.specs.Refusals as refusals
 use Rattle.code_laws.proofs.ListPlaces.{all_there}
 use Rattle.code_laws.proofs.Arguments.{is_small}
 use Rattle.code_laws.proofs.Declared.{is_declarable}
@@ -131,11 +133,15 @@ same_words p media h =
     let wires : sum_below (text.wire_len p) media ≡ sum_below (wire_len p) media = same_below (text.wire_len p) (wire_len p) media (λ m _. same_wire p m p.seqs h) in
     ap₂ (λ (x y : ℕ). 2 * length p.pairs + media + x + y) (sym buffers) wires
 
+-- the refusal by a limit
+abbrev over : LimitKind → ℕ → Result Program CodeRefusal
+over which count = refusals.above which count
+
 -- a reader refuses no such program for its limits
 pub not_limited : (p : Program) (media : ℕ) → Within p media → list_all opens_alone p.seqs ≡ true → limited media p ≡ Ok p
 not_limited p media low h =
     let same = same_words p media h in
     let words_low = low.words_low in
     let steps_low = low.steps_low in
-    ap (λ (b : Bool). if b then text.above Words (text.words p media) else within_steps p) (le-ltb 65536 (text.words p media) (omega (arith, same, words_low)))
-    ∙ ap (λ (b : Bool). if b then text.above MicroSteps (all_turns p) else Ok p) (le-ltb 262144 (all_turns p) steps_low)
+    ap (λ (b : Bool). if b then over Words (text.words p media) else within_steps p) (le-ltb 65536 (text.words p media) (omega (arith, same, words_low)))
+    ∙ ap (λ (b : Bool). if b then over MicroSteps (all_turns p) else Ok p) (le-ltb 262144 (all_turns p) steps_low)

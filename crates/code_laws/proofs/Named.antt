@@ -7,15 +7,14 @@ use Rattle.std.proofs.lemmas.Bool.{and_parts, eqb-true, not-true, cases_order, f
 use Rattle.std.proofs.lemmas.Option.{same_Some, get_or_from_slice_get}
 use Rattle.std.proofs.lemmas.Slice.Eq.{bytes_eq-Decides}
 use Rattle.syn_base.specs.Name.{is_name}
-use Rattle.flat_graph.specs.declared.vertex.Vertex.{Vertex}
-use Rattle.flat_graph.specs.Graph.{Graph, with_vertex}
-use Rattle.flat_graph.specs.Valid.{is_flat, is_path, is_vertex, is_len, all_from, are_named_apart, sensors_from, actuators_from, kinds_of, is_guard, fits, has_twin}
-use Rattle.flat_graph.specs.Graph.{lens_of}
-use Rattle.flat_graph.specs.Order.{is_acyclic}
-use Rattle.archi_graph.specs.declared.medium.Medium.{Medium}
-use Rattle.archi_graph.specs.Archi.{Architecture, is_archi, are_distinct, occurs_once, names_of, are_bounded, is_medium, are_joined}
-use Rattle.executive_program.proofs.Reading.{any_at}
-use Rattle.macro_code.specs.Text.{Names, operation_name, operator_name, medium_name, medium_in}
+use Rattle.sequence_build_laws.specs.declared.Vertex.{Vertex}
+use Rattle.sequence_build_laws.specs.Graph.{Graph, with_vertex, lens_of}
+use Rattle.sequence_build_laws.specs.FlatValid.{is_flat, is_path, is_vertex, is_len, all_from, are_named_apart, sensors_from, actuators_from, kinds_of, is_guard, fits, has_twin}
+use Rattle.sequence_build_laws.specs.FlatOrder.{is_acyclic}
+use Rattle.sequence_build_laws.specs.declared.Medium.{Medium}
+use Rattle.sequence_build_laws.specs.Archi.{Architecture, is_archi, are_distinct, occurs_once, names_of, are_bounded, is_medium, are_joined, name_or_none}
+use Rattle.sequence_build_laws.proofs.Reading.{any_at}
+use Rattle.macro_code.specs.Text.{Names, operation_name, operator_name, medium_name}
 use Rattle.syn_base.specs.Bytes.{Bytes}
 use Rattle.macro_code.specs.ReadText.{place_in, medium_names, operation_names}
 use Rattle.code_laws.proofs.ListPlaces.{got_some, got_front, got_back, got_map, map_got, all_here, once, found}
@@ -122,7 +121,7 @@ are_named g a flat right named = record { operator = operator; medium = medium; 
     medium : (m : ℕ) → m < length a.media → IsFound (medium_names a) is_name (medium_name (names g a) m) m
     medium m l =
         let it = got_some a.media m l in
-        let is : medium_name (names g a) m ≡ it.0.name = ap medium_in it.1 in
+        let is : medium_name (names g a) m ≡ it.0.name = ap name_or_none it.1 in
         let own : slice_get (medium_names a) m ≡ Some it.0.name = got_map (λ (x : Medium). x.name) a.media m it.0 it.1 in
         let back : slice_get (names_of a.operators a.media) (length a.operators + m) ≡ Some it.0.name = got_back a.operators (medium_names a) m it.0.name own in
         subst (λ (w : Bytes). IsFound (medium_names a) is_name w m) (sym is) (record {

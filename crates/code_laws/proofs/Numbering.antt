@@ -7,11 +7,11 @@ use Rattle.std.proofs.lemmas.Option.{same_Some}
 use Rattle.std.proofs.lemmas.List.{length-append, map-append, length_push, append_assoc, get_or_at}
 use Rattle.std.proofs.lemmas.List.Sums.{sum_by-cons, sum_by-append}
 use Rattle.std.proofs.lemmas.List.Folds.{list_any-append}
-use Rattle.interleavings.specs.Owners.{sum_below}
-use Rattle.archi_graph.specs.Archi.{ascends_from}
-use Rattle.executive_program.specs.Blocks.{blocks}
-use Rattle.interleavings.proofs.Sums.{same_below, none_below}
-use Rattle.executive_program.proofs.Sums.{picked, summed}
+use Rattle.sequence_build_laws.specs.Owners.{sum_below}
+use Rattle.sequence_build_laws.specs.Archi.{ascends_from}
+use Rattle.sequence_build_laws.specs.Blocks.{blocks}
+use Rattle.sequence_build_laws.proofs.InterleavingSums.{same_below, none_below}
+use Rattle.sequence_build_laws.proofs.Sums.{picked, summed}
 use Rattle.macro_code.specs.Text.{pairs_on}
 use Rattle.macro_code.specs.declared.numbered.Numbered.{Numbered}
 use Rattle.macro_code.specs.ReadText.{is_among, place_from, place_of, first_wrong, misnumbered, at_place}

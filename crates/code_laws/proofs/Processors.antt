@@ -7,13 +7,13 @@ use Rattle.std.proofs.lemmas.Bool.{and_parts, and_from, lt-ltb, le-ltb, eq-eqb, 
 use Rattle.std.proofs.lemmas.List.{map-append}
 use Rattle.std.proofs.lemmas.List.Folds.{list_all-append}
 use Rattle.std.proofs.lemmas.List.Concat.{flat_map-cons}
-use Rattle.flat_graph.specs.Graph.{Graph}
-use Rattle.archi_graph.specs.declared.medium.Seq.{Seq}
-use Rattle.archi_graph.specs.Archi.{Architecture, ascends_from}
-use Rattle.archi_graph.specs.Sequences.{computation, sequences_of}
-use Rattle.executive_program.specs.declared.program.Buffer.{Buffer}
-use Rattle.executive_program.specs.declared.program.SeqCode.{SeqCode}
-use Rattle.executive_program.specs.declared.program.Program.{Program}
+use Rattle.sequence_build_laws.specs.Graph.{Graph}
+use Rattle.sequence_build_laws.specs.declared.Seq.{Seq}
+use Rattle.sequence_build_laws.specs.Archi.{Architecture, ascends_from}
+use Rattle.sequence_build_laws.specs.Sequences.{computation, sequences_of}
+use Rattle.sequence_build_laws.specs.declared.Buffer.{Buffer}
+use Rattle.sequence_build_laws.specs.declared.SeqCode.{SeqCode}
+use Rattle.sequence_build_laws.specs.declared.Program.{Program}
 use Rattle.macro_code.specs.declared.macros.Macro.{Macro}
 use Rattle.macro_code.specs.declared.macros.Macro.TheVariants as macros
 use Rattle.macro_code.specs.Text.{line, word_line, pairs_on, alloc_lines, operator_name, declarations, code_text, thread_by, thread_text, medium_by, medium_line, medium_lines, main_by, main_text, sequences_text, processor_text, processors_from}
@@ -83,7 +83,7 @@ module _ (g : Graph) (a : Architecture) (known_names : AreNamed g a) where
     no_mains (q ∷ qs) [] h = absurd h
     no_mains (q ∷ qs) (n ∷ ns) h =
         flat_map-cons (main_text (names g a) all o) q qs
-        ∙ ap₂ (λ (x y : Bytes). x ++ y) (here o (main_by (names g a) all o q) q.seq (Rattle.archi_graph.specs.Sequences.communicator o n) h.0 refl) (no_mains qs ns h.1)
+        ∙ ap₂ (λ (x y : Bytes). x ++ y) (here o (main_by (names g a) all o q) q.seq (Rattle.sequence_build_laws.specs.Sequences.communicator o n) h.0 refl) (no_mains qs ns h.1)
 
     abbrev main_part : Bytes
     main_part =

@@ -2,14 +2,14 @@
 use Rattle.std.proofs.Common.{◌≡◌, ℕ, ◌+◌, ◌<◌, true, List, length, Some, None, sym, ap, arith, ◌∙◌}
 use Rattle.std.specs.Prelude.{slice_get}
 use Rattle.std.proofs.lemmas.Option.{slice_get_within, get_or_from_slice_get, same_Some}
-use Rattle.flat_graph.specs.Graph.{Graph}
-use Rattle.flat_graph.specs.Valid.{is_flat}
-use Rattle.archi_graph.specs.Archi.{Architecture}
-use Rattle.archi_graph.specs.Sequences.{sequences}
-use Rattle.executive_program.specs.declared.program.Buffer.{Buffer}
-use Rattle.executive_program.specs.declared.program.Program.{Program}
-use Rattle.executive_program.specs.WellFormed.{IsOrder}
 use Rattle.sequence_build.specs.Limit.{program_limit}
+use Rattle.sequence_build_laws.specs.Graph.{Graph}
+use Rattle.sequence_build_laws.specs.FlatValid.{is_flat}
+use Rattle.sequence_build_laws.specs.Archi.{Architecture}
+use Rattle.sequence_build_laws.specs.Sequences.{sequences}
+use Rattle.sequence_build_laws.specs.declared.Buffer.{Buffer}
+use Rattle.sequence_build_laws.specs.declared.Program.{Program}
+use Rattle.sequence_build_laws.specs.WellFormed.{IsOrder}
 use Rattle.sequence_build_laws.specs.Built.{program_of, order_of}
 use Rattle.sequence_build_laws.proofs.Whole.{built_are_well_formed}
 use Rattle.code_laws.specs.ReadsBack.{ReadsBack, IsNamedArchi, WellFormedReadBack, BuiltReadBack}

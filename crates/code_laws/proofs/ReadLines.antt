@@ -3,15 +3,16 @@ use Rattle.std.proofs.Common.{subst, ◌≡◌, ℕ, ◌+◌, true, nat_eq, if�
 use Rattle.std.specs.Prelude.{codes, Option}
 use Rattle.std.specs.List.{list_all}
 use Rattle.text_lines.specs.Text.{lines_of, words_of}
-use Rattle.archi_graph.specs.Archi.{Architecture}
+use Rattle.sequence_build_laws.specs.Archi.{Architecture}
 use Rattle.macro_code.specs.declared.macros.Macro.{Macro}
 use Rattle.macro_code.specs.declared.macros.Macro.TheVariants.{Processor, Semaphores, Alloc, Thread, EndThread, Main, EndMain, SpawnThread, WaitEndThread, Loop, EndLoop, Suc0, Suc1, Pre0, Pre1, Send, Recv, Sync}
 use Rattle.macro_code.specs.Macros.{word_of}
 use Rattle.macro_code.specs.Text.{joined, line, word_line}
-use Rattle.macro_code.specs.declared.fault.CodeError.{CodeError}
+use Rattle.macro_code.specs.Refusals.{CodeRefusal}
 use Rattle.syn_base.specs.Bytes.{Bytes}
 use Rattle.macro_code.specs.Forms.{Form, form_of, macro_of, arguments_of, has_bytes, may_name}
-use Rattle.macro_code.specs.ReadText.{Reading, and_then, formed, known_macro, placed_line, call_line, line_of, words_line, line_by, next_line, rest_of}
+use Rattle.macro_code.specs.ReadText.{Reading, formed, known_macro, placed_line, call_line, line_of, words_line, line_by, next_line, rest_of}
+use Rattle.text_lines.specs.Refusals.{and_then}
 use Rattle.code_laws.proofs.Bytes as bytes
 use Rattle.code_laws.proofs.Bytes.{IsLine, are_plain, last_back, word_back, plain_line}
 use Rattle.code_laws.proofs.Forms as forms
@@ -63,7 +64,7 @@ enclosed : (w list : Bytes) → list_all is_list_byte w ≡ true → list_all is
 enclosed w list h k = all_both bytes.is_plain w (40 ∷ (list ++ 41 ∷ [])) (plain_of w h) (all_both bytes.is_plain list (41 ∷ []) (plain_of list k) refl)
 
 module _ (operations : List Bytes) (a : Architecture) where
-  abbrev by_words : Reading → ℕ → List Bytes → Result Reading CodeError
+  abbrev by_words : Reading → ℕ → List Bytes → Result Reading CodeRefusal
   by_words r n ws = if nat_eq (length ws) 0 then Ok r else words_line operations a r n ws
 
   words_read : (r : Reading) (n : ℕ) (l : Bytes) (ws : List Bytes) → IsLine l → words_of l ≡ ws → next_line operations a r n l ≡ by_words r n ws
@@ -93,7 +94,7 @@ module _ (operations : List Bytes) (a : Architecture) where
     reads = λ more.
         ap (λ (b : Bytes). rest_of operations a r n (lines_of b)) (append_assoc l (10 ∷ []) more)
         ∙ ap (rest_of operations a r n) (is.first more)
-        ∙ ap (λ (read : Result Reading CodeError). and_then read (λ after. rest_of operations a after (n + 1) (lines_of more))) e;
+        ∙ ap (λ (read : Result Reading CodeRefusal). and_then read (λ after. rest_of operations a after (n + 1) (lines_of more))) e;
   }
 
   -- a macro without arguments

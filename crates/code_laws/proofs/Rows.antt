@@ -2,23 +2,24 @@
 use Rattle.std.proofs.Common.{◌≡◌, ℕ, true, [], ◌∷◌, Some, None, Result, Ok, refl}
 use Rattle.std.specs.Prelude.{codes}
 use Rattle.std.specs.Fmt.{digits}
-use Rattle.flat_graph.specs.Graph.{Graph}
-use Rattle.archi_graph.specs.Archi.{Architecture}
-use Rattle.executive_program.specs.declared.program.Instr.TheVariants.{Suc0, Suc1, Pre0, Pre1, Call, Send, Recv}
-use Rattle.executive_program.specs.declared.program.Program.{Program}
+use Rattle.sequence_build_laws.specs.Graph.{Graph}
+use Rattle.sequence_build_laws.specs.Archi.{Architecture}
+use Rattle.sequence_build_laws.specs.declared.Instr.TheVariants.{Suc0, Suc1, Pre0, Pre1, Call, Send, Recv}
+use Rattle.sequence_build_laws.specs.declared.Program.{Program}
 use Rattle.macro_code.specs.Text.{macro_code}
 use Rattle.macro_code.proofs.Rows.{graph, archi, code, buffer, bus_program}
-use Rattle.macro_code.specs.declared.fault.CodeError.{CodeError}
+use Rattle.macro_code.specs.Refusals.{CodeRefusal}
 use Rattle.macro_code.specs.declared.fault.CodeCause.TheVariants.{BadLine, BadArgument, UnknownName}
 use Rattle.syn_base.specs.Bytes.{Bytes}
 use Rattle.macro_code.specs.Forms.{macro_of}
-use Rattle.macro_code.specs.ReadText.{program_in, refused}
+use Rattle.macro_code.specs.ReadText.{program_in}
+use Rattle.text_lines.specs.Refusals.{refused}
 
 -- two operators on a bus; their buffers and pairs stand in the text operator by operator
 abbrev two : Architecture
 two = archi (codes "P" ∷ codes "Q" ∷ []) (record { name = codes "bus"; multi = true; fixed = 1; per = 1; stands = 0 ∷ 1 ∷ [] } ∷ [])
 
-abbrev back : Program → Graph → Architecture → Result Program CodeError
+abbrev back : Program → Graph → Architecture → Result Program CodeRefusal
 back p g a = program_in (macro_code p g a) g a
 
 abbrev five : Graph

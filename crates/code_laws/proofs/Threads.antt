@@ -4,20 +4,21 @@ use Rattle.std.specs.List.{list_all, flat_map}
 use Rattle.std.proofs.lemmas.Bool.{and_parts, lt-ltb, leb-true, ltb-true, eq-eqb}
 use Rattle.std.proofs.lemmas.List.{length-append}
 use Rattle.std.proofs.lemmas.List.Concat.{flat_map-cons}
-use Rattle.flat_graph.specs.Graph.{Graph}
-use Rattle.archi_graph.specs.declared.medium.Seq.{Seq}
-use Rattle.archi_graph.specs.Archi.{Architecture, ascends_from}
-use Rattle.archi_graph.specs.Sequences.{communicator}
-use Rattle.executive_program.specs.declared.program.SeqCode.{SeqCode}
+use Rattle.sequence_build_laws.specs.Graph.{Graph}
+use Rattle.sequence_build_laws.specs.declared.Seq.{Seq}
+use Rattle.sequence_build_laws.specs.Archi.{Architecture, ascends_from}
+use Rattle.sequence_build_laws.specs.Sequences.{communicator}
+use Rattle.sequence_build_laws.specs.declared.SeqCode.{SeqCode}
 use Rattle.macro_code.specs.declared.macros.Macro.{Macro}
 use Rattle.macro_code.specs.declared.macros.Macro.TheVariants as macros
 use Rattle.macro_code.specs.Text.{line, word_line, medium_name, body_text, code_text, thread_by, thread_text, medium_by, medium_line, medium_lines}
-use Rattle.macro_code.specs.declared.fault.CodeError.{CodeError}
+use Rattle.macro_code.specs.Refusals.{CodeRefusal}
 use Rattle.macro_code.specs.declared.fault.CodeCause.TheVariants.{BadArgument, UnknownName}
 use Rattle.macro_code.specs.declared.stage.Stage.{Stage}
 use Rattle.macro_code.specs.declared.stage.Stage.TheVariants.{Threaded, Prologue, Ended}
 use Rattle.syn_base.specs.Bytes.{Bytes}
-use Rattle.macro_code.specs.ReadText.{Reading, Joined, and_then, known, refused, place_in, medium_names, operation_names, is_among, follows, last_of, is_declared, is_threaded, starts_more, awaits_more, medium_of, thread_of, at_thread}
+use Rattle.macro_code.specs.ReadText.{Reading, Joined, known, place_in, medium_names, operation_names, is_among, follows, last_of, is_declared, is_threaded, starts_more, awaits_more, medium_of, thread_of, at_thread}
+use Rattle.text_lines.specs.Refusals.{and_then, refused}
 use Rattle.code_laws.proofs.Arguments.{name_argument}
 use Rattle.code_laws.proofs.Named.{names, AreNamed}
 use Rattle.code_laws.proofs.Declared.{name_back, Above, above_last}
@@ -102,7 +103,7 @@ module _ (g : Graph) (a : Architecture) (known_names : AreNamed g a) where
   thread_back : (n m : ℕ) (threads media : List ℕ) → m < length a.media → follows (last_of media) m ≡ true → is_among threads m ≡ true
       → thread_of a n threads media (Some (medium_name (names g a) m ∷ [])) ≡ Ok m
   thread_back n m threads media l f h =
-      ap (λ (x : Result Joined CodeError). and_then x (λ (j : Joined). if is_among threads j.medium then Ok j.medium else refused n (UnknownName j.word))) (medium_back n m media l f)
+      ap (λ (x : Result Joined CodeRefusal). and_then x (λ (j : Joined). if is_among threads j.medium then Ok j.medium else refused n (UnknownName j.word))) (medium_back n m media l f)
       ∙ ap (λ (b : Bool). if b then Ok m else refused n (UnknownName (medium_name (names g a) m))) h
 
   -- between the head of a processor and its main part: where its threads have ended
@@ -121,7 +122,7 @@ module _ (g : Graph) (a : Architecture) (known_names : AreNamed g a) where
       let ws = medium_name (names g a) m ∷ [] in
       let first = lines.macro_reads (operation_names g) a at inner n macros.Thread ws (medium_argument m l)
       (stands g a known_names at n (Some ws) macros.Thread inner may
-      (ap (λ (x : Result Joined CodeError). and_then x (λ (j : Joined). Ok (at_thread a at j.medium))) (medium_back n m media l f))) in
+      (ap (λ (x : Result Joined CodeRefusal). and_then x (λ (j : Joined). Ok (at_thread a at j.medium))) (medium_back n m media l f))) in
       let second = code_reads inner first.k q refl h in
       let made : SeqCode = record { seq = communicator o m; prologue = q.prologue; turn = q.turn } in
       let third = lines.bare_reads (operation_names g) a (ended inner q) (threaded r o Threaded (Some m) (media ++ m ∷ []) (threads ++ made ∷ [])) second.k macros.EndThread
@@ -204,7 +205,7 @@ module _ (g : Graph) (a : Architecture) (known_names : AreNamed g a) where
       let first = lines.another (operation_names g) a at to n (medium_line (names g a) macros.SpawnThread o q) (line macros.SpawnThread ws) (medium_line_is macros.SpawnThread o m q are.0)
       (lines.macro_reads (operation_names g) a at to n macros.SpawnThread ws (medium_argument m l)
       (stands g a known_names at n (Some ws) macros.SpawnThread to more
-      (ap (λ (x : Result ℕ CodeError). and_then x (λ (k : ℕ). Ok (record at { spawned = done ++ k ∷ [] }))) (thread_back n m media done l (above.follow m (leb-true k m rises.0)) among)))) in
+      (ap (λ (x : Result ℕ CodeRefusal). and_then x (λ (k : ℕ). Ok (record at { spawned = done ++ k ∷ [] }))) (thread_back n m media done l (above.follow m (leb-true k m rises.0)) among)))) in
       let rest = spawns_read qs ms r first.k o (m + 1) media (done ++ m ∷ []) (cut ∙ sym (append_assoc done (m ∷ []) ms)) are.1 lows.1 rises.1 (above_one done m) in
       lines.another (operation_names g) a at (starting r o media media) n (medium_lines (names g a) macros.SpawnThread o (q ∷ qs)) (medium_line (names g a) macros.SpawnThread o q ++ medium_lines (names g a) macros.SpawnThread o qs)
       (flat_map-cons (medium_line (names g a) macros.SpawnThread o) q qs)
@@ -229,7 +230,7 @@ module _ (g : Graph) (a : Architecture) (known_names : AreNamed g a) where
       let first = lines.another (operation_names g) a at to n (medium_line (names g a) macros.WaitEndThread o q) (line macros.WaitEndThread ws) (medium_line_is macros.WaitEndThread o m q are.0)
       (lines.macro_reads (operation_names g) a at to n macros.WaitEndThread ws (medium_argument m l)
       (stands g a known_names at n (Some ws) macros.WaitEndThread to more
-      (ap (λ (x : Result ℕ CodeError). and_then x (λ (k : ℕ). Ok (record at { awaited = done ++ k ∷ [] }))) (thread_back n m media done l (above.follow m (leb-true k m rises.0)) among)))) in
+      (ap (λ (x : Result ℕ CodeRefusal). and_then x (λ (k : ℕ). Ok (record at { awaited = done ++ k ∷ [] }))) (thread_back n m media done l (above.follow m (leb-true k m rises.0)) among)))) in
       let rest = waits_read qs ms r first.k o (m + 1) media (done ++ m ∷ []) c (cut ∙ sym (append_assoc done (m ∷ []) ms)) are.1 lows.1 rises.1 (above_one done m) in
       lines.another (operation_names g) a at (awaiting r o media media c) n (medium_lines (names g a) macros.WaitEndThread o (q ∷ qs)) (medium_line (names g a) macros.WaitEndThread o q ++ medium_lines (names g a) macros.WaitEndThread o qs)
       (flat_map-cons (medium_line (names g a) macros.WaitEndThread o) q qs)

@@ -8,23 +8,25 @@ use Rattle.std.proofs.lemmas.List.FromFn.{fill_by_all}
 use Rattle.std.proofs.lemmas.List.Sums.{sum_by-cons}
 use Rattle.std.proofs.lemmas.Option.{get_or_from_slice_get}
 use Rattle.text_lines.specs.Text.{lines_of}
-use Rattle.flat_graph.specs.Graph.{Graph}
-use Rattle.archi_graph.specs.Archi.{Architecture}
-use Rattle.archi_graph.specs.Sequences.{sequences}
-use Rattle.executive_program.specs.declared.program.Buffer.{Buffer}
-use Rattle.executive_program.specs.declared.program.SeqCode.{SeqCode}
-use Rattle.executive_program.specs.declared.program.Program.{Program}
 use Rattle.syn_base.specs.Bytes.{Bytes}
+use Rattle.sequence_build_laws.specs.Graph.{Graph}
+use Rattle.sequence_build_laws.specs.Archi.{Architecture}
+use Rattle.sequence_build_laws.specs.Sequences.{sequences}
+use Rattle.sequence_build_laws.specs.declared.Buffer.{Buffer}
+use Rattle.sequence_build_laws.specs.declared.SeqCode.{SeqCode}
+use Rattle.sequence_build_laws.specs.declared.Program.{Program}
 use Rattle.macro_code.specs.Text.{macro_code}
 use Rattle.macro_code.specs.declared.numbered.Numbered.{Numbered}
 use Rattle.macro_code.specs.declared.numbered.Size.{Size}
 use Rattle.macro_code.specs.declared.fault.CodeCause.TheVariants.{BadLine}
-use Rattle.macro_code.specs.ReadText.{Reading, start, operation_names, rest_of, whole, program_in, counted, first_misnumbered, misnumbered, earlier, refused, is_outside, program_of, buffer_of, owner_of, limited, sized, no_size, at_place, place_of, is_among}
+use Rattle.macro_code.specs.ReadText.{Reading, start, operation_names, rest_of, whole, program_in, counted, first_misnumbered, misnumbered, is_outside, program_of, buffer_of, owner_of, limited, sized, no_size, at_place, place_of, is_among}
+use Rattle.text_lines.specs.Refusals.{refused}
 use Rattle.code_laws.proofs.ListPlaces.{got_some, all_there, counted as is_counted}
 use Rattle.code_laws.proofs.Named.{AreNamed}
 use Rattle.code_laws.proofs.Numbering.{numbers, all_on, all_once, all_none, all_length, found_at, numbered_right}
 use Rattle.code_laws.proofs.Declared.{size_of}
 use Rattle.code_laws.proofs.Processors.{IsPrintable, processors_read, outside, places_of, later_numbers}
+use Rattle.syn_base.specs.Numbers.{lesser}
 
 -- the owner of a pair and the size of a buffer, by number
 abbrev pub owner : Program → ℕ → ℕ
@@ -97,7 +99,7 @@ ends_as g a text r k p out read pairs_right buffers_right owners sizes seqs_are 
     ap (λ (t : Bytes). program_in t g a) (sym (append-nil text))
     ∙ read
     ∙ ap (λ (b : Bool). if b then counted media r (first_misnumbered r) else refused k BadLine) out
-    ∙ ap (counted media r) (ap₂ earlier pairs_right buffers_right)
+    ∙ ap (counted media r) (ap₂ lesser pairs_right buffers_right)
     ∙ ap (limited media) made
     ∙ within
 

@@ -2,18 +2,18 @@
 use Rattle.std.specs.Prelude.{◌≡◌, ℕ, IsTrue, length, Option, None, Ok}
 use Rattle.std.specs.List.{list_all}
 use Rattle.syn_base.specs.Name.{is_name}
-use Rattle.flat_graph.specs.Graph.{Graph}
-use Rattle.flat_graph.specs.Valid.{is_flat}
-use Rattle.archi_graph.specs.Archi.{Architecture, is_archi, is_depth, names_of}
-use Rattle.archi_graph.specs.Sequences.{sequences}
-use Rattle.schedule.specs.declared.decision.Schedule.{Schedule}
-use Rattle.schedule.specs.Valid.{is_valid}
-use Rattle.executive_program.specs.declared.program.Program.{Program}
-use Rattle.executive_program.specs.WellFormed.{IsWellFormed}
+use Rattle.sequence_build_laws.specs.Graph.{Graph}
+use Rattle.sequence_build_laws.specs.FlatValid.{is_flat}
+use Rattle.sequence_build_laws.specs.Archi.{Architecture, is_archi, is_depth, names_of}
+use Rattle.sequence_build_laws.specs.Sequences.{sequences}
+use Rattle.sequence_build_laws.specs.declared.Schedule.{Schedule}
+use Rattle.sequence_build_laws.specs.ScheduleValid.{is_valid}
+use Rattle.sequence_build_laws.specs.declared.Program.{Program}
+use Rattle.sequence_build_laws.specs.WellFormed.{IsWellFormed}
+use Rattle.sequence_build_laws.specs.Text.{Described, description_of}
 use Rattle.sequence_build_laws.specs.Built.{program_of}
 use Rattle.sequence_build.specs.Limit.{program_limit}
 use Rattle.syn_base.specs.Bytes.{Bytes}
-use Rattle.archi_defs.specs.Text.{Described, description_of}
 use Rattle.macro_code.specs.Text.{macro_code}
 use Rattle.macro_code.specs.ReadText.{program_in}
 

@@ -8,7 +8,7 @@ use Rattle.std.proofs.lemmas.List.{get_or_default}
 use Rattle.std.proofs.lemmas.Option.{slice_get-get_or}
 use Rattle.std.proofs.lemmas.List.Folds.{list_any_at, list_any_none}
 use Rattle.std.proofs.lemmas.List.Sorted.{IsNonDecreasingBy-push, searched}
-use Rattle.archi_graph.specs.Archi.{ascends_from}
+use Rattle.executive_program.specs.Archi.{ascends_from}
 use Rattle.macro_code.specs.ReadText.{follows, is_among, last_of}
 
 -- each is at least this, and none is below one before it

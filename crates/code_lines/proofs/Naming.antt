@@ -5,9 +5,9 @@ use Rattle.std.specs.Str.{bytes_eq}
 use Rattle.std.proofs.lemmas.Bool.{and_parts}
 use Rattle.std.proofs.lemmas.Cmp.{nat_list_eq_equiv}
 use Rattle.std.proofs.lemmas.List.{length-map, map_push, take_more}
-use Rattle.archi_graph.specs.declared.medium.Medium.{Medium}
-use Rattle.flat_graph.specs.declared.vertex.Vertex.{Vertex}
-use Rattle.flat_graph.specs.Valid.{are_named_apart}
+use Rattle.executive_program.specs.declared.Medium.{Medium}
+use Rattle.executive_program.specs.declared.Vertex.{Vertex}
+use Rattle.executive_program.specs.FlatValid.{are_named_apart}
 
 prefix_len-map : {X Y : Type 0} (f : X → Y) (p : Y → Bool) (xs : List X) → prefix_len (λ x. p (f x)) xs ≡ prefix_len p (map f xs)
 prefix_len-map f p [] = refl

@@ -24,8 +24,8 @@ use Rattle.std.specs.Global.{Vec}
 use Rattle.std.specs.Borrow.{Bor}
 use Rattle.code_lines.specs.declared.form.Form as declared_form
 use Rattle.code_lines.specs.declared.form.Form.TheVariants as read
-use Rattle.macro_code.specs.declared.fault.CodeError.{CodeError}
-use Rattle.macro_code.specs.declared.fault.CodeError.TheVariants.{Refused, Limit, OutOfMemory}
+use Rattle.macro_code.specs.Refusals.{CodeError, CodeRefusal}
+use Rattle.text_lines.specs.declared.fault.TextError.TheVariants.{Refused, Limit, OutOfMemory}
 use Rattle.code_lines.specs.declared.arguments.Declaration as declared_declaration
 use Rattle.code_lines.specs.declared.known.Joined as declared_joined
 use Rattle.code_lines.specs.declared.instruction.Moved as declared_moved
@@ -52,7 +52,7 @@ use Rattle.macro_code.specs.Forms.{
   is_closed,
   Declaration,
 }
-use Rattle.macro_code.specs.Given.{Fails}
+use Rattle.text_lines.specs.Refusals.{Fails}
 use Rattle.macro_code.specs.ReadText.{Two, Joined, Moved, Ends, call_of}
 
 -- a text is cut at the first byte that passes
@@ -150,7 +150,7 @@ HasNumbers (Err (Refused f)) asked = ⊥
 HasNumbers (Err (Limit f)) asked = ⊥
 
 -- an operation, as its line has it
-abbrev pub call_in : List Bytes → ℕ → List ℕ → Operation → Result Instr CodeError
+abbrev pub call_in : List Bytes → ℕ → List ℕ → Operation → Result Instr CodeRefusal
 call_in operations line here o =
     call_of operations line here o.name.now (arguments_of o.ins.now) (arguments_of o.outs.now)
 
@@ -163,34 +163,35 @@ IsDeclaration None asked = asked ≡ None
 IsDeclaration (Some d) asked = asked ≡ Some (declaration_view d)
 
 -- the word, the medium, the transfer and the operators of a line, or its refusal
-abbrev pub GivesWord : Result (Bor (List ℕ)) CodeError → Result Bytes CodeError → Type 0
+abbrev pub GivesWord : Result (Bor (List ℕ)) CodeError → Result Bytes CodeRefusal → Type 0
 GivesWord (Ok w) read = read ≡ Ok w.now
 GivesWord (Err e) read = Fails e read
 
 -- The medium that was read, with its word, is the one that is defined; an error is the
 -- refusal that is defined, or want of memory.
-abbrev pub GivesJoined : Result declared_joined.Joined CodeError → Result Joined CodeError → Type 0
+abbrev pub GivesJoined : Result declared_joined.Joined CodeError → Result Joined CodeRefusal → Type 0
 GivesJoined (Ok j) read = read ≡ Ok (record { word = j.word.now; medium = j.medium })
 GivesJoined (Err e) read = Fails e read
 
 -- The buffer and the operator that were read are those that are defined; an error is
 -- the refusal that is defined, or want of memory.
-abbrev pub GivesMoved : Result declared_moved.Moved CodeError → Result Moved CodeError → Type 0
+abbrev pub GivesMoved : Result declared_moved.Moved CodeError → Result Moved CodeRefusal → Type 0
 GivesMoved (Ok m) read = read ≡ Ok (record { buffer = m.buffer; operator = m.operator })
 GivesMoved (Err e) read = Fails e read
 
 -- The two operators that were read are those that are defined; an error is the refusal
 -- that is defined, or want of memory.
-abbrev pub GivesEnds : Result declared_ends.Ends CodeError → Result Ends CodeError → Type 0
+abbrev pub GivesEnds : Result declared_ends.Ends CodeError → Result Ends CodeRefusal → Type 0
 GivesEnds (Ok e) read = read ≡ Ok (record { from = e.from; to = e.to })
 GivesEnds (Err e) read = Fails e read
 
 -- the buffer that a line declares, or its refusal
-abbrev pub GivesDeclaration : Result declared_declaration.Declaration CodeError → Result Declaration CodeError → Type 0
+abbrev pub GivesDeclaration : Result declared_declaration.Declaration CodeError → Result Declaration CodeRefusal
+    → Type 0
 GivesDeclaration (Ok d) read = read ≡ Ok (declaration_view d)
 GivesDeclaration (Err e) read = Fails e read
 
 -- the instruction of a line, or its refusal
-abbrev pub GivesInstr : Result Written CodeError → Result Instr CodeError → Type 0
+abbrev pub GivesInstr : Result Written CodeError → Result Instr CodeRefusal → Type 0
 GivesInstr (Ok x) read = read ≡ Ok (instr_of x)
 GivesInstr (Err e) read = Fails e read

@@ -1,7 +1,7 @@
 //! The arguments of a line, which stand between parentheses: words, numbers and buffers.
 ghost use Rattle.std.specs.Prelude.{◌≡◌, ◌+◌, ◌≤◌, None, Some, IfOk, MatchOption, drop, is_none, length, map, position};
 ghost use Rattle.std.specs.List.{position_or_len, slice_split};
-ghost use Rattle.archi_graph.specs.Archi.{ascends_from};
+ghost use Rattle.executive_program.specs.Archi.{ascends_from};
 ghost use Rattle.macro_code.specs.Forms.{arguments_of, buffer_in, declared_by, declaration_in, each_in, is_comma, number_in};
 ghost use Rattle.macro_code.specs.ReadText.{one_of, two_of};
 ghost use Rattle.code_lines.specs.Views.{AreTwo, HasNumbers, HasWords, IsDeclaration, IsWord, texts_of};

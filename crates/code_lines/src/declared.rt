@@ -1,7 +1,7 @@
 //! The pairs and the buffer that a line declares.
 ghost use Rattle.std.specs.Prelude.{◌≡◌, IfOk, true};
 ghost use Rattle.macro_code.specs.ReadText.{declaration_of, follows, last_of, pairs_of};
-ghost use Rattle.macro_code.specs.Given.{Gives};
+ghost use Rattle.text_lines.specs.Refusals.{Gives};
 ghost use Rattle.code_lines.specs.Views.{GivesDeclaration};
 
 use crate::arguments::{Arguments, Declaration, ascends, cut_list, numbers, read_declaration};

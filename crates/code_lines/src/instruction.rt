@@ -3,7 +3,7 @@ ghost use Rattle.std.specs.Prelude.{◌≡◌, Some};
 ghost use Rattle.std.specs.List.{list_all};
 ghost use Rattle.macro_code.specs.Forms.{arguments_of, buffer_in, each_in};
 ghost use Rattle.macro_code.specs.ReadText.{declared_buffer, ends_of, first_unknown, is_among, is_known, moved_of, pair_of};
-ghost use Rattle.macro_code.specs.Given.{Gives};
+ghost use Rattle.text_lines.specs.Refusals.{Gives};
 ghost use Rattle.code_lines.specs.Views.{GivesEnds, GivesInstr, GivesMoved, HasWord, IsWord, call_in, texts_of};
 
 use crate::arguments::{Arguments, buffers, cut_list};

@@ -1,17 +1,16 @@
 //! The names that a text may use: operations, operators and media, each with its number.
 ghost use Rattle.std.specs.Prelude.{◌≡◌, IfOk, IfSome, ◌<◌, length, map, position, true};
 ghost use Rattle.std.specs.Str.{bytes_eq};
-ghost use Rattle.flat_graph.specs.Valid.{are_named_apart};
+ghost use Rattle.executive_program.specs.FlatValid.{are_named_apart};
 ghost use Rattle.macro_code.specs.ReadText.{follows, is_among, last_of, medium_names, medium_of, name_of, operation_names, known, operator_of, place_in, processor_of, thread_of};
-ghost use Rattle.macro_code.specs.Given.{Gives};
+ghost use Rattle.text_lines.specs.Refusals.{Gives};
 ghost use Rattle.code_lines.specs.Views.{GivesJoined, GivesWord};
 ghost use Rattle.code_lines.specs.Setting.{Setting};
 
 use crate::arguments::Arguments;
 use crate::fault::{bad_argument, unknown_name};
 use crate::word::is_name;
-use archi_graph::{Archi, Medium};
-use flat_graph::{Flat, Vertex};
+use executive_program::{Archi, Flat, Medium, Vertex};
 use macro_code::CodeError;
 use std::alloc::Global;
 use std::marker::Model;

@@ -1,6 +1,6 @@
 //! The list of the numbers that a processor declares, with a test of whether one is among them.
 ghost use Rattle.std.specs.Prelude.{◌≡◌, ◌++◌, ◌∷◌, [], OnOk, true};
-ghost use Rattle.archi_graph.specs.Archi.{ascends_from};
+ghost use Rattle.executive_program.specs.Archi.{ascends_from};
 ghost use Rattle.macro_code.specs.ReadText.{follows, is_among, last_of};
 
 use std::alloc::Global;

@@ -6,9 +6,9 @@ use Rattle.executive_program.specs.declared.program.SeqCode.{SeqCode}
 use Rattle.executive_program.specs.declared.program.Program.{Program}
 use Rattle.macro_code.specs.declared.numbered.Numbered.{Numbered}
 use Rattle.macro_code.specs.declared.numbered.Size.{Size}
-use Rattle.macro_code.specs.declared.fault.CodeError.{CodeError}
+use Rattle.macro_code.specs.Refusals.{CodeError}
 use Rattle.macro_code.specs.ReadText.{at_place, limited, no_size, place_of, sized}
-use Rattle.macro_code.specs.Given.{Gives}
+use Rattle.text_lines.specs.Refusals.{Gives}
 use Rattle.code_reader.specs.Placed.{ArePlaced}
 use Rattle.code_reader.proofs.Placing.{all_placed}
 

@@ -2,7 +2,7 @@
 use Rattle.std.specs.Prelude.{ℕ, List, map, Result}
 use Rattle.executive_program.specs.declared.program.SeqCode.{SeqCode}
 use Rattle.syn_base.specs.Bytes.{Bytes}
-use Rattle.macro_code.specs.declared.fault.CodeError.{CodeError}
+use Rattle.macro_code.specs.Refusals.{CodeRefusal}
 use Rattle.macro_code.specs.Forms.{arguments_of}
 use Rattle.macro_code.specs.ReadText.{Reading, call_line}
 use Rattle.code_lines.specs.declared.instruction.Operation.{Operation}
@@ -14,6 +14,6 @@ abbrev pub code_of : WrittenCode → SeqCode
 code_of c = record { seq = c.seq; prologue = map instr_of c.prologue; turn = map instr_of c.turn }
 
 -- a line of an operation
-abbrev pub operation_line : List Bytes → Reading → ℕ → Operation → Result Reading CodeError
+abbrev pub operation_line : List Bytes → Reading → ℕ → Operation → Result Reading CodeRefusal
 operation_line operations r line o =
     call_line operations r line o.name.now (arguments_of o.ins.now) (arguments_of o.outs.now)

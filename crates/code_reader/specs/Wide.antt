@@ -3,8 +3,8 @@ use Rattle.std.specs.Prelude.{◌≡◌, ℕ, true, false, map, nat_lt, Result, 
 use Rattle.syn_base.specs.declared.limits.LimitKind.{LimitKind}
 use Rattle.syn_base.specs.Limits.{bound_of}
 use Rattle.executive_program.specs.declared.program.Program.{Program}
-use Rattle.macro_code.specs.declared.fault.CodeError.{CodeError}
-use Rattle.macro_code.specs.declared.fault.CodeError.TheVariants.{Refused, Limit, OutOfMemory}
+use Rattle.macro_code.specs.Refusals.{CodeError}
+use Rattle.text_lines.specs.declared.fault.TextError.TheVariants.{Refused, Limit, OutOfMemory}
 use Rattle.macro_code.specs.ReadText.{sized}
 use Rattle.code_reader.specs.declared.counts.WideProgram.{WideProgram}
 use Rattle.code_reader.specs.Views.{code_of}

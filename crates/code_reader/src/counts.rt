@@ -1,7 +1,7 @@
 //! The count of the words that the table of a program takes, before its numbers are known to be small.
 ghost use Rattle.std.specs.Prelude.{◌≡◌, ◌-◌, ◌*◌, ◌^◌, map, min};
 ghost use Rattle.std.specs.List.{sum_by};
-ghost use Rattle.interleavings.specs.Owners.{sum_below};
+ghost use Rattle.executive_program.specs.Owners.{sum_below};
 ghost use Rattle.executive_program.specs.Instructions.{len_of};
 ghost use Rattle.executive_program.specs.MicroSteps.{longest_sent, sent_len};
 ghost use Rattle.macro_code.specs.ReadText.{longest_in, wire_len, words};

@@ -3,20 +3,18 @@ ghost use Rattle.std.specs.Prelude.{◌≤◌, ◌∷◌, [], length};
 ghost use Rattle.syn_base.specs.Limits.{most_in_text};
 ghost use Rattle.text_lines.specs.Text.{lines_of};
 ghost use Rattle.macro_code.specs.ReadText.{line_of, macro_line, named_line, next_line, placed_line, program_in, rest_of, start, words_line};
-ghost use Rattle.macro_code.specs.Given.{Gives, Steps};
+ghost use Rattle.text_lines.specs.Refusals.{Gives, Steps};
 ghost use Rattle.code_lines.specs.Views.{form_view};
 ghost use Rattle.code_reader.specs.Views.{operation_line};
 ghost use Rattle.code_reader.specs.Read.{reading};
 
 use crate::macros::find_macro;
 use crate::reader::Reader;
-use archi_graph::Archi;
 use code_lines::{
     Arguments, Form, Known, LineWords, Operation, bad_line, clean_code, op_form, read_call,
     unknown_macro, word_form, words,
 };
-use executive_program::Program;
-use flat_graph::Flat;
+use executive_program::{Archi, Flat, Program};
 use macro_code::{CodeError, Macro};
 use std::alloc::Global;
 

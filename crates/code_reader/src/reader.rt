@@ -2,7 +2,7 @@
 ghost use Rattle.std.specs.Prelude.{◌≡◌, ◌++◌, Ok, OnOk, [], map};
 ghost use Rattle.macro_code.specs.ReadText.{alloc_line, awaits_more, code_here, end_loop_line, end_main_line, end_thread_line, is_opening, loop_line, main_line, may_stand, numbered, pair_line, processor_line, semaphores_line, spawn_line, start, starts_more, sync_line, takes_instr, thread_line, transfer_line, wait_line, with_instr};
 ghost use Rattle.executive_program.specs.declared.program.Instr.TheVariants as instr;
-ghost use Rattle.macro_code.specs.Given.{Steps};
+ghost use Rattle.text_lines.specs.Refusals.{Steps};
 ghost use Rattle.code_reader.specs.Views.{code_of};
 ghost use Rattle.code_lines.specs.Views.{instr_of};
 ghost use Rattle.code_reader.specs.Read.{reading};
@@ -11,11 +11,11 @@ use crate::stage::{
     is_declared, is_ended, is_named, is_outside, is_prologue, is_threaded, is_turn,
 };
 use crate::written::WrittenCode;
-use archi_graph::Seq;
 use code_lines::{
     Arguments, Known, Numbers, Written, bad_argument, read_buffer_line, read_pair, read_pairs,
     read_sync, read_transfer,
 };
+use executive_program::Seq;
 use macro_code::{CodeError, Macro, Numbered, Size, Stage};
 use std::alloc::Global;
 use std::mem;

@@ -4,7 +4,7 @@ ghost use Rattle.macro_code.specs.ReadText.{at_place, counted, first_misnumbered
 ghost use Rattle.macro_code.specs.ReadText as text;
 ghost use Rattle.syn_base.specs.declared.limits.LimitKind.TheVariants.{MicroSteps};
 ghost use Rattle.executive_program.specs.Steps.{all_turns};
-ghost use Rattle.macro_code.specs.Given.{Gives, Has};
+ghost use Rattle.text_lines.specs.Refusals.{Gives, Has};
 ghost use Rattle.code_reader.specs.Placed.{ArePlaced, IsPlaced};
 ghost use Rattle.code_reader.specs.Read.{reading};
 ghost use Rattle.code_reader.specs.Wide.{IsBounded, program_of};
@@ -19,7 +19,7 @@ use executive_program::{Buffer, Program, pair_depths, turn_micros};
 use macro_code::{CodeError, Size};
 use std::alloc::Global;
 use syn_base::{Items, LimitKind, OutOfMemory};
-use text_lines::check_limit;
+use text_lines::{TextError, check_limit};
 
 /// The sizes of buffers by number.
 fn sizes_in_order(
@@ -112,7 +112,7 @@ fn check_bound(which: LimitKind, count: u128) -> Result<(), CodeError>
     if count == u128::MAX {
         return Err(CodeError::OutOfMemory);
     }
-    check_limit(which, count).map_err(CodeError::Limit)
+    check_limit(which, count).map_err(TextError::Limit)
 }
 
 /// The micro-steps of the loops of a program in one reaction are within their bound.

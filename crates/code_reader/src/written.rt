@@ -1,12 +1,11 @@
 //! Sequences as a text has them, whose numbers may be wide, and those of a program, whose numbers are not.
 ghost use Rattle.std.specs.Prelude.{map};
-ghost use Rattle.macro_code.specs.Given.{Has};
+ghost use Rattle.text_lines.specs.Refusals.{Has};
 ghost use Rattle.code_reader.specs.Views.{code_of};
 ghost use Rattle.code_lines.specs.Views.{instr_of};
 
-use archi_graph::Seq;
 use code_lines::Written;
-use executive_program::{Instr, SeqCode};
+use executive_program::{Instr, Seq, SeqCode};
 use macro_code::CodeError;
 use std::alloc::Global;
 use syn_base::Items;

@@ -1,9 +1,9 @@
 -- The dates of a walk stay low: each medium adds at most 65,000,000 ticks, and each route has at most 32 hops.
 use Rattle.std.proofs.Common.{◌≡◌, ℕ, zero, suc, ◌+◌, ◌<◌, ◌≤◌, ◌*◌, ◌^◌, List, [], ◌∷◌, ◌++◌, length, Option, Some, None, refl, ap, arith}
 use Rattle.std.specs.Prelude.{slice_get, slice_index_or, slice_set, max}
-use Rattle.flat_graph.specs.declared.vertex.Source.{Source}
-use Rattle.archi_graph.specs.declared.medium.Hop.{Hop}
-use Rattle.archi_graph.specs.declared.medium.Medium.{Medium}
+use Rattle.schedule.specs.declared.Source.{Source}
+use Rattle.schedule.specs.declared.Hop.{Hop}
+use Rattle.schedule.specs.declared.Medium.{Medium}
 use Rattle.schedule.specs.declared.decision.Transfer.{Transfer}
 use Rattle.schedule.specs.Acts.{Copy, copy}
 use Rattle.comm_routing.specs.Placing.{ticks_in}

@@ -6,12 +6,12 @@ use Rattle.std.specs.Cmp.Derive.{both_true}
 use Rattle.std.proofs.lemmas.Bool.{false≢true, and_parts, or_left, or_right, eq-eqb, lt-ltb, ltb-true}
 use Rattle.std.proofs.lemmas.List.{append_assoc, drop_more}
 use Rattle.std.proofs.lemmas.List.Folds.{list_all-append, list_any-append}
-use Rattle.flat_graph.specs.Graph.{with_vertex}
-use Rattle.flat_graph.specs.declared.vertex.Guard.{Guard}
-use Rattle.flat_graph.specs.declared.vertex.Source.{Source}
-use Rattle.flat_graph.specs.declared.vertex.Vertex.{Vertex}
-use Rattle.flat_graph.specs.Order.{depends_on, get_half}
 use Rattle.std.specs.Global.{Vec}
+use Rattle.schedule.specs.Graph.{with_vertex}
+use Rattle.schedule.specs.declared.Guard.{Guard}
+use Rattle.schedule.specs.declared.Source.{Source}
+use Rattle.schedule.specs.declared.Vertex.{Vertex}
+use Rattle.schedule.specs.FlatOrder.{depends_on, get_half}
 use Rattle.comm_routing.specs.Dependents.{repeated, dependents_from, list_at}
 use Rattle.comm_routing.proofs.Appending.{appended}
 

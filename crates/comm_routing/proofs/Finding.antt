@@ -3,13 +3,13 @@ use Rattle.std.proofs.Common.{◌≡◌, ℕ, suc, ◌+◌, ◌<◌, ◌^◌, Bo
 use Rattle.std.specs.Prelude.{is_some, max, not, nat_lt, slice_get, slice_index_or}
 use Rattle.std.specs.List.{list_all, filter, range_with_len}
 use Rattle.std.proofs.lemmas.Bool.{false≢true, and_parts, ltb-true}
-use Rattle.flat_graph.specs.declared.vertex.Vertex.{Vertex}
-use Rattle.flat_graph.specs.declared.vertex.Source.{Source}
-use Rattle.flat_graph.specs.Graph.{with_vertex}
-use Rattle.flat_graph.specs.Order.{get_half}
-use Rattle.durations.specs.Table.{entry_in}
+use Rattle.schedule.specs.declared.Vertex.{Vertex}
+use Rattle.schedule.specs.declared.Source.{Source}
+use Rattle.schedule.specs.Graph.{with_vertex}
+use Rattle.schedule.specs.FlatOrder.{get_half}
+use Rattle.schedule.specs.Table.{entry_in}
 use Rattle.schedule.specs.Acts.{acts_of, runs}
-use Rattle.comm_routing.specs.Placing.{last_end, is_placed, operator_of, greatest, halves, needs, is_candidate, may_stand, may_place, arrival, start, ticks_in}
+use Rattle.comm_routing.specs.Placing.{last_end, is_placed, operator_of, halves, needs, is_candidate, may_stand, may_place, arrival, start, ticks_in}
 use Rattle.comm_routing.specs.Board.{Board, on_in}
 use Rattle.comm_routing.specs.Draft.{Drafted, Keeps, task_of}
 use Rattle.comm_routing.specs.Candidates.{flag_at, places_from, ready_in}
@@ -18,6 +18,7 @@ use Rattle.comm_routing.specs.declared.candidates.Candidates.{Candidates}
 use Rattle.comm_routing.proofs.Right.{candidate_given, stands}
 use Rattle.schedule.specs.declared.decision.Decision.{Decision}
 use Rattle.comm_routing.proofs.Steps.{on, decided, end_low, low_enough}
+use Rattle.syn_base.specs.Numbers.{greatest}
 
 module _ (d : Drafted) (b : Board) (reads : List (List Source)) (c : Candidates) (k : Keeps d b reads c) where
   halves_on : (p : ℕ) (us : List ℕ) → list_all (is_placed (acts_of d.decisions)) us ≡ true → list_all (λ u. nat_eq (on_in b u) p) us ≡ list_all (λ u. nat_eq (operator_of (acts_of d.decisions) u) p) us

@@ -2,9 +2,9 @@
 use Rattle.std.proofs.Common.{◌≡◌, ℕ, ◌+◌, ◌<◌, List, [], ◌∷◌, ◌++◌, drop, get_or, length, sym, ap, subst, arith, ◌∙◌}
 use Rattle.std.specs.Prelude.{max}
 use Rattle.std.proofs.lemmas.List.{drop_more}
-use Rattle.flat_graph.specs.declared.vertex.Source.{Source}
-use Rattle.archi_graph.specs.declared.medium.Hop.{Hop}
-use Rattle.archi_graph.specs.declared.medium.Medium.{Medium}
+use Rattle.schedule.specs.declared.Source.{Source}
+use Rattle.schedule.specs.declared.Hop.{Hop}
+use Rattle.schedule.specs.declared.Medium.{Medium}
 use Rattle.schedule.specs.declared.decision.Transfer.{Transfer}
 use Rattle.schedule.specs.Acts.{copy}
 use Rattle.comm_routing.proofs.Appending.{appended}

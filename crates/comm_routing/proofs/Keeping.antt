@@ -4,8 +4,8 @@ use Rattle.std.specs.Prelude.{slice_index_or, nat_eq, nat_lt}
 use Rattle.std.specs.List.{list_all, list_any}
 use Rattle.std.proofs.lemmas.Bool.{true≢false, and_parts, or_left, or_right, or_parts, eq-eqb, ne_eqb, not-true}
 use Rattle.std.proofs.lemmas.List.Folds.{list_any-append}
-use Rattle.flat_graph.specs.declared.vertex.Source.{Source}
-use Rattle.flat_graph.specs.declared.vertex.Vertex.{Vertex}
+use Rattle.schedule.specs.declared.Source.{Source}
+use Rattle.schedule.specs.declared.Vertex.{Vertex}
 use Rattle.schedule.specs.Acts.{Act, acts_of, carry, run, runs}
 use Rattle.schedule.proofs.Behind.{acts-append}
 use Rattle.comm_routing.specs.Board.{Board}

@@ -5,13 +5,13 @@ use Rattle.std.specs.List.{list_all}
 use Rattle.std.proofs.lemmas.Bool.{and_parts, leb-true}
 use Rattle.std.proofs.lemmas.List.{append_assoc}
 use Rattle.std.proofs.lemmas.List.Elements.{All-nil, All-cons}
-use Rattle.flat_graph.specs.declared.vertex.Source.{Source}
-use Rattle.flat_graph.specs.declared.vertex.Vertex.{Vertex}
-use Rattle.flat_graph.specs.Graph.{with_vertex, len_of, lens_of}
-use Rattle.flat_graph.specs.Valid.{is_len, is_path, is_guard, fits, has_twin}
-use Rattle.flat_graph.proofs.Facts.{vertex_valid}
-use Rattle.archi_graph.specs.declared.medium.Medium.{Medium}
-use Rattle.archi_graph.specs.Archi.{is_medium, are_bounded, are_distinct, are_joined, names_of, may_stand as may_stand_there, ascends_from}
+use Rattle.schedule.specs.declared.Source.{Source}
+use Rattle.schedule.specs.declared.Vertex.{Vertex}
+use Rattle.schedule.specs.Graph.{with_vertex, len_of, lens_of}
+use Rattle.schedule.specs.FlatValid.{is_len, is_path, is_guard, fits, has_twin}
+use Rattle.schedule.proofs.Facts.{vertex_valid}
+use Rattle.schedule.specs.declared.Medium.{Medium}
+use Rattle.schedule.specs.Archi.{is_medium, are_bounded, are_distinct, are_joined, names_of, may_stand as may_stand_there, ascends_from}
 use Rattle.schedule.specs.declared.decision.Transfer.{Transfer}
 use Rattle.schedule.specs.Acts.{Act, carry, run, acts_of, copy}
 use Rattle.schedule.specs.Valid.{are_right}

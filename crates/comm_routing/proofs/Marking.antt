@@ -6,8 +6,9 @@ use Rattle.std.specs.Cmp.Derive.{both_true}
 use Rattle.std.proofs.lemmas.Bool.{false≢true, and_parts, eqb-true, eq-eqb, ne_eqb}
 use Rattle.std.proofs.lemmas.List.{get_or-set_same, get_or-set_other, length-set}
 use Rattle.std.proofs.lemmas.List.Folds.{list_any-append}
-use Rattle.flat_graph.specs.declared.vertex.Source.{Source}
-use Rattle.comm_routing.specs.Walk.{same_source, distinct_after}
+use Rattle.schedule.specs.declared.Source.{Source}
+use Rattle.schedule.specs.Graph.{same_source}
+use Rattle.comm_routing.specs.Walk.{distinct_after}
 use Rattle.comm_routing.specs.Start.{IsThere, place_of, IsMarked, tally, with_source}
 
 -- what was seen counts as a set

@@ -3,11 +3,12 @@ use Rattle.std.proofs.Common.{◌≡◌, ℕ, zero, suc, ◌+◌, ◌*◌, ◌<�
 use Rattle.std.specs.Prelude.{All, slice_index_or}
 use Rattle.std.proofs.lemmas.List.{drop_more}
 use Rattle.std.proofs.lemmas.List.Elements.{All-append}
-use Rattle.flat_graph.specs.declared.vertex.Source.{Source}
-use Rattle.flat_graph.specs.declared.vertex.Guard.{Guard}
-use Rattle.flat_graph.specs.declared.vertex.Vertex.{Vertex}
+use Rattle.schedule.specs.declared.Source.{Source}
+use Rattle.schedule.specs.declared.Guard.{Guard}
+use Rattle.schedule.specs.declared.Vertex.{Vertex}
+use Rattle.schedule.specs.FlatValid.{HasFewOutputs}
 use Rattle.comm_routing.specs.Walk.{distinct_after}
-use Rattle.comm_routing.specs.Start.{IsThere, AreThere, reads_of, with_source, HasFewOutputs, all_lens}
+use Rattle.comm_routing.specs.Start.{IsThere, AreThere, reads_of, with_source, all_lens}
 use Rattle.comm_routing.proofs.Appending.{appended}
 use Rattle.comm_routing.proofs.Marking.{one_more}
 use Rattle.comm_routing.proofs.Starting.{few_lens}

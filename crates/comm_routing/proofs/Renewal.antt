@@ -5,7 +5,7 @@ use Rattle.std.specs.List.{list_any}
 use Rattle.std.specs.Cmp.Derive.{both_true}
 use Rattle.std.proofs.lemmas.Bool.{true≢false, cases_eq, false_from_ne_true}
 use Rattle.std.proofs.lemmas.List.{get_or-set_same, get_or-set_other}
-use Rattle.flat_graph.specs.declared.vertex.Vertex.{Vertex}
+use Rattle.schedule.specs.declared.Vertex.{Vertex}
 use Rattle.comm_routing.specs.Board.{Board}
 use Rattle.comm_routing.specs.Dependents.{list_at}
 use Rattle.comm_routing.specs.Candidates.{AreUnknown, IsBehind, flag_at, flag_in, is_candidate_in, needs_of, places_from, row_at, sought_in}

@@ -3,23 +3,23 @@ use Rattle.std.proofs.Common.{◌≡◌, ℕ, zero, suc, ◌+◌, ◌<◌, ◌�
 use Rattle.std.specs.Prelude.{All, IfSome, is_some, nat_eq, nat_le, slice_get, slice_index_or}
 use Rattle.std.specs.List.{list_all, list_any}
 use Rattle.std.proofs.lemmas.Bool.{false≢true, and_parts, or_cases, lt-ltb}
-use Rattle.flat_graph.specs.declared.vertex.Source.{Source}
-use Rattle.flat_graph.specs.declared.vertex.Vertex.{Vertex}
-use Rattle.flat_graph.specs.Graph.{Graph, with_vertex, len_of}
-use Rattle.flat_graph.specs.Order.{get_half}
-use Rattle.flat_graph.specs.Valid.{is_flat}
-use Rattle.archi_graph.specs.Archi.{Architecture, is_archi}
 use Rattle.route_table.specs.Table.{RouteTable, IsTableOf}
-use Rattle.durations.specs.Table.{Table, entry_in, IsRow, StandBeside}
-use Rattle.durations.specs.Fitting.{IsOf}
-use Rattle.durations.proofs.SetHalves.{half_of_graph}
+use Rattle.schedule.specs.declared.Source.{Source}
+use Rattle.schedule.specs.declared.Vertex.{Vertex}
+use Rattle.schedule.specs.Graph.{Graph, with_vertex, len_of}
+use Rattle.schedule.specs.FlatOrder.{get_half}
+use Rattle.schedule.specs.FlatValid.{is_flat, HasFewOutputs}
+use Rattle.schedule.specs.Archi.{Architecture, is_archi}
+use Rattle.schedule.specs.Table.{Table, entry_in, IsRow, StandBeside}
+use Rattle.schedule.specs.Fitting.{IsOf}
+use Rattle.schedule.proofs.SetHalves.{half_of_graph}
 use Rattle.schedule.specs.Acts.{sources_of}
 use Rattle.schedule.proofs.Copies.{few_outputs, sources_have_len, output_there}
 use Rattle.schedule.proofs.Decided.{few_operations}
 use Rattle.schedule.proofs.Archis.{few_operators, few_media}
 use Rattle.comm_routing.specs.Board.{Board, on_in}
 use Rattle.comm_routing.specs.Placing.{ticks_in}
-use Rattle.comm_routing.specs.Start.{firsts_from, HasFewOutputs, IsStart, IsThere, AreThere, reads_of}
+use Rattle.comm_routing.specs.Start.{firsts_from, IsStart, IsThere, AreThere, reads_of}
 use Rattle.comm_routing.specs.Draft.{Drafted, IsSite, IsTold, task_of}
 use Rattle.comm_routing.specs.Candidates.{flag_at}
 use Rattle.comm_routing.specs.Progress.{may_stand_in, may_place_in}

@@ -2,12 +2,13 @@
 use Rattle.std.proofs.Common.{◌≡◌, ℕ, zero, suc, ◌+◌, ◌-◌, ◌*◌, ◌<◌, ◌≤◌, List, [], ◌∷◌, ◌++◌, length, replicate, refl, sym, ap, arith, ◌∙◌, length-append, mul-le-mul_right, inl, inr}
 use Rattle.std.specs.Prelude.{All, slice_get, slice_index_or}
 use Rattle.std.proofs.lemmas.Bool.{cases_order}
-use Rattle.flat_graph.specs.declared.vertex.Source.{Source}
-use Rattle.flat_graph.specs.declared.vertex.Vertex.{Vertex}
-use Rattle.flat_graph.specs.Graph.{with_vertex, len_of}
+use Rattle.schedule.specs.declared.Source.{Source}
+use Rattle.schedule.specs.declared.Vertex.{Vertex}
+use Rattle.schedule.specs.Graph.{with_vertex, len_of}
+use Rattle.schedule.specs.FlatValid.{HasFewOutputs}
 use Rattle.comm_routing.specs.Task.{Task}
 use Rattle.comm_routing.specs.Board.{Board, output_in}
-use Rattle.comm_routing.specs.Start.{firsts_from, all_lens, HasFewOutputs, IsStart}
+use Rattle.comm_routing.specs.Start.{firsts_from, all_lens, IsStart}
 use Rattle.comm_routing.specs.Tables.{Tells, TellsOf}
 
 pub same_entries : {A : Type 0} (a : A) (n i : ℕ) → slice_index_or (replicate n a) i a ≡ a

@@ -1,23 +1,23 @@
 -- One placement in a draft: what it asks for, and what is kept after it.
 use Rattle.std.proofs.Common.{◌≡◌, ℕ, zero, suc, ◌+◌, ◌*◌, ◌<◌, ◌≤◌, ◌^◌, Bool, true, false, cond, ◌&&◌, not, List, [], ◌∷◌, ◌++◌, map, length, Option, Some, None, refl, sym, ap, subst, arith, ◌∙◌, inl, inr, length-append, mul-le-mul_right}
 use Rattle.std.specs.Prelude.{All, is_some, nat_eq, nat_lt, nat_le, slice_get, slice_index_or, slice_set}
-use Rattle.durations.specs.Table.{entry_in}
 use Rattle.std.specs.List.{list_all}
 use Rattle.std.proofs.lemmas.Bool.{and_parts, cases_lt, lt-ltb, ltb-true, leb-true}
 use Rattle.std.proofs.lemmas.Option.{same_Some}
-use Rattle.flat_graph.specs.declared.vertex.Source.{Source}
-use Rattle.flat_graph.specs.declared.vertex.Vertex.{Vertex}
-use Rattle.flat_graph.specs.Graph.{with_vertex, len_of}
-use Rattle.flat_graph.specs.Order.{depends_on}
-use Rattle.archi_graph.specs.declared.medium.Hop.{Hop}
-use Rattle.archi_graph.specs.declared.medium.Medium.{Medium}
 use Rattle.route_table.specs.Table.{RouteTable, route_in}
 use Rattle.route_table.proofs.Joined.{facts, all_joined}
 use Rattle.route_table.proofs.Order.{not_less_is_no_shorter}
+use Rattle.schedule.specs.Table.{entry_in}
+use Rattle.schedule.specs.declared.Source.{Source}
+use Rattle.schedule.specs.declared.Vertex.{Vertex}
+use Rattle.schedule.specs.Graph.{with_vertex, len_of}
+use Rattle.schedule.specs.FlatOrder.{depends_on}
+use Rattle.schedule.specs.declared.Hop.{Hop}
+use Rattle.schedule.specs.declared.Medium.{Medium}
 use Rattle.schedule.specs.declared.decision.Decision.{Decision}
 use Rattle.schedule.specs.Acts.{acts_of, copy, sources_of}
 use Rattle.comm_routing.specs.Task.{Task, routing}
-use Rattle.comm_routing.specs.Placing.{ticks_in, sources, needs, halves, greatest, operator_of, is_placed, is_candidate, may_stand, may_place, arrival, decision}
+use Rattle.comm_routing.specs.Placing.{ticks_in, sources, needs, halves, operator_of, is_placed, is_candidate, may_stand, may_place, arrival, decision}
 use Rattle.comm_routing.specs.Walk.{distinct, walk, fetch_all}
 use Rattle.comm_routing.specs.Board.{Board, HasPlace, HasWay, FitsAll, held_in, on_in, time_in, len_in, place_in}
 use Rattle.comm_routing.specs.Tables.{Tells, after_transfers, after_operation, decision_in, transfers_in, start_in, outs_of}
@@ -34,6 +34,7 @@ use Rattle.comm_routing.proofs.Lands.{placements_land, len_low, time_low}
 use Rattle.comm_routing.proofs.Dates.{Stays, stays_low, EndBy, end_by_more}
 use Rattle.comm_routing.proofs.Low.{low_transfers, low_operation, low_more, one_none_less, same_places}
 use Rattle.comm_routing.proofs.Sizes.{same_sizes}
+use Rattle.syn_base.specs.Numbers.{greatest}
 
 entry_there : (xs : List (List Hop)) (i : ℕ) → length xs ≤ i → slice_index_or xs i [] ≡ []
 entry_there [] i l = refl

@@ -28,11 +28,11 @@ use Rattle.std.specs.Prelude.{
   slice_index_or,
 }
 use Rattle.std.specs.List.{list_all, list_any}
-use Rattle.flat_graph.specs.declared.vertex.Source.{Source}
-use Rattle.flat_graph.specs.declared.vertex.Vertex.{Vertex}
-use Rattle.flat_graph.specs.Graph.{with_vertex}
-use Rattle.flat_graph.specs.Order.{depends_on}
 use Rattle.route_table.specs.Table.{route_in}
+use Rattle.schedule.specs.declared.Source.{Source}
+use Rattle.schedule.specs.declared.Vertex.{Vertex}
+use Rattle.schedule.specs.Graph.{with_vertex}
+use Rattle.schedule.specs.FlatOrder.{depends_on}
 use Rattle.comm_routing.specs.Board.{Board, FitsAll, HasWay, held_in, on_in, time_in}
 use Rattle.comm_routing.specs.Dependents.{AreDependents}
 use Rattle.comm_routing.specs.Walk.{fetch_all, walk}
@@ -47,6 +47,7 @@ is_placed_in b v = is_some (slice_index_or b.places v None)
 abbrev pub is_free_in : Board → ℕ → Vertex → Bool
 is_free_in b v x = not (is_placed_in b v) && list_all (is_placed_in b) (depends_on x)
 
+-- The operations on which operation v depends; none if there is no such operation.
 abbrev pub needs_of : List Vertex → ℕ → List ℕ
 needs_of vertices v = with_vertex (slice_get vertices v) [] depends_on
 

@@ -17,8 +17,8 @@ use Rattle.std.specs.Prelude.{
   slice_get,
 }
 use Rattle.std.specs.Global.{Vec}
-use Rattle.flat_graph.specs.declared.vertex.Vertex.{Vertex}
-use Rattle.flat_graph.specs.Order.{depends_on}
+use Rattle.schedule.specs.declared.Vertex.{Vertex}
+use Rattle.schedule.specs.FlatOrder.{depends_on}
 
 -- operation s, once for each of these that is operation u
 abbrev pub repeated : ℕ → ℕ → List ℕ → List ℕ

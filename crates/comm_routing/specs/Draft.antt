@@ -23,13 +23,13 @@ use Rattle.std.specs.Prelude.{
   refl,
 }
 use Rattle.std.specs.Coded.{Coded, code_by, coded×}
-use Rattle.flat_graph.specs.declared.vertex.Source.{Source}
-use Rattle.flat_graph.specs.Graph.{Graph}
-use Rattle.archi_graph.specs.Archi.{Architecture}
 use Rattle.route_table.specs.Table.{RouteTable, route_in, IsTableOf}
+use Rattle.schedule.specs.declared.Source.{Source}
+use Rattle.schedule.specs.Graph.{Graph}
+use Rattle.schedule.specs.Archi.{Architecture}
+use Rattle.schedule.specs.Table.{Table, entry_in}
 use Rattle.schedule.specs.declared.decision.Decision.{Decision}
 use Rattle.schedule.specs.Acts.{acts_of}
-use Rattle.durations.specs.Table.{Table, entry_in}
 use Rattle.comm_routing.specs.Task.{Task}
 use Rattle.comm_routing.specs.Given.{IsTask}
 use Rattle.comm_routing.specs.Laws.{AreRight}

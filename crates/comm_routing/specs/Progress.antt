@@ -1,9 +1,9 @@
 -- What may be placed where, by the tables.
 use Rattle.std.specs.Prelude.{ℕ, Bool, ◌&&◌, nat_eq, nat_lt, length, [], is_some, slice_get}
 use Rattle.std.specs.List.{list_all}
-use Rattle.flat_graph.specs.Graph.{with_vertex}
-use Rattle.flat_graph.specs.Order.{get_half}
-use Rattle.durations.specs.Table.{entry_in}
+use Rattle.schedule.specs.Graph.{with_vertex}
+use Rattle.schedule.specs.FlatOrder.{get_half}
+use Rattle.schedule.specs.Table.{entry_in}
 use Rattle.comm_routing.specs.Board.{Board, on_in}
 use Rattle.comm_routing.specs.Candidates.{flag_at}
 use Rattle.comm_routing.specs.Draft.{Drafted}

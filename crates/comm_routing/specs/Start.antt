@@ -20,11 +20,12 @@ use Rattle.std.specs.Prelude.{
   if◌then◌else◌,
 }
 use Rattle.std.specs.List.{list_any}
-use Rattle.flat_graph.specs.declared.vertex.Source.{Source}
-use Rattle.flat_graph.specs.declared.vertex.Vertex.{Vertex}
+use Rattle.schedule.specs.declared.Source.{Source}
+use Rattle.schedule.specs.declared.Vertex.{Vertex}
+use Rattle.schedule.specs.Graph.{same_source}
 use Rattle.schedule.specs.Acts.{sources_of}
 use Rattle.comm_routing.specs.Board.{Board}
-use Rattle.comm_routing.specs.Walk.{distinct, same_source}
+use Rattle.comm_routing.specs.Walk.{distinct}
 
 -- the number of each operation's first output, of which the first one has this number
 abbrev pub firsts_from : ℕ → List Vertex → List ℕ
@@ -35,10 +36,6 @@ firsts_from first (x ∷ xs) = first ∷ firsts_from (first + length x.outs) xs
 abbrev pub all_lens : List Vertex → List ℕ
 all_lens [] = []
 all_lens (x ∷ xs) = x.outs ++ all_lens xs
-
--- an operation has at most 64 outputs
-abbrev pub HasFewOutputs : Vertex → Type 0
-HasFewOutputs x = length x.outs ≤ 64
 
 -- no operation is placed, and no value is held
 pub record IsStart (vertices : List Vertex) (count : ℕ) (b : Board) : Type 0 where

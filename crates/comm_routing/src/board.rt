@@ -2,20 +2,19 @@
 //! off it.
 ghost use Rattle.std.specs.Prelude.{◌≡◌, ℕ, ◌<◌, ◌≤◌, ◌+◌, ◌*◌, ◌^◌, max, length, slice_index_or, None, All, IfOk};
 ghost use Rattle.syn_base.specs.Limits.{most_operations};
+ghost use Rattle.schedule.specs.FlatValid.{HasFewOutputs};
 ghost use Rattle.schedule.specs.Acts.{copy};
 ghost use Rattle.comm_routing.specs.Board.{Fits, FitsAll, HasOutput, HasPlace, HasRoute, HasWay, held_in, len_in, on_in, time_in};
 ghost use Rattle.comm_routing.specs.Candidates.{is_placed_in};
 ghost use Rattle.comm_routing.specs.Placing.{ticks_in};
 ghost use Rattle.route_table.specs.Table.{route_in};
 ghost use Rattle.comm_routing.specs.Tables.{after_operation, after_transfer, after_transfers, with_outputs};
-ghost use Rattle.comm_routing.specs.Start.{HasFewOutputs, IsStart, all_lens};
+ghost use Rattle.comm_routing.specs.Start.{IsStart, all_lens};
 ghost use Rattle.comm_routing.specs.Walk.{fetch, fetch_all, pass, step, steps, walk};
 
 use crate::start::{firsts, lens, no_dates, no_ends, no_places, zeros};
-use archi_graph::{Hop, Medium};
-use flat_graph::{Source, Vertex};
 use route_table::Routes;
-use schedule::{Decision, Transfer};
+use schedule::{Decision, Hop, Medium, Source, Transfer, Vertex};
 use std::alloc::Global;
 use std::marker::Model;
 use syn_base::OutOfMemory;

@@ -2,14 +2,14 @@
 ghost use Rattle.std.specs.Prelude.{◌≡◌, ℕ, ◌+◌, ◌<◌, ◌≤◌, [], All, Some, true, false, ◌&&◌, IfOk, if◌then◌else◌, length, nat_eq, slice_index_or, slice_set, take, replicate};
 ghost use Rattle.std.specs.List.{list_all, list_any};
 ghost use Rattle.syn_base.specs.Limits.{most_operations};
-ghost use Rattle.flat_graph.specs.Order.{get_half};
+ghost use Rattle.schedule.specs.FlatOrder.{get_half};
 ghost use Rattle.comm_routing.specs.Dependents.{AreDependents};
 ghost use Rattle.comm_routing.specs.Candidates.{AreUnknown, HasOneMore, HasSize, IsBehind, IsListed, IsUpdated, flag_in, is_candidate_in, is_free_in, is_placed_in, kept_at, kept_in, places_from, row_at, sought_in};
 
 use crate::ascending::{put_in, take_out};
 use crate::board::Board;
 use crate::dependents::all_dependents;
-use flat_graph::{Guard, Kind, Source, Vertex};
+use schedule::{Guard, Kind, Source, Vertex};
 use std::alloc::Global;
 use syn_base::OutOfMemory;
 

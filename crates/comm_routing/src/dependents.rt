@@ -2,10 +2,10 @@
 //! changed.
 ghost use Rattle.std.specs.Prelude.{◌≡◌, ℕ, ◌<◌, ◌≤◌, ◌++◌, ◌∷◌, [], IfOk, OnOk, length, map, vec_len};
 ghost use Rattle.syn_base.specs.Limits.{most_operations};
-ghost use Rattle.flat_graph.specs.Order.{depends_on, get_half};
+ghost use Rattle.schedule.specs.FlatOrder.{depends_on, get_half};
 ghost use Rattle.comm_routing.specs.Dependents.{AreDependents, list_at, repeated};
 
-use flat_graph::{Guard, Kind, Source, Vertex};
+use schedule::{Guard, Kind, Source, Vertex};
 use std::alloc::Global;
 use syn_base::OutOfMemory;
 

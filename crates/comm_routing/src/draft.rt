@@ -4,11 +4,8 @@ use crate::placing::start;
 use crate::progress::{Progress, arrival_next, begin, find_next, may_place_next, place_next};
 use crate::reads::all_reads;
 use crate::site::Site;
-use archi_graph::Archi;
-use durations::Durations;
-use flat_graph::{Flat, Source};
 use route_table::Routes;
-use schedule::{Decision, Schedule};
+use schedule::{Archi, Decision, Durations, Flat, Schedule, Source};
 use std::alloc::Global;
 use std::marker::Model;
 use syn_base::{Items, OutOfMemory};
@@ -26,8 +23,8 @@ pub struct Draft<'a> {
 
 impl<'a> Model for Draft<'a> {
     ghost use Rattle.std.specs.Coded.{codes};
-    ghost use Rattle.body_lang.specs.Code.{expr_code};
-    ghost use Rattle.flat_graph.specs.Graph.{graph_code};
+    ghost use Rattle.schedule.specs.BodyCode.{expr_code};
+    ghost use Rattle.schedule.specs.Graph.{graph_code};
     ghost use Rattle.comm_routing.specs.Draft.{Drafted, Keeps, draft_code, drafted};
 
     ghost Value = { Drafted };
@@ -45,7 +42,7 @@ impl<'a> Draft<'a> {
     ghost use Rattle.std.specs.Prelude.{◌≡◌, ◌^◌, ◌<◌, [], IfOk, IsTrue, OnErr, OnOk, length};
     ghost use Rattle.std.specs.List.{filter, range_with_len};
     ghost use Rattle.route_table.specs.Table.{IsTableOf};
-    ghost use Rattle.durations.specs.Fitting.{IsOf};
+    ghost use Rattle.schedule.specs.Fitting.{IsOf};
     ghost use Rattle.schedule.specs.Acts.{acts_of};
     ghost use Rattle.comm_routing.specs.Placing.{arrival, is_candidate, may_place, start};
     ghost use Rattle.comm_routing.specs.Draft.{after_placing, task_of};

@@ -1,20 +1,20 @@
 //! A placement, computed by the tables. `progress` makes it.
 ghost use Rattle.std.specs.Prelude.{◌≡◌, ℕ, ◌<◌, ◌≤◌, ◌+◌, ◌*◌, ◌^◌, ◌++◌, [], ◌∷◌, max, map, length, slice_get, slice_index_or, All, IfOk, IsTrue, OnErr, OnOk};
-ghost use Rattle.flat_graph.specs.Graph.{with_vertex};
-ghost use Rattle.flat_graph.specs.Order.{get_half};
+ghost use Rattle.schedule.specs.Graph.{with_vertex};
+ghost use Rattle.schedule.specs.FlatOrder.{get_half};
 ghost use Rattle.schedule.specs.Acts.{copy};
 ghost use Rattle.route_table.specs.Table.{route_in};
 ghost use Rattle.comm_routing.specs.Task.{routing_on};
-ghost use Rattle.comm_routing.specs.Placing.{greatest, sources};
+ghost use Rattle.comm_routing.specs.Placing.{sources};
 ghost use Rattle.comm_routing.specs.Walk.{distinct, walk};
 ghost use Rattle.comm_routing.specs.Board.{FitsAll, HasPlace, HasWay};
 ghost use Rattle.comm_routing.specs.Tables.{after_operation, after_transfers, decision_in, outs_of, start_in, transfers_in};
+ghost use Rattle.syn_base.specs.Numbers.{greatest};
 
 use crate::board::{Board, carry_all};
 use crate::listing::{Network, list_all};
 use crate::site::Site;
-use flat_graph::{Flat, Kind, Source};
-use schedule::{Decision, Transfer};
+use schedule::{Decision, Flat, Kind, Source, Transfer};
 use std::alloc::Global;
 use syn_base::{Items, OutOfMemory};
 

@@ -1,7 +1,7 @@
 //! The progress of a draft: its tables, its decisions and its candidates, and one placement more.
 ghost use Rattle.std.specs.Prelude.{◌≡◌, ◌<◌, ◌≤◌, List, [], All, IfOk, IsTrue, OnErr, OnOk, length, map, nat_eq};
 ghost use Rattle.std.specs.List.{list_all};
-ghost use Rattle.flat_graph.specs.Order.{get_half};
+ghost use Rattle.schedule.specs.FlatOrder.{get_half};
 ghost use Rattle.schedule.specs.Acts.{acts_of};
 ghost use Rattle.schedule.specs.declared.decision.Decision.{Decision};
 ghost use Rattle.comm_routing.specs.declared.candidates.Candidates.{Candidates};
@@ -16,8 +16,7 @@ use crate::candidates::Candidates;
 use crate::placing::{Placement, place};
 use crate::reach::{Walks, arrival_on};
 use crate::site::Site;
-use flat_graph::{Kind, Source};
-use schedule::Decision;
+use schedule::{Decision, Kind, Source};
 use std::alloc::Global;
 use syn_base::{Items, OutOfMemory};
 

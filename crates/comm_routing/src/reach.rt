@@ -3,9 +3,8 @@ ghost use Rattle.std.specs.Prelude.{◌≡◌, ◌<◌, length};
 ghost use Rattle.comm_routing.specs.Candidates.{CanWalk, HasWalks, arrival_at};
 
 use crate::board::{Board, arrival};
-use archi_graph::Medium;
-use flat_graph::Source;
 use route_table::Routes;
+use schedule::{Medium, Source};
 use syn_base::Items;
 
 /// The tables, the media with the routes over them, how many operators there are, and the distinct

@@ -3,9 +3,9 @@ ghost use Rattle.std.specs.Prelude.{◌≡◌, ℕ, ◌<◌, ◌≤◌, ◌*◌,
 ghost use Rattle.syn_base.specs.Limits.{most_operations};
 ghost use Rattle.comm_routing.specs.Start.{AreThere, IsMarked, IsThere, reads_of, with_source};
 ghost use Rattle.comm_routing.specs.Walk.{distinct_after};
-ghost use Rattle.flat_graph.specs.declared.vertex.Source.{Source};
+ghost use Rattle.schedule.specs.declared.Source.{Source};
 
-use flat_graph::{Guard, Source, Vertex};
+use schedule::{Guard, Source, Vertex};
 use std::alloc::Global;
 use syn_base::{Items, OutOfMemory};
 

@@ -1,8 +1,6 @@
 //! The site of a draft: what is scheduled, and on what.
-use archi_graph::Archi;
-use durations::Durations;
-use flat_graph::Flat;
 use route_table::Routes;
+use schedule::{Archi, Durations, Flat};
 
 /// A flat graph, an architecture with its routes, and how long operations last.
 #[derive(Clone, Copy)]

@@ -1,9 +1,10 @@
 //! The tables before the first decision, which `Board::new` begins with.
 ghost use Rattle.std.specs.Prelude.{◌≡◌, ℕ, ◌≤◌, None, All, IfOk, length, slice_index_or};
 ghost use Rattle.syn_base.specs.Limits.{most_operations};
-ghost use Rattle.comm_routing.specs.Start.{HasFewOutputs, all_lens, firsts_from};
+ghost use Rattle.comm_routing.specs.Start.{all_lens, firsts_from};
+ghost use Rattle.schedule.specs.FlatValid.{HasFewOutputs};
 
-use flat_graph::Vertex;
+use schedule::Vertex;
 use std::alloc::Global;
 use syn_base::OutOfMemory;
 

@@ -10,6 +10,11 @@
 
 ghost use Rattle.command_plan.specs.Answers.{PlansAnswer, SomeAreAPrefix};
 
+// What the clauses here speak of: files and outputs.
+pub use outside::{
+    Failed, File, Gate, ReadAnswer, Shelf, Sink, read_whole, write_pieces, write_whole,
+};
+
 /// The law of plans: where a plan reads each file under the name that the words give it and was
 /// carried out, its ending means what it says. Done means that the defined text was appended and all
 /// jobs were run, each other ending comes only for its cause and in the plan's order, only a prefix is

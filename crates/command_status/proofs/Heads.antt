@@ -1,8 +1,8 @@
 -- Lines that are written in parts.
 use Rattle.std.proofs.Common.{◌≡◌, ◌∙◌, ◌<◌, ◌+◌, ℕ, zero, suc, List, [], ◌∷◌, ◌++◌, Bool, length, drop, get_or, codes, refl, subst, suc-add, arith}
 use Rattle.syn_base.specs.Bytes.{Bytes}
-use Rattle.outside.specs.Bytes.{joined}
-use Rattle.outside.specs.Sink.{Sunk, Wrote}
+use Rattle.command_plan.specs.Bytes.{joined}
+use Rattle.command_plan.specs.Sink.{Sunk, Wrote}
 use Rattle.command_status.specs.Lines.{head, names_line, stop_text, stops_line}
 use Rattle.check_cause.specs.declared.cause.Stop.{Stop}
 

@@ -2,11 +2,6 @@
 use Rattle.std.specs.Prelude.{ℕ, List, [], ◌∷◌, ◌++◌, codes}
 use Rattle.std.specs.Fmt.{decimal}
 use Rattle.syn_base.specs.Bytes.{Bytes}
-use Rattle.outside.specs.Bytes.{joined}
-use Rattle.outside.specs.Faults.{Rose}
-use Rattle.outside.specs.Sink.{Sunk, Appends, AppendsPrefix}
-use Rattle.outside.specs.declared.file.File.{File}
-use Rattle.outside.specs.declared.file.File.TheVariants as file
 use Rattle.syn_base.specs.declared.limits.LimitFault.{LimitFault}
 use Rattle.syn_base.specs.Limits.{word_of}
 use Rattle.algo_text.specs.declared.fault.AlgoCause.{AlgoCause}
@@ -14,18 +9,23 @@ use Rattle.algo_text.specs.declared.fault.AlgoCause.TheVariants as a
 use Rattle.algo_text.specs.declared.fault.AlgoFault.{AlgoFault}
 use Rattle.archi_defs.specs.declared.fault.ArchiCause.{ArchiCause}
 use Rattle.archi_defs.specs.declared.fault.ArchiCause.TheVariants as h
-use Rattle.archi_defs.specs.declared.fault.ArchiFault.{ArchiFault}
+use Rattle.archi_defs.specs.Refusals.{ArchiFault}
 use Rattle.sensor_table.specs.declared.fault.SensorCause.{SensorCause}
 use Rattle.sensor_table.specs.declared.fault.SensorCause.TheVariants as s
 use Rattle.sensor_table.specs.declared.fault.SensorFault.{SensorFault}
 use Rattle.macro_code.specs.declared.fault.CodeCause.{CodeCause}
 use Rattle.macro_code.specs.declared.fault.CodeCause.TheVariants as c
-use Rattle.macro_code.specs.declared.fault.CodeFault.{CodeFault}
+use Rattle.macro_code.specs.Refusals.{CodeFault}
 use Rattle.check_cause.specs.declared.cause.CheckCause.{CheckCause}
 use Rattle.check_cause.specs.declared.cause.CheckCause.TheVariants as k
 use Rattle.check_cause.specs.declared.cause.Stop.{Stop}
 use Rattle.actual_defs.specs.declared.fault.ActualFault.{ActualFault}
 use Rattle.actual_defs.specs.declared.fault.ActualFault.TheVariants as e
+use Rattle.command_plan.specs.Bytes.{joined}
+use Rattle.command_plan.specs.Faults.{Rose}
+use Rattle.command_plan.specs.Sink.{Sunk, Appends, AppendsPrefix}
+use Rattle.command_plan.specs.declared.File.{File}
+use Rattle.command_plan.specs.declared.File.TheVariants as file
 use Rattle.command_status.specs.declared.status.Status.{Status}
 use Rattle.command_status.specs.declared.status.Status.TheVariants.{
   Done,
@@ -60,7 +60,7 @@ limit_line fault =
 abbrev pub head : Bytes → ℕ → Bytes → Bytes
 head text n word = joined (text ∷ decimal n ∷ codes ": " ∷ word ∷ [])
 
--- what stands after a cause, to the end of the line: a number, two numbers, a word, two names, or names
+-- A number after a cause, to the end of the line.
 abbrev pub number_line : ℕ → Bytes
 number_line n = joined (codes " " ∷ decimal n ∷ codes "\n" ∷ [])
 

@@ -4,15 +4,13 @@ use Rattle.command_plan.specs.Ending.{Ending, done, refused, unread, unwritten, 
 use Rattle.algo_text.specs.declared.fault.AlgoError.{AlgoError}
 use Rattle.algo_text.specs.declared.fault.AlgoError.TheVariants as algorithm
 use Rattle.algo_text.specs.declared.fault.AlgoFault.{AlgoFault}
-use Rattle.archi_defs.specs.declared.fault.ArchiError.{ArchiError}
-use Rattle.archi_defs.specs.declared.fault.ArchiError.TheVariants as architecture
-use Rattle.archi_defs.specs.declared.fault.ArchiFault.{ArchiFault}
+use Rattle.archi_defs.specs.Refusals.{ArchiError, ArchiFault, ArchiRefusal}
+use Rattle.text_lines.specs.declared.fault.TextError.TheVariants as error
+use Rattle.text_lines.specs.Refusals as text
 use Rattle.sensor_table.specs.declared.fault.SensorError.{SensorError}
 use Rattle.sensor_table.specs.declared.fault.SensorError.TheVariants as sensors
 use Rattle.sensor_table.specs.declared.fault.SensorFault.{SensorFault}
-use Rattle.macro_code.specs.declared.fault.CodeError.{CodeError}
-use Rattle.macro_code.specs.declared.fault.CodeError.TheVariants as code
-use Rattle.macro_code.specs.declared.fault.CodeFault.{CodeFault}
+use Rattle.macro_code.specs.Refusals.{CodeError, CodeFault, CodeRefusal}
 use Rattle.check_cause.specs.declared.cause.CheckCause.{CheckCause}
 use Rattle.actual_defs.specs.declared.fault.ActualError.{ActualError}
 use Rattle.actual_defs.specs.declared.fault.ActualError.TheVariants as durations
@@ -91,15 +89,14 @@ status_of_algorithm algorithm.TooLarge = OutOfMemory
 status_of_algorithm algorithm.OutOfMemory = OutOfMemory
 
 -- the refusal by an architecture's text or its durations
-abbrev pub of_architecture : ArchiError → Refusal
-of_architecture (architecture.Refused fault) = bad_architecture fault
-of_architecture (architecture.Limit fault) = above fault
-of_architecture architecture.OutOfMemory = wants_memory
+abbrev pub of_architecture : ArchiRefusal → Refusal
+of_architecture (text.Refused fault) = bad_architecture fault
+of_architecture (text.Limit fault) = above fault
 
 abbrev pub status_of_architecture : ArchiError → Status
-status_of_architecture (architecture.Refused fault) = ArchiRefused fault
-status_of_architecture (architecture.Limit fault) = Limit fault
-status_of_architecture architecture.OutOfMemory = OutOfMemory
+status_of_architecture (error.Refused fault) = ArchiRefused fault
+status_of_architecture (error.Limit fault) = Limit fault
+status_of_architecture error.OutOfMemory = OutOfMemory
 
 -- the refusal by a sensor table
 abbrev pub of_sensors : SensorError → Refusal
@@ -113,15 +110,14 @@ status_of_sensors (sensors.Limit fault) = Limit fault
 status_of_sensors sensors.OutOfMemory = OutOfMemory
 
 -- the refusal by a text of macro-code
-abbrev pub of_code : CodeError → Refusal
-of_code (code.Refused fault) = bad_code fault
-of_code (code.Limit fault) = above fault
-of_code code.OutOfMemory = wants_memory
+abbrev pub of_code : CodeRefusal → Refusal
+of_code (text.Refused fault) = bad_code fault
+of_code (text.Limit fault) = above fault
 
 abbrev pub status_of_code : CodeError → Status
-status_of_code (code.Refused fault) = CodeRefused fault
-status_of_code (code.Limit fault) = Limit fault
-status_of_code code.OutOfMemory = OutOfMemory
+status_of_code (error.Refused fault) = CodeRefused fault
+status_of_code (error.Limit fault) = Limit fault
+status_of_code error.OutOfMemory = OutOfMemory
 
 -- the refusal by a text of the durations that really occur
 abbrev pub of_durations : ActualError → Refusal

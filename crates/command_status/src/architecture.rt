@@ -1,11 +1,11 @@
 //! The line of a refused architecture, and of a text of durations that is refused as one; `say` writes it.
 ghost use Rattle.std.specs.Prelude.{◌≡◌, is_ok};
-ghost use Rattle.outside.specs.Sink.{Wrote};
+ghost use Rattle.command_plan.specs.Sink.{Wrote};
 ghost use Rattle.command_status.specs.Lines.{architecture_detail, architecture_word, described_line, two_names_line};
 
 use crate::line::{write_head, write_number, write_word};
 use archi_defs::{ArchiCause, ArchiFault};
-use outside::{Failed, Sink, write_pieces, write_whole};
+use command_plan::{Failed, Sink, write_pieces, write_whole};
 
 /// Writes, after this text, where an architecture's text is refused, for which cause, and what comes with it.
 pub fn write_described<E: Sink>(err: &mut E, text: &[u8], fault: &ArchiFault) -> Result<(), Failed>

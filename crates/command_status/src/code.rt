@@ -1,6 +1,6 @@
 //! The lines of refused macro-code, by its text and by the check of its program; `say` writes them.
 ghost use Rattle.std.specs.Prelude.{◌≡◌, is_ok};
-ghost use Rattle.outside.specs.Sink.{Wrote};
+ghost use Rattle.command_plan.specs.Sink.{Wrote};
 ghost use Rattle.command_status.specs.Lines.{
   check_detail,
   check_head,
@@ -15,9 +15,9 @@ ghost use Rattle.command_status.specs.Lines.{
 
 use crate::line::{write_head, write_word};
 use check_cause::{CheckCause, Stop};
+use command_plan::{Failed, Sink, write_pieces, write_whole};
 use itoa::Buffer;
 use macro_code::{CodeCause, CodeFault};
-use outside::{Failed, Sink, write_pieces, write_whole};
 
 /// Writes where a text of macro-code is refused, for which cause, and what stands after it.
 pub fn write_code<E: Sink>(err: &mut E, fault: &CodeFault) -> Result<(), Failed>

@@ -1,11 +1,11 @@
 //! The line of a refused text of the durations that really occur; `say` writes it.
 ghost use Rattle.std.specs.Prelude.{is_ok};
-ghost use Rattle.outside.specs.Sink.{Wrote};
+ghost use Rattle.command_plan.specs.Sink.{Wrote};
 ghost use Rattle.command_status.specs.Lines.{durations_line, named_line};
 
 use crate::architecture::write_described;
 use actual_defs::ActualFault;
-use outside::{Failed, Sink, write_pieces, write_whole};
+use command_plan::{Failed, Sink, write_pieces, write_whole};
 
 /// Writes why the durations are refused, and for which medium or definition.
 pub fn write_durations<E: Sink>(err: &mut E, fault: &ActualFault) -> Result<(), Failed>

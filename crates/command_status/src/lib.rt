@@ -9,3 +9,10 @@ mod status;
 
 pub use line::say;
 pub use status::Status;
+
+// What the clauses here speak of: plans, and the causes for which texts are refused.
+pub use actual_defs::{ActualError, ActualFault};
+pub use check_cause::{CheckCause, Stop};
+pub use command_plan::{Failed, File, Gate, ReadAnswer, Shelf, Sink, read_whole, write_whole};
+pub use macro_code::{CodeCause, CodeError, print_code};
+pub use sensor_table::{SensorCause, SensorError, SensorFault, read_sensors, template_text};

@@ -1,6 +1,6 @@
 //! The line of a status on the error sink, written piece by piece without memory. The top call writes it by `say`.
 ghost use Rattle.std.specs.Prelude.{◌≡◌, is_ok};
-ghost use Rattle.outside.specs.Sink.{Wrote};
+ghost use Rattle.command_plan.specs.Sink.{Wrote};
 ghost use Rattle.command_status.specs.Lines.{
   algorithm_detail,
   algorithm_line,
@@ -24,8 +24,8 @@ use crate::code::{write_check, write_code};
 use crate::durations::write_durations;
 use crate::status::Status;
 use algo_text::{AlgoCause, AlgoFault};
+use command_plan::{Failed, File, Sink, write_pieces, write_whole};
 use itoa::Buffer;
-use outside::{Failed, File, Sink, write_pieces, write_whole};
 use sensor_table::{SensorCause, SensorFault};
 use syn_base::{LimitFault, Name};
 

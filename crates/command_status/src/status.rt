@@ -14,8 +14,8 @@ use actual_defs::{ActualError, ActualFault};
 use algo_text::{AlgoError, AlgoFault};
 use archi_defs::{ArchiError, ArchiFault};
 use check_cause::CheckCause;
+use command_plan::File;
 use macro_code::{CodeError, CodeFault};
-use outside::File;
 use sensor_table::{SensorError, SensorFault};
 use syn_base::{LimitFault, OutOfMemory};
 

@@ -9,13 +9,13 @@ use Rattle.clap.specs.Faults.{fault_of}
 use Rattle.command_words.specs.Command.{plain_by, arguments_of, command_of}
 use Rattle.command_words.specs.Plain.{command_without_options, command_by_words}
 use Rattle.command_words.specs.Answer.{Tells}
-use Rattle.command_words.specs.App.{the_app, one_app, two_app, four_app, rows, four_rows}
+use Rattle.command_words.specs.App.{the_app, one_app, two_app, four_app}
 use Rattle.command_words.proofs.Behind.{behind, given, behind_first}
 use Rattle.command_words.proofs.Table.{Text, plain_from, answered}
 use Rattle.command_words.proofs.Looks.{two_ways}
 use Rattle.command_words.proofs.Leaf.{IsRefused, at}
 use Rattle.command_words.proofs.Stages.{AreTexts, Fits}
-use Rattle.command_words.proofs.Leaves.{leaf, wants_one, single_reads, wants_two, both_read, one_or_two_read, wants_four, four_read}
+use Rattle.command_words.proofs.Leaves.{leaf, wants_one, single_reads, wants_two, both_read, one_or_two_read, wants_four, four_read, four_rows, rows}
 use Rattle.command_words.proofs.RunWords as walk
 use Rattle.command_words.proofs.RunWords.{Fate, working_by, working_read}
 use Rattle.command_words.proofs.Whole.{Behaves, at_check, at_sim, at_flat, at_chart, at_code, at_load, at_dates, at_run, at_exec, no_word, nothing, IsOther, no_name}

@@ -1,14 +1,36 @@
 -- The words after a name, as clap reads them.
 use Rattle.std.proofs.Common.{◌≡◌, List, [], ◌∷◌, Bool, true, false, Option, Some, None, refl, codes}
-use Rattle.clap.specs.Walk.{Held, Row, nothing_held, arg_by_index, to_positional}
+use Rattle.clap.specs.Walk.{Held, Row, nothing_held, arg_by_index, to_positional, reading_by}
 use Rattle.clap.specs.Simple.{Shape, App, built_leaf, inherited, with_leaf_noted, marked_built}
 use Rattle.command_words.proofs.Table.{Text}
-use Rattle.command_words.specs.App.{the_app, one_app, two_app, four_app, row, rows, four_rows}
+use Rattle.command_words.specs.App.{the_app, one_app, two_app, four_app, argument}
 use Rattle.command_words.proofs.Leaf.{IsRefused, NoOptions, at}
 use Rattle.clap.specs.Kinds.{Kinds}
 use Rattle.clap.specs.Faults.{walk_fault, defaults_fault}
 use Rattle.clap.specs.declared.error.kind.ErrorKind.TheVariants as kind
 use Rattle.command_words.proofs.Stages.{faults_of, Fits, Reads, stage, last}
+use Rattle.clap.specs.declared.parser.matches.ValueSource.TheVariants.{CommandLine}
+use Rattle.syn_base.specs.Bytes.{Bytes}
+
+-- What a parse finds of one argument, from the name of the argument and its word.
+abbrev pub row : Bytes → Bytes → Row
+row id v =
+    record {
+      id = id;
+      values = v ∷ [];
+      count = None;
+      source = Some CommandLine;
+      reading = reading_by (argument id true);
+    }
+
+-- What a parse finds of one word, or of two.
+abbrev pub rows : Bytes → Option Bytes → List Row
+rows a None = row (codes "first") a ∷ []
+rows a (Some b) = row (codes "first") a ∷ row (codes "second") b ∷ []
+
+-- What a parse finds of four words.
+abbrev pub four_rows : Bytes → Bytes → Bytes → Bytes → List Row
+four_rows a b c d = row (codes "first") a ∷ row (codes "second") b ∷ row (codes "third") c ∷ row (codes "fourth") d ∷ []
 
 -- a subcommand as it is built
 abbrev pub leaf : App → Shape

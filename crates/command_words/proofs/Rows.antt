@@ -7,9 +7,10 @@ use Rattle.std.specs.Str.{bytes_eq}
 use Rattle.clap.specs.Walk.{Row, at_row, without, has_row, first_of, with_values, more_values, reading_by}
 use Rattle.clap.specs.Takes.{is_given}
 use Rattle.clap.specs.declared.parser.matches.ValueSource.TheVariants.{CommandLine}
-use Rattle.command_words.specs.App.{argument, row}
+use Rattle.command_words.specs.App.{argument}
 use Rattle.command_words.proofs.Table.{Text}
 use Rattle.command_words.proofs.Looks.{two_ways}
+use Rattle.command_words.proofs.Leaves.{row}
 
 -- the first row of this argument
 abbrev pub row_in : Text → List Row → Option Row

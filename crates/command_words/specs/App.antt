@@ -1,8 +1,7 @@
 -- The commands as `clap` is told of them.
-use Rattle.std.specs.Prelude.{Bool, List, [], ◌∷◌, true, false, codes, Some, None, Option}
-use Rattle.clap.specs.Walk.{Row, Rule, reading_by}
+use Rattle.std.specs.Prelude.{Bool, List, [], ◌∷◌, true, false, codes, Some}
+use Rattle.clap.specs.Walk.{Rule}
 use Rattle.clap.specs.Simple.{App, new_app, new_rule, with_rule, with_subcommand, on_top}
-use Rattle.clap.specs.declared.parser.matches.ValueSource.TheVariants.{CommandLine}
 use Rattle.syn_base.specs.Bytes.{Bytes}
 use Rattle.command_words.specs.declared.given.Form.{Form}
 use Rattle.command_words.specs.declared.given.Form.TheVariants.{One, Two, Four, Working}
@@ -57,21 +56,3 @@ the_app =
     with_subcommand (with_subcommand (with_subcommand (with_subcommand texts_app
     (one_app (codes "load")).top) (four_app true (codes "dates")).top) (working_app false (codes "run")).top)
     (working_app true (codes "exec")).top
-
--- what a parse finds
-abbrev pub row : Bytes → Bytes → Row
-row id v =
-    record {
-      id = id;
-      values = v ∷ [];
-      count = None;
-      source = Some CommandLine;
-      reading = reading_by (argument id true);
-    }
-
-abbrev pub rows : Bytes → Option Bytes → List Row
-rows a None = row (codes "first") a ∷ []
-rows a (Some b) = row (codes "first") a ∷ row (codes "second") b ∷ []
-
-abbrev pub four_rows : Bytes → Bytes → Bytes → Bytes → List Row
-four_rows a b c d = row (codes "first") a ∷ row (codes "second") b ∷ row (codes "third") c ∷ row (codes "fourth") d ∷ []

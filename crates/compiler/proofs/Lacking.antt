@@ -1,15 +1,15 @@
 -- What the check refuses is what the program of the text lacks.
 use Rattle.std.proofs.Common.{◌≡◌, List, ℕ, length, Some}
 use Rattle.std.specs.Prelude.{Ok, Err}
-use Rattle.flat_graph.specs.Graph.{Graph}
-use Rattle.archi_graph.specs.Archi.{Architecture}
-use Rattle.archi_graph.specs.Sequences.{sequences}
-use Rattle.executive_program.specs.declared.program.Program.{Program}
-use Rattle.macro_code.specs.ReadText.{program_in}
+use Rattle.sequence_build_laws.specs.Graph.{Graph}
+use Rattle.sequence_build_laws.specs.Archi.{Architecture}
+use Rattle.sequence_build_laws.specs.Sequences.{sequences}
+use Rattle.sequence_build_laws.specs.declared.Program.{Program}
 use Rattle.check_laws.specs.Tests.{cause}
 use Rattle.macro_check.specs.Causes.{Refuses}
 use Rattle.macro_check.specs.declared.cause.CheckError.{CheckError}
 use Rattle.macro_check.specs.declared.cause.CheckError.TheVariants.{Refused, OutOfMemory}
+use Rattle.top_plans.specs.ReadText.{program_in}
 use Rattle.compiler.specs.Checked.{GivesChecked, lacks}
 
 pub lacking : (text : List ℕ) (g : Graph) (a : Architecture) (p : Program) → program_in text g a ≡ Ok p → (e : CheckError)

@@ -1,14 +1,14 @@
 -- The text of a file has few lines, and few definitions.
 use Rattle.std.proofs.Common.{◌≤◌, ◌+◌, ℕ, Bool, true, false, cond, List, [], ◌∷◌, ◌++◌, length, length-append, append_assoc, sym, subst, arith}
 use Rattle.text_lines.specs.Text.{is_feed, lines_of, with_byte}
-use Rattle.outside.specs.Shelf.{file_bound}
 use Rattle.algo_reader.proofs.LineCounts.{lines_at_most}
 use Rattle.syn_base.specs.Bytes.{Bytes}
-use Rattle.algo_text.specs.declared.definition.Def.{Def}
-use Rattle.algo_text.specs.declared.definition.Defs.{Defs}
-use Rattle.algo_text.specs.declared.definition.Body.{Body}
-use Rattle.algo_text.specs.declared.definition.Body.TheVariants.{Sensor, Actuator, Constant, Delay, Function, Graph, Switch, Repeat}
 use Rattle.algo_print.specs.Canonical.{body_lines, canonical_text, definition_lines, joined, text_of, version_words}
+use Rattle.algo_laws.specs.declared.Def.{Def}
+use Rattle.algo_laws.specs.declared.Defs.{Defs}
+use Rattle.algo_laws.specs.declared.Body.{Body}
+use Rattle.algo_laws.specs.declared.Body.TheVariants.{Sensor, Actuator, Constant, Delay, Function, Graph, Switch, Repeat}
+use Rattle.top_plans.specs.Shelf.{file_bound}
 
 pub few_lines : (text : Bytes) → length text ≤ file_bound → length (lines_of text) ≤ 4000000000
 few_lines text h = omega (arith, h, lines_at_most text)

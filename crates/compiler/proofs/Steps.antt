@@ -1,27 +1,27 @@
 -- Carrying out the plan of a command, part by part.
 use Rattle.std.proofs.Common.{◌≡◌, Option, Some, None, Result, Ok, Err, refl, sym, subst, inl, inr}
 use Rattle.syn_base.specs.Bytes.{Bytes}
-use Rattle.outside.specs.Shelf.{Held}
-use Rattle.algo_text.specs.declared.definition.Defs.{Defs}
-use Rattle.algo_text.specs.declared.fault.AlgoError.{AlgoError}
-use Rattle.algo_text.specs.declared.fault.AlgoError.TheVariants as error
-use Rattle.algo_text.specs.Text.{definitions_of}
-use Rattle.algo_text.specs.Returned.{Gives}
-use Rattle.elaboration.specs.Elaborated.{bounded_elaboration, elaboration_of}
-use Rattle.elaboration.proofs.Bounded.{limit_stays, refusal_stays}
-use Rattle.algo_tree.specs.Tree.{Vertex}
 use Rattle.csv.specs.Reading.{default_config, records, strip_bom}
-use Rattle.sensor_table.specs.Answers as table
-use Rattle.sensor_table.specs.SensorTable.{rows_of}
 use Rattle.syn_base.specs.Rows.{Reactions}
-use Rattle.sensor_table.specs.declared.fault.SensorError.{SensorError}
-use Rattle.sensor_table.specs.declared.fault.SensorError.TheVariants as sensors
 use Rattle.syn_base.specs.declared.limits.LimitFault.{LimitFault}
-use Rattle.command_plan.specs.Plan.{after}
-use Rattle.command_plan.specs.Ending.{Ending, refused}
-use Rattle.command_plan.specs.Run.{Makes, refuses, was_read}
-use Rattle.command_plan.proofs.Makes.{after_err, after_ok, memory}
-use Rattle.command_status.specs.Status.{Refusal, above, ending_of, of_algorithm, of_sensors, status_of_algorithm, status_of_sensors}
+use Rattle.algo_laws.specs.declared.Defs.{Defs}
+use Rattle.algo_laws.specs.declared.AlgoError.{AlgoError}
+use Rattle.algo_laws.specs.declared.AlgoError.TheVariants as error
+use Rattle.algo_laws.specs.Text.{definitions_of}
+use Rattle.algo_laws.specs.Returned.{Gives}
+use Rattle.algo_laws.specs.Tree.{Vertex}
+use Rattle.top_plans.specs.Shelf.{Held}
+use Rattle.top_plans.specs.Elaborated.{bounded_elaboration, elaboration_of}
+use Rattle.top_plans.proofs.Bounded.{limit_stays, refusal_stays}
+use Rattle.top_plans.specs.SensorAnswers as table
+use Rattle.top_plans.specs.SensorTable.{rows_of}
+use Rattle.top_plans.specs.declared.SensorError.{SensorError}
+use Rattle.top_plans.specs.declared.SensorError.TheVariants as sensors
+use Rattle.top_plans.specs.Plan.{after}
+use Rattle.top_plans.specs.Ending.{Ending, refused}
+use Rattle.top_plans.specs.Run.{Makes, refuses, was_read}
+use Rattle.top_plans.proofs.Makes.{after_err, after_ok, memory}
+use Rattle.top_plans.specs.Status.{Refusal, above, ending_of, of_algorithm, of_sensors, status_of_algorithm, status_of_sensors}
 use Rattle.top_plans.specs.Given.{Given}
 use Rattle.top_plans.specs.Plans.{Made, algorithm_plan, table_in, table_plan, unless}
 use Rattle.compiler.specs.Compiles.{IsAlgorithm, IsRefused, MakesAlgorithm, makes_large, resolves_none, says_none}

@@ -7,13 +7,13 @@ use Rattle.syn_base.specs.Bytes.{Bytes}
 use Rattle.syn_base.specs.Limits.{bound_of}
 use Rattle.syn_base.specs.Rows.{Reactions}
 use Rattle.syn_base.specs.declared.limits.LimitKind.TheVariants as limit
-use Rattle.algo_tree.specs.Tree.{Vertex}
-use Rattle.algo_tree.specs.Ends.{sensor_lengths}
-use Rattle.accepted_laws.specs.Accepted.{TablesFit}
-use Rattle.sensor_table.specs.Answers.{Gives}
-use Rattle.sensor_table.specs.SensorTable.{Record, Row, refused, with_value, with_error, before, row_in, too_many, row_of, rows_from, reactions_of, is_header, rows_of}
-use Rattle.sensor_table.specs.declared.fault.SensorCause.TheVariants.{BadHeader}
-use Rattle.sensor_table.specs.declared.fault.SensorError.{SensorError}
+use Rattle.algo_laws.specs.Tree.{Vertex}
+use Rattle.algo_laws.specs.Ends.{sensor_lengths}
+use Rattle.top_plans.specs.Accepted.{TablesFit}
+use Rattle.top_plans.specs.SensorAnswers.{Gives}
+use Rattle.top_plans.specs.SensorTable.{Record, Row, refused, with_value, with_error, before, row_in, too_many, row_of, rows_from, reactions_of, is_header, rows_of}
+use Rattle.top_plans.specs.declared.SensorCause.TheVariants.{BadHeader}
+use Rattle.top_plans.specs.declared.SensorError.{SensorError}
 use Rattle.compiler.specs.Reads.{MakesTable}
 
 pub made_table : (main : Vertex) (table : Bytes) (answer : Result Reactions SensorError) → TablesFit → Gives answer (rows_of main (records default_config (strip_bom table))) → MakesTable main table answer

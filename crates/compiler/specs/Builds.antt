@@ -1,16 +1,16 @@
 -- What building the program of an accepted architecture answers.
 use Rattle.std.specs.Prelude.{◌≡◌, length, None, Result, Ok, Err}
-use Rattle.outside.specs.Shelf.{Held}
-use Rattle.archi_graph.specs.Archi.{Architecture as Archi}
-use Rattle.durations.specs.Table.{Table}
-use Rattle.flat_graph.specs.Graph.{Graph}
-use Rattle.archi_graph.specs.Sequences.{sequences}
-use Rattle.executive_program.specs.declared.program.Program.{Program}
-use Rattle.executive_program.specs.WellFormed.{IsWellFormed}
-use Rattle.sequence_build.specs.Limit.{program_limit}
-use Rattle.command_plan.specs.Run.{Makes}
-use Rattle.command_status.specs.Status.{ending_of}
-use Rattle.command_status.specs.declared.status.Status.{Status}
+use Rattle.sequence_build_laws.specs.Archi.{Architecture as Archi}
+use Rattle.sequence_build_laws.specs.Table.{Table}
+use Rattle.sequence_build_laws.specs.Graph.{Graph}
+use Rattle.sequence_build_laws.specs.Sequences.{sequences}
+use Rattle.sequence_build_laws.specs.declared.Program.{Program}
+use Rattle.sequence_build_laws.specs.WellFormed.{IsWellFormed}
+use Rattle.top_plans.specs.Shelf.{Held}
+use Rattle.top_plans.specs.Limit.{program_limit}
+use Rattle.top_plans.specs.Run.{Makes}
+use Rattle.top_plans.specs.Status.{ending_of}
+use Rattle.top_plans.specs.declared.Status.{Status}
 use Rattle.top_plans.specs.Plans.{Made, program_by, program_plan}
 
 -- the program of the pressure run, within its limits and well formed; or carrying on from it ends so, whatever follows

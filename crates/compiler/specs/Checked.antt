@@ -1,18 +1,18 @@
 -- The program of a text of macro-code that is well formed, or why there is none.
 use Rattle.std.specs.Prelude.{◌≡◌, ℕ, List, length, Some, Result, Ok, Err}
-use Rattle.flat_graph.specs.Graph.{Graph}
-use Rattle.archi_graph.specs.Archi.{Architecture}
-use Rattle.archi_graph.specs.Sequences.{sequences}
-use Rattle.executive_program.specs.declared.program.Program.{Program}
-use Rattle.executive_program.specs.WellFormed.{IsWellFormed}
-use Rattle.macro_code.specs.ReadText.{program_in}
-use Rattle.macro_code.specs.declared.fault.CodeError.TheVariants as code
-use Rattle.code_reader.specs.Given.{Fails}
-use Rattle.check_cause.specs.declared.cause.CheckCause.{CheckCause}
+use Rattle.text_lines.specs.declared.fault.TextError.TheVariants as code
+use Rattle.text_lines.specs.Refusals.{Fails}
+use Rattle.sequence_build_laws.specs.Graph.{Graph}
+use Rattle.sequence_build_laws.specs.Archi.{Architecture}
+use Rattle.sequence_build_laws.specs.Sequences.{sequences}
+use Rattle.sequence_build_laws.specs.declared.Program.{Program}
+use Rattle.sequence_build_laws.specs.WellFormed.{IsWellFormed}
 use Rattle.check_laws.specs.Tests.{cause}
 use Rattle.macro_check.specs.Causes.{cause_of}
 use Rattle.macro_check.specs.declared.cause.CheckError.{CheckError}
 use Rattle.macro_check.specs.declared.cause.CheckError.TheVariants as check
+use Rattle.top_plans.specs.ReadText.{program_in}
+use Rattle.top_plans.specs.declared.CheckCause.{CheckCause}
 use Rattle.compiler.specs.declared.checked_error.CheckedError.{CheckedError}
 use Rattle.compiler.specs.declared.checked_error.CheckedError.TheVariants.{Text, Lacks}
 

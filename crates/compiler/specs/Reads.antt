@@ -2,25 +2,25 @@
 use Rattle.std.specs.Prelude.{◌≡◌, ℕ, Result, Ok, Err, Vec}
 use Rattle.csv.specs.Reading.{default_config, records, strip_bom}
 use Rattle.syn_base.specs.Bytes.{Bytes}
-use Rattle.outside.specs.Shelf.{Held}
-use Rattle.outside.specs.declared.file.File.TheVariants as file
 use Rattle.syn_base.specs.Rows.{Reactions}
-use Rattle.algo_text.specs.declared.definition.Defs.{Defs}
-use Rattle.algo_tree.specs.Tree.{Vertex}
-use Rattle.archi_defs.specs.Text.{Described, description_of}
-use Rattle.archi_defs.specs.declared.text.ArchiText.{ArchiText}
-use Rattle.durations.specs.Table.{Table}
-use Rattle.algo_tree.specs.Ends.{sensor_lengths}
-use Rattle.sensor_table.specs.Answers.{Fails}
-use Rattle.sensor_table.specs.SensorTable.{rows_of}
-use Rattle.sensor_table.specs.declared.fault.SensorError.{SensorError}
-use Rattle.command_plan.specs.Run.{Makes, WasRead}
-use Rattle.command_plan.specs.Ending.{Ending}
-use Rattle.command_status.specs.Status.{Refusal, ending_of}
-use Rattle.command_status.specs.declared.status.Status.{Status}
+use Rattle.algo_laws.specs.declared.Defs.{Defs}
+use Rattle.algo_laws.specs.Tree.{Vertex}
+use Rattle.algo_laws.specs.Ends.{sensor_lengths}
+use Rattle.sequence_build_laws.specs.Text.{Described, description_of, described_by}
+use Rattle.sequence_build_laws.specs.declared.ArchiText.{ArchiText}
+use Rattle.sequence_build_laws.specs.Table.{Table}
+use Rattle.top_plans.specs.Shelf.{Held}
+use Rattle.top_plans.specs.declared.File.TheVariants as file
+use Rattle.top_plans.specs.SensorAnswers.{Fails}
+use Rattle.top_plans.specs.SensorTable.{rows_of}
+use Rattle.top_plans.specs.declared.SensorError.{SensorError}
+use Rattle.top_plans.specs.Run.{Makes, WasRead}
+use Rattle.top_plans.specs.Ending.{Ending}
+use Rattle.top_plans.specs.Status.{Refusal, ending_of}
+use Rattle.top_plans.specs.declared.Status.{Status}
 use Rattle.top_plans.specs.Given.{Given, written}
 use Rattle.top_plans.specs.Plans.{Made, algorithm_plan, architecture_plan, described_in, read_file, table_plan}
-use Rattle.compiler.specs.Compiles.{IsAlgorithm, IsCompilation, described}
+use Rattle.compiler.specs.Compiles.{IsAlgorithm, IsCompilation}
 use Rattle.compiler.specs.declared.stages.Algorithm.{Algorithm}
 use Rattle.compiler.specs.declared.stages.Compilation.{Compilation}
 
@@ -40,7 +40,7 @@ ReadsAlgorithm name old new (Err status) =
 -- the file has a text that describes this; or carrying on from it ends so, whatever follows
 abbrev pub ReadsDescription : Bytes → Held → Held → Result ArchiText Status → Type 0
 ReadsDescription name old new (Ok text) =
-    (bytes : Bytes) × WasRead file.Architecture name old new bytes × (description_of bytes ≡ Ok (described text))
+    (bytes : Bytes) × WasRead file.Architecture name old new bytes × (description_of bytes ≡ Ok (described_by text))
 ReadsDescription name old new (Err status) =
     (next : Described → Made) → Makes old new (read_file file.Architecture name (λ bytes. described_in bytes next))
     (Err (ending_of status))

@@ -5,13 +5,11 @@ ghost use Rattle.text_lines.specs.Text.{lines_of};
 ghost use Rattle.compiler.specs.Checked.{GivesChecked};
 
 use crate::checked_error::CheckedError;
-use archi_graph::Archi;
 use code_reader::read_code;
-use executive_program::Program;
-use flat_graph::Flat;
 use macro_check::{loops_are_short, macro_check};
-use macro_code::CodeError;
+use sequence_build_laws::{Archi, Flat, Program};
 use std::alloc::Global;
+use top_plans::CodeError;
 
 /// The program of a text of macro-code, if it is well formed for a flat graph and an architecture. A loop that no
 /// memory holds is want of memory.

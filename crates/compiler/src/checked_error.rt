@@ -3,9 +3,8 @@ ghost use Rattle.std.specs.Prelude.{◌≡◌};
 ghost use Rattle.compiler.specs.Checked.{lacks};
 ghost use Rattle.compiler.specs.declared.checked_error.CheckedError.TheVariants.{Text as InText};
 
-use check_cause::CheckCause;
 use macro_check::CheckError;
-use macro_code::CodeError;
+use top_plans::{CheckCause, CodeError};
 
 /// The first refusal of a text, or of the check of its program.
 #[derive(Drop)]

@@ -1,11 +1,11 @@
 //! What the files of a command say: each is read whole, and its text then goes through the first stages of the
 //! compiler, or the reader of sensor tables. The commands call these functions in the order of their plans.
 ghost use Rattle.std.specs.Prelude.{IfOk, IfErr};
-ghost use Rattle.command_plan.specs.Run.{FailsToRead, WasRead};
-ghost use Rattle.command_status.specs.Status.{above, ending_of};
-ghost use Rattle.outside.specs.Shelf.{Stays, file_limit};
-ghost use Rattle.algo_tree.specs.Bounded.{HasBounds};
-ghost use Rattle.algo_tree.specs.Named.{HasNames};
+ghost use Rattle.algo_laws.specs.Bounded.{HasBounds};
+ghost use Rattle.algo_laws.specs.Named.{HasNames};
+ghost use Rattle.top_plans.specs.Run.{FailsToRead, WasRead};
+ghost use Rattle.top_plans.specs.Status.{above, ending_of};
+ghost use Rattle.top_plans.specs.Shelf.{Stays, file_limit};
 ghost use Rattle.compiler.specs.Reads.{
   MakesTable,
   ReadsAlgorithm,
@@ -17,14 +17,13 @@ ghost use Rattle.compiler.specs.Reads.{
 use crate::stages::{
     Algorithm, Compilation, compile_to_durations, parse_algorithm, parse_architecture,
 };
-use accepted_laws::tables_fit;
-use algo_tree::Tree;
-use archi_defs::ArchiText;
-use command_status::Status;
-use outside::{File, ReadAnswer, Shelf, read_whole};
-use sensor_table::{SensorError, read_sensors};
+use algo_laws::Tree;
+use sequence_build_laws::ArchiText;
 use std::alloc::Global;
 use syn_base::SensorRows;
+use top_plans::{
+    File, ReadAnswer, SensorError, Shelf, Status, read_sensors, read_whole, tables_fit,
+};
 
 /// All bytes of a file, or why it was not read.
 pub fn read_file<S: Shelf>(

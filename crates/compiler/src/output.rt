@@ -1,9 +1,9 @@
 //! How large an output would be, and whether it is within its bound: for whoever runs an algorithm.
 ghost use Rattle.std.specs.Prelude.{◌≡◌, ◌*◌, sum, IfOk};
-ghost use Rattle.algo_tree.specs.Ends.{actuator_lengths};
+ghost use Rattle.algo_laws.specs.Ends.{actuator_lengths};
 ghost use Rattle.top_plans.specs.Plans.{excess};
 
-use algo_tree::Tree;
+use algo_laws::Tree;
 use std::alloc::Global;
 use syn_base::{LimitFault, LimitKind, OutOfMemory, Shape};
 

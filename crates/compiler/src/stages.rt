@@ -12,39 +12,32 @@
 //!
 //! `compile_to_durations` is stages 2 to 4 one after another, and `compile_to_program` is stages 5 and 6.
 ghost use Rattle.std.specs.Prelude.{◌≡◌, ◌≤◌, IfOk, IsTrue, length};
-ghost use Rattle.archi_defs.specs.Text.{description_of};
 ghost use Rattle.archi_reader.specs.Given.{Gives};
-ghost use Rattle.durations.specs.Lines.{AreDurations};
-ghost use Rattle.durations.specs.Table.{entry_in};
-ghost use Rattle.flat_laws.specs.FlatOf.{flat_of};
-ghost use Rattle.algo_tree.specs.Bounded.{HasBounds};
-ghost use Rattle.algo_tree.specs.Named.{HasNames};
-ghost use Rattle.outside.specs.Shelf.{file_bound};
-ghost use Rattle.schedule.specs.Valid.{is_valid};
+ghost use Rattle.algo_laws.specs.Bounded.{HasBounds};
+ghost use Rattle.algo_laws.specs.Named.{HasNames};
+ghost use Rattle.sequence_build_laws.specs.Text.{description_of};
+ghost use Rattle.sequence_build_laws.specs.DurationLines.{AreDurations};
+ghost use Rattle.sequence_build_laws.specs.Table.{entry_in};
+ghost use Rattle.sequence_build_laws.specs.ScheduleValid.{is_valid};
 ghost use Rattle.sequence_build_laws.specs.Built.{program_of};
 ghost use Rattle.compiler.specs.Builds.{BuildsProgram};
 ghost use Rattle.compiler.specs.Compiles.{FindsDurations, HasDurations, MakesAlgorithm, MakesCompilation};
+ghost use Rattle.top_plans.specs.FlatOf.{flat_of};
+ghost use Rattle.top_plans.specs.Shelf.{file_bound};
 ghost use Rattle.top_plans.specs.Plans.{schedule_of};
 
-use algo_laws::{accepted_are_well_read, accepted_have_periods};
+use algo_laws::{AlgoError, Defs, Tree, accepted_are_well_read, accepted_have_periods};
 use algo_print::canonical_text_reads_back;
 use algo_reader::read_algo;
-use algo_text::{AlgoError, Defs};
-use algo_tree::Tree;
-use archi_defs::{ArchiError, ArchiText};
 use archi_reader::read_archi;
-use command_status::Status;
-use durations::{Durations, accepted_are_durations, durations_fit, durations_of};
-use elaboration::elaborate;
-use executive_program::Program;
-use flat_graph::Flat;
 use hierarchy::flatten;
-use pressure_heuristic::adequation;
-use route_table::routes_are_least;
-use schedule::Schedule;
-use sequence_build::{BuildError, build};
+use sequence_build_laws::{
+    ArchiError, ArchiText, Durations, Flat, Program, Schedule, accepted_are_durations,
+    durations_fit, durations_of,
+};
 use std::alloc::Global;
 use syn_base::OutOfMemory;
+use top_plans::{BuildError, Status, adequation, build, elaborate, routes_are_least};
 
 /// What a text defines, and the tree that its definitions mean.
 pub struct Algorithm {

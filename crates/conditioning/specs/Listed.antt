@@ -1,6 +1,6 @@
 -- What stands inside the graph that a switch becomes, as lists.
 use Rattle.std.specs.Prelude.{ℕ, suc, ℤ, List, [], ◌∷◌, ◌++◌, slice_index_or}
-use Rattle.level_meaning.specs.declared.source.Guard.{Guard}
+use Rattle.algo_tree.specs.declared.Guard.{Guard}
 use Rattle.algo_tree.specs.Tree.{Vertex}
 use Rattle.flat_laws.specs.Guarded.{guard_for, merge_of, guarded}
 

@@ -3,8 +3,7 @@
 ghost use Rattle.std.specs.Prelude.{◌≡◌, ◌++◌, [], ◌∷◌, IfOk, map, true};
 ghost use Rattle.flat_laws.specs.Guarded.{shift, shift_guard, guard_sources, guard_for, own_guards as guards_owned};
 
-use algo_tree::{copy_guards, copy_numbers};
-use level_meaning::{Guard, Source};
+use algo_tree::{Guard, Source, copy_guards, copy_numbers};
 use std::alloc::Global;
 use syn_base::{OutOfMemory, Shared, to_u32};
 

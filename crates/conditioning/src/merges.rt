@@ -1,12 +1,11 @@
 //! The merges of a switch, and the outputs of the graph that it becomes. `pass` calls it.
 ghost use Rattle.std.specs.Prelude.{◌≡◌, ◌++◌, ◌∷◌, ◌+◌, IfOk, OnOk, map, slice_index_or};
-ghost use Rattle.level_meaning.specs.Level.{numbers_below};
 ghost use Rattle.algo_tree.specs.View.{view};
 ghost use Rattle.flat_laws.specs.Guarded.{merge_of, merge_sources};
 ghost use Rattle.conditioning.specs.Listed.{merges_listed};
+ghost use Rattle.syn_base.specs.Numbers.{numbers_below};
 
-use algo_tree::{Kind, Vertex, copy_bytes};
-use level_meaning::{Guard, Part, Source};
+use algo_tree::{Guard, Kind, Part, Source, Vertex, copy_bytes};
 use std::alloc::Global;
 use syn_base::{Items, OutOfMemory, Shared, len_at, to_u32};
 

@@ -13,8 +13,7 @@ ghost use Rattle.conditioning.specs.Listed.{cases_listed};
 use crate::conditions::{guards_of_case, own_guards, shift_sources};
 use crate::merges::{Switched, add_merges, merge_outputs};
 use crate::vertices::{as_graph, as_operation};
-use algo_tree::{Kind, Tree, Vertex};
-use level_meaning::{Guard, Source};
+use algo_tree::{Guard, Kind, Source, Tree, Vertex};
 use std::alloc::Global;
 use syn_base::{Items, OutOfMemory, Shared, to_u32};
 

@@ -5,8 +5,7 @@ ghost use Rattle.algo_tree.specs.View.{kind_view, label_view, view, vertices_vie
 ghost use Rattle.flat_laws.specs.Guarded.{graph_under, operation_under};
 
 use crate::conditions::{graph_inputs, guards_under, shift_sources};
-use algo_tree::{Kind, Vertex, copy_part, share_kind};
-use level_meaning::{Guard, Part, Source};
+use algo_tree::{Guard, Kind, Part, Source, Vertex, copy_part, share_kind};
 use std::alloc::Global;
 use syn_base::{Items, OutOfMemory, Shared};
 

@@ -9,29 +9,29 @@ use Rattle.std.proofs.lemmas.List.{length-map}
 use Rattle.std.proofs.lemmas.List.FromFn.{length-map-range_with_len}
 use Rattle.std.proofs.lemmas.Option.{same_Some, slice_get_within}
 use Rattle.std.proofs.Math.Nat.{mul-le-mul_left}
-use Rattle.flat_graph.specs.declared.vertex.Vertex.{Vertex}
-use Rattle.flat_graph.specs.Graph.{Graph, len_of}
-use Rattle.archi_graph.specs.declared.medium.Medium.{Medium}
-use Rattle.archi_graph.specs.Archi.{Architecture, stands_at}
-use Rattle.archi_defs.specs.declared.text.DurationLine.{DurationLine}
-use Rattle.archi_defs.specs.declared.fault.ArchiError.{ArchiError}
 use Rattle.syn_base.specs.Bytes.{Bytes}
-use Rattle.archi_defs.specs.Text.{Described, description_of}
-use Rattle.durations.specs.Table.{Table, entry, entry_in}
-use Rattle.schedule.specs.declared.decision.Transfer.{Transfer}
-use Rattle.schedule.specs.declared.decision.Decision.{Decision}
-use Rattle.schedule.specs.declared.decision.Schedule.{Schedule}
-use Rattle.schedule.specs.Acts.{Act, carry, run, acts, acts_of, runs, is_on, is_over}
-use Rattle.schedule.specs.Valid.{is_valid, lasts, is_carried, have_ended}
-use Rattle.sequence_build_laws.proofs.Works.{right_at, of_run, one_run}
-use Rattle.executive_program.specs.Instructions.{number_or}
+use Rattle.self_timed.specs.declared.Vertex.{Vertex}
+use Rattle.self_timed.specs.Graph.{Graph, len_of}
+use Rattle.self_timed.specs.declared.Medium.{Medium}
+use Rattle.self_timed.specs.Archi.{Architecture, stands_at}
+use Rattle.self_timed.specs.declared.DurationLine.{DurationLine}
+use Rattle.self_timed.specs.Refusals.{ArchiRefusal}
+use Rattle.self_timed.specs.Text.{Described, description_of}
+use Rattle.self_timed.specs.Table.{Table, entry, entry_in}
+use Rattle.self_timed.specs.declared.Transfer.{Transfer}
+use Rattle.self_timed.specs.declared.Decision.{Decision}
+use Rattle.self_timed.specs.declared.Schedule.{Schedule}
+use Rattle.self_timed.specs.Acts.{Act, carry, run, acts, acts_of, runs, is_on, is_over, transfers_of}
+use Rattle.self_timed.specs.ScheduleValid.{is_valid, lasts, is_carried, have_ended}
+use Rattle.self_timed.proofs.Works.{right_at, of_run, one_run}
+use Rattle.self_timed.specs.Instructions.{number_or}
 use Rattle.self_timed.specs.Dates.{with_act}
 use Rattle.self_timed.specs.Entries.{entry_at, entry_of, is_transfer, stated, AreWithin}
 use Rattle.self_timed.specs.Told.{HaveEntries, entries_of}
 use Rattle.actual_defs.specs.declared.fault.ActualFault.{ActualFault}
 use Rattle.actual_defs.specs.declared.fault.ActualFault.TheVariants.{Differs, Longer}
 use Rattle.actual_defs.specs.declared.fault.ActualError.TheVariants.{Refused}
-use Rattle.actual_durations.specs.Actual.{same_medium, same_architecture, is_slower, slower_medium, slower_operation, duration_fault, operation_fault, or_else, operator_of, operators_of, first_fault, operation_ticks, operations_ticks, carrying_ticks, transfer_ticks, transfers_of, entries_ticks, unless_fault, actual_by, actual_of, if_described}
+use Rattle.actual_durations.specs.Actual.{same_medium, same_architecture, is_slower, slower_medium, slower_operation, duration_fault, operation_fault, or_else, operator_of, operators_of, first_fault, operation_ticks, operations_ticks, carrying_ticks, transfer_ticks, entries_ticks, unless_fault, actual_by, actual_of, if_described}
 use Rattle.dates_text.specs.Within.{ActualAreWithin}
 use Rattle.dates_text.proofs.Counting.{count_carry, count_run, counted}
 
@@ -223,7 +223,7 @@ accepted g a t s text ticks h = by (description_of text) h
     by_same d false e h = cc
     by_same d true e h = by_fault d e (first_fault g a t s d) refl h
 
-    by : (r : Result Described ArchiError) → if_described r (actual_by g a t s) ≡ Ok ticks → IsAccepted g a t s ticks
+    by : (r : Result Described ArchiRefusal) → if_described r (actual_by g a t s) ≡ Ok ticks → IsAccepted g a t s ticks
     by (Err e) h = cc
     by (Ok d) h = by_same d (same_architecture a d.archi) refl h
 

@@ -2,9 +2,9 @@
 use Rattle.std.proofs.Common.{◌≡◌, ℕ, zero, suc, ◌+◌, ◌<◌, List, [], ◌∷◌, ◌++◌, take, length, Option, Some, refl, sym, ap, ap₂, arith, ◌∙◌, append_assoc, length-append}
 use Rattle.std.specs.Prelude.{slice_get}
 use Rattle.std.specs.List.{count_by}
-use Rattle.flat_graph.specs.Graph.{Graph}
-use Rattle.schedule.specs.declared.decision.Schedule.{Schedule}
-use Rattle.schedule.specs.Acts.{Act, carry, run, acts}
+use Rattle.self_timed.specs.Graph.{Graph}
+use Rattle.self_timed.specs.declared.Schedule.{Schedule}
+use Rattle.self_timed.specs.Acts.{Act, carry, run, acts}
 use Rattle.self_timed.specs.Dates.{with_act}
 use Rattle.self_timed.specs.Entries.{entry_at, entry_of, is_transfer}
 use Rattle.self_timed.specs.declared.dates.Span.{Span}

@@ -1,12 +1,12 @@
 -- The entries of a valid schedule's decisions are among those of each reaction.
 use Rattle.std.proofs.Common.{◌≡◌, ℕ, suc, ◌+◌, ◌<◌, ◌≤◌, List, [], ◌∷◌, length, All, arith}
 use Rattle.std.specs.List.{count_by}
-use Rattle.flat_graph.specs.Graph.{Graph}
-use Rattle.archi_graph.specs.Archi.{Architecture}
-use Rattle.durations.specs.Table.{entry_in}
-use Rattle.schedule.specs.declared.decision.Decision.{Decision}
-use Rattle.schedule.specs.declared.decision.Schedule.{Schedule}
-use Rattle.schedule.specs.Acts.{run, acts_of}
+use Rattle.self_timed.specs.Graph.{Graph}
+use Rattle.self_timed.specs.Archi.{Architecture}
+use Rattle.self_timed.specs.Table.{entry_in}
+use Rattle.self_timed.specs.declared.Decision.{Decision}
+use Rattle.self_timed.specs.declared.Schedule.{Schedule}
+use Rattle.self_timed.specs.Acts.{run, acts_of}
 use Rattle.self_timed.specs.Entries.{is_transfer}
 use Rattle.self_timed.specs.declared.dates.Span.{Span}
 use Rattle.self_timed.specs.Told.{IsValidForSome, entries_of, reaction_at}

@@ -1,18 +1,25 @@
 -- The text and the latest end, part by part.
 use Rattle.std.proofs.Common.{◌≡◌, ℕ, suc, ◌+◌, ◌<◌, List, [], ◌∷◌, ◌++◌, map, max, length, drop, get_or, refl, sym, ap, arith, ◌∙◌, append_assoc, drop-cons}
 use Rattle.std.proofs.lemmas.List.{append-nil, map-append}
-use Rattle.flat_graph.specs.Graph.{Graph}
-use Rattle.archi_graph.specs.Archi.{Architecture}
-use Rattle.schedule.specs.declared.decision.Transfer.{Transfer}
-use Rattle.schedule.specs.declared.decision.Decision.{Decision}
-use Rattle.schedule.specs.Acts.{Act, carry, run, acts_of}
 use Rattle.syn_base.specs.Bytes.{Bytes}
 use Rattle.timing_chart.specs.Chart.{line_text, text_of}
 use Rattle.timing_chart.proofs.Texts.{text-append}
+use Rattle.self_timed.specs.Graph.{Graph}
+use Rattle.self_timed.specs.Archi.{Architecture}
+use Rattle.self_timed.specs.declared.Transfer.{Transfer}
+use Rattle.self_timed.specs.declared.Decision.{Decision}
+use Rattle.self_timed.specs.Acts.{Act, carry, run, acts_of}
 use Rattle.self_timed.specs.declared.dates.Span.{Span}
 use Rattle.self_timed.specs.Running.{span_in}
 use Rattle.dates_text.specs.Listing.{Dated, dated, dated_line, end_in_date, latest_end}
-use Rattle.dates_text.specs.Printed.{Appends, IsLeft, dated_by, lines_text}
+use Rattle.dates_text.specs.Printed.{Appends, dated_by, lines_text}
+
+-- What is left of all that is to be printed, if this text and this latest end are there: the text of
+-- what is left makes the whole text, and its latest end the latest end of all.
+pub record IsLeft (graph : Graph) (archi : Architecture) (old now : Bytes) (latest : ℕ) (left all : List Dated)
+    : Type 0 where
+  pub text : now ++ lines_text graph archi left ≡ old ++ lines_text graph archi all
+  pub end : max latest (latest_end left) ≡ latest_end all
 
 lines-append : (g : Graph) (a : Architecture) (xs ys : List Dated) → lines_text g a (xs ++ ys) ≡ lines_text g a xs ++ lines_text g a ys
 lines-append g a xs ys = ap text_of (map-append (dated_line g a) xs ys) ∙ text-append (map (dated_line g a) xs) (map (dated_line g a) ys)

@@ -1,18 +1,24 @@
 -- The lines of dates on worked schedules: one operator; two operators on a bus, with one and with two places; entries that last no time; and the dates of a speed controller.
 use Rattle.std.proofs.Common.{◌≡◌, ℕ, false, List, [], ◌∷◌, None, refl, codes}
 use Rattle.std.specs.Fmt.{decimal}
-use Rattle.flat_graph.specs.declared.vertex.Source.{Source}
-use Rattle.flat_graph.specs.declared.vertex.Vertex.{Vertex}
-use Rattle.flat_graph.specs.declared.vertex.Kind.{Kind}
-use Rattle.flat_graph.specs.declared.vertex.Kind.TheVariants.{Sensor, Actuator, Function}
-use Rattle.flat_graph.specs.Graph.{Graph}
-use Rattle.archi_graph.specs.Archi.{Architecture}
-use Rattle.schedule.specs.declared.decision.Transfer.{Transfer}
-use Rattle.schedule.specs.declared.decision.Schedule.{Schedule}
-use Rattle.schedule.proofs.Examples.{source, placed, schedule, plain_schedule}
 use Rattle.syn_base.specs.Bytes.{Bytes}
 use Rattle.timing_chart.specs.Chart.{Line}
-use Rattle.dates_text.specs.Listing.{dates_lines}
+use Rattle.self_timed.specs.declared.Source.{Source}
+use Rattle.self_timed.specs.declared.Vertex.{Vertex}
+use Rattle.self_timed.specs.declared.Kind.{Kind}
+use Rattle.self_timed.specs.declared.Kind.TheVariants.{Sensor, Actuator, Function}
+use Rattle.self_timed.specs.Graph.{Graph}
+use Rattle.self_timed.specs.Archi.{Architecture}
+use Rattle.self_timed.specs.declared.Transfer.{Transfer}
+use Rattle.self_timed.specs.declared.Schedule.{Schedule}
+use Rattle.self_timed.proofs.Examples.{source, placed, schedule, plain_schedule}
+use Rattle.dates_text.specs.Listing.{dated_lines, all_dates}
+use Rattle.std.specs.Prelude.{replicate}
+
+-- The lines of the dates of n reactions of a schedule, if in each reaction its operations, and then
+-- its transfers, last these ticks.
+abbrev dates_lines : Graph → Architecture → Schedule → List ℕ → ℕ → List Line
+dates_lines g a s ticks n = dated_lines g a (all_dates g a s (replicate n ticks))
 
 abbrev op : ℕ → ℕ → ℕ → Bytes → Line
 op k start end name = decimal k ∷ codes "op" ∷ decimal start ∷ decimal end ∷ name ∷ []

@@ -1,33 +1,16 @@
 -- The text of the dates of reactions.
-use Rattle.std.specs.Prelude.{
-  ℕ,
-  zero,
-  suc,
-  List,
-  [],
-  ◌∷◌,
-  ◌++◌,
-  length,
-  map,
-  replicate,
-  Option,
-  Some,
-  None,
-  slice_get,
-  codes,
-}
+use Rattle.std.specs.Prelude.{ℕ, zero, suc, List, [], ◌∷◌, ◌++◌, length, map, replicate, codes}
 use Rattle.std.specs.Fmt.{decimal}
-use Rattle.flat_graph.specs.Graph.{Graph}
-use Rattle.archi_graph.specs.declared.medium.Medium.{Medium}
-use Rattle.archi_graph.specs.Archi.{Architecture}
-use Rattle.schedule.specs.declared.decision.Schedule.{Schedule}
-use Rattle.schedule.specs.Acts.{Act, carry, run, acts}
 use Rattle.syn_base.specs.Bytes.{Bytes}
-use Rattle.timing_chart.specs.Chart.{Line, text_of, operation_name, operator_name}
-use Rattle.self_timed.specs.Dates.{greatest}
+use Rattle.timing_chart.specs.Chart.{Line, text_of}
+use Rattle.self_timed.specs.Graph.{Graph, operation_name}
+use Rattle.self_timed.specs.Archi.{Architecture, operator_name, medium_name}
+use Rattle.self_timed.specs.declared.Schedule.{Schedule}
+use Rattle.self_timed.specs.Acts.{Act, carry, run, acts}
 use Rattle.self_timed.specs.declared.dates.Span.{Span}
 use Rattle.self_timed.specs.Running.{span}
 use Rattle.self_timed.specs.Told.{start_at, end_at}
+use Rattle.syn_base.specs.Numbers.{greatest}
 
 -- an act in a reaction, and from when to when it lasts
 pub record Dated : Type 0 where
@@ -59,24 +42,15 @@ module _ (when : ℕ → ℕ → Act → Span) where
   dated_in zero xs = []
   dated_in (suc k) xs = dated_in k xs ++ dated_from k 0 xs
 
--- The name of a medium, and the empty text if there is no medium.
-abbrev pub name_or_none : Option Medium → Bytes
-name_or_none None = []
-name_or_none (Some m) = m.name
-
--- The name of medium m, and the empty text if there is no such medium.
-abbrev pub medium_name : List Medium → ℕ → Bytes
-medium_name media m = name_or_none (slice_get media m)
-
 module _ (g : Graph) (a : Architecture) where
   -- K on MEDIUM START END OPERATION PORT FROM TO, and K op START END OPERATION
   abbrev pub act_line : ℕ → Span → Act → Line
   act_line k w (carry t) =
       decimal k ∷ codes "on" ∷ medium_name a.media t.medium ∷ decimal w.start ∷ decimal w.end
-      ∷ operation_name g.vertices a.operators t.source.vertex ∷ decimal t.source.port
-      ∷ operator_name g.vertices a.operators t.from ∷ operator_name g.vertices a.operators t.to ∷ []
+      ∷ operation_name g.vertices t.source.vertex ∷ decimal t.source.port
+      ∷ operator_name a.operators t.from ∷ operator_name a.operators t.to ∷ []
   act_line k w (run d) =
-      decimal k ∷ codes "op" ∷ decimal w.start ∷ decimal w.end ∷ operation_name g.vertices a.operators d.op ∷ []
+      decimal k ∷ codes "op" ∷ decimal w.start ∷ decimal w.end ∷ operation_name g.vertices d.op ∷ []
 
   -- The line of an act in its reaction, word by word.
   abbrev pub dated_line : Dated → Line
@@ -95,10 +69,6 @@ module _ (g : Graph) (a : Architecture) where
   abbrev pub all_dates : Schedule → List (List ℕ) → List Dated
   all_dates s ticks =
       dated_in (λ k i x. span (start_at a.depth g s ticks k i x) (end_at a.depth g s ticks k i)) (length ticks) (acts s)
-
-  -- the same where they last as long in this many reactions
-  abbrev pub dates_lines : Schedule → List ℕ → ℕ → List Line
-  dates_lines s ticks n = dated_lines (all_dates s (replicate n ticks))
 
   -- The text of the dates of n reactions of a schedule, if in each reaction its operations, by
   -- number, and then its transfers, in their order, last these ticks.

@@ -1,12 +1,12 @@
 -- The text of dates entry by entry, as it is printed.
-use Rattle.std.specs.Prelude.{◌≡◌, ◌≤◌, ◌<◌, ℕ, ◌+◌, zero, suc, List, [], ◌∷◌, ◌++◌, map, max, length, All}
-use Rattle.flat_graph.specs.Graph.{Graph}
-use Rattle.archi_graph.specs.Archi.{Architecture}
-use Rattle.schedule.specs.declared.decision.Decision.{Decision}
-use Rattle.schedule.specs.declared.decision.Schedule.{Schedule}
-use Rattle.schedule.specs.Acts.{Act, acts}
+use Rattle.std.specs.Prelude.{◌≡◌, ◌≤◌, ◌<◌, ℕ, ◌+◌, zero, suc, List, [], ◌∷◌, ◌++◌, map, length, All}
 use Rattle.syn_base.specs.Bytes.{Bytes}
 use Rattle.timing_chart.specs.Chart.{text_of}
+use Rattle.self_timed.specs.Graph.{Graph}
+use Rattle.self_timed.specs.Archi.{Architecture}
+use Rattle.self_timed.specs.declared.Decision.{Decision}
+use Rattle.self_timed.specs.declared.Schedule.{Schedule}
+use Rattle.self_timed.specs.Acts.{Act, acts}
 use Rattle.self_timed.specs.Entries.{entry_of}
 use Rattle.self_timed.specs.declared.dates.Span.{Span}
 use Rattle.self_timed.specs.Running.{span_in}
@@ -51,9 +51,3 @@ EachFits g ds reactions = (k : ℕ) → k < length reactions → Fit (length (re
 -- each reaction has a span for each entry
 abbrev pub HaveSpans : Graph → Schedule → List (List Span) → Type 0
 HaveSpans g s reactions = All (λ (row : List Span). length row ≡ entries_of g s) reactions
-
--- what is left of all that is to be told, where this text and this latest end are there
-pub record IsLeft (graph : Graph) (archi : Architecture) (old now : Bytes) (latest : ℕ) (left all : List Dated)
-    : Type 0 where
-  pub text : now ++ lines_text graph archi left ≡ old ++ lines_text graph archi all
-  pub end : max latest (latest_end left) ≡ latest_end all

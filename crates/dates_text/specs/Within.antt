@@ -1,12 +1,12 @@
 -- What a text of actual durations gives may be dated.
 use Rattle.std.specs.Prelude.{◌≡◌, ℕ, IsTrue, List, replicate, Ok}
-use Rattle.flat_graph.specs.Graph.{Graph}
-use Rattle.archi_graph.specs.Archi.{Architecture}
 use Rattle.syn_base.specs.Bytes.{Bytes}
-use Rattle.durations.specs.Table.{Table, entry_in}
-use Rattle.schedule.specs.declared.decision.Schedule.{Schedule}
-use Rattle.schedule.specs.Acts.{acts}
-use Rattle.schedule.specs.Valid.{is_valid}
+use Rattle.self_timed.specs.Graph.{Graph}
+use Rattle.self_timed.specs.Archi.{Architecture}
+use Rattle.self_timed.specs.Table.{Table, entry_in}
+use Rattle.self_timed.specs.declared.Schedule.{Schedule}
+use Rattle.self_timed.specs.Acts.{acts}
+use Rattle.self_timed.specs.ScheduleValid.{is_valid}
 use Rattle.self_timed.specs.Entries.{AreWithin}
 use Rattle.self_timed.specs.Told.{HaveEntries, entries_of}
 use Rattle.actual_durations.specs.Actual.{actual_of}

@@ -1,17 +1,13 @@
 //! The text of the dates under given ticks: `dates_text`, which the command `dates` calls.
 ghost use Rattle.std.specs.Prelude.{◌≡◌, ◌≤◌, IfOk, length, replicate};
-ghost use Rattle.schedule.specs.Acts.{acts};
-ghost use Rattle.sequence_build_laws.specs.Built.{program_of};
+ghost use Rattle.self_timed.specs.Acts.{acts};
+ghost use Rattle.self_timed.specs.Built.{program_of};
 ghost use Rattle.self_timed.specs.Entries.{AreWithin};
 ghost use Rattle.self_timed.specs.Told.{HaveEntries, IsValidForSome, entries_of};
 ghost use Rattle.dates_text.specs.Listing.{all_dates, dated_text};
 
 use crate::listing::text_of_dates;
-use archi_graph::Archi;
-use executive_program::Program;
-use flat_graph::Flat;
-use schedule::Schedule;
-use self_timed::{Actual, dates_of};
+use self_timed::{Actual, Archi, Flat, Program, Schedule, dates_of};
 use std::alloc::Global;
 use syn_base::OutOfMemory;
 

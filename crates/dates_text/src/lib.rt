@@ -12,3 +12,6 @@ mod reaction;
 
 pub use dates::{dates_text, repeated};
 pub use laws::actual_are_within;
+
+// What the clauses here speak of: the chart of a schedule.
+pub use timing_chart::print_chart;

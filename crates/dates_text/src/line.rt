@@ -1,14 +1,13 @@
 //! The lines of dates, which `reaction` puts one after the other.
 ghost use Rattle.std.specs.Prelude.{◌≡◌, ◌++◌, ◌∷◌, [], OnOk, codes};
 ghost use Rattle.std.specs.Fmt.{decimal};
-ghost use Rattle.schedule.specs.Acts.{carry, run};
-ghost use Rattle.timing_chart.specs.Chart.{line_text, operation_name, operator_name, rest_of_line};
-ghost use Rattle.dates_text.specs.Listing.{act_line, medium_name};
+ghost use Rattle.timing_chart.specs.Chart.{line_text, rest_of_line};
+ghost use Rattle.self_timed.specs.Acts.{carry, run};
+ghost use Rattle.self_timed.specs.Graph.{operation_name};
+ghost use Rattle.self_timed.specs.Archi.{operator_name, medium_name};
+ghost use Rattle.dates_text.specs.Listing.{act_line};
 
-use archi_graph::Archi;
-use flat_graph::Flat;
-use schedule::{Decision, Transfer};
-use self_timed::{Dates, Span};
+use self_timed::{Archi, Dates, Decision, Flat, Span, Transfer};
 use syn_base::{OutOfMemory, append, append_count};
 
 /// A reaction whose dates are told, by its number, of a flat graph on an architecture.
@@ -80,7 +79,7 @@ fn append_span(out: &mut Vec<u8>, span: Span) -> Result<(), OutOfMemory>
 /// Appends the operation and the number of its output.
 fn append_value(out: &mut Vec<u8>, flat: &Flat, transfer: Transfer) -> Result<(), OutOfMemory>
     ensures { OnOk result (out.new.items ≡ out.old.items ++
-        (operation_name flat.now.vertices [] transfer.source.vertex ++ (codes " " ++ decimal transfer.source.port))) }
+        (operation_name flat.now.vertices transfer.source.vertex ++ (codes " " ++ decimal transfer.source.port))) }
 {
     append(out, operation_name(flat, transfer.source.vertex))?;
     append(out, b" ")?;
@@ -90,7 +89,7 @@ fn append_value(out: &mut Vec<u8>, flat: &Flat, transfer: Transfer) -> Result<()
 /// Appends both operators, and the end of the line.
 fn append_ends(out: &mut Vec<u8>, archi: &Archi, transfer: Transfer) -> Result<(), OutOfMemory>
     ensures { OnOk result (out.new.items ≡ out.old.items ++ rest_of_line
-        (operator_name [] archi.now.operators transfer.from ∷ operator_name [] archi.now.operators transfer.to ∷ [])) }
+        (operator_name archi.now.operators transfer.from ∷ operator_name archi.now.operators transfer.to ∷ [])) }
 {
     append(out, b" ")?;
     append(out, operator_name(archi, transfer.from))?;
@@ -101,7 +100,7 @@ fn append_ends(out: &mut Vec<u8>, archi: &Archi, transfer: Transfer) -> Result<(
 
 /// The name of an operation, empty where there is none of this number.
 fn operation_name(flat: &Flat, op: u32) -> &[u8]
-    ensures { result.now ≡ operation_name flat.now.vertices [] op }
+    ensures { result.now ≡ operation_name flat.now.vertices op }
 {
     match flat.vertices().get(op as usize) {
         Some(vertex) => vertex.name.as_slice(),
@@ -111,7 +110,7 @@ fn operation_name(flat: &Flat, op: u32) -> &[u8]
 
 /// The name of an operator, empty where there is none of this number.
 fn operator_name(archi: &Archi, operator: u32) -> &[u8]
-    ensures { result.now ≡ operator_name [] archi.now.operators operator }
+    ensures { result.now ≡ operator_name archi.now.operators operator }
 {
     let operators = archi.operators();
     let operator = operator as usize;

@@ -1,16 +1,13 @@
 //! The listing of all reactions, which `dates_text` returns.
 ghost use Rattle.std.specs.Prelude.{◌≡◌, ◌++◌, IfOk, OnOk, length};
-ghost use Rattle.schedule.specs.Acts.{acts, acts_of};
+ghost use Rattle.self_timed.specs.Acts.{acts, acts_of};
 ghost use Rattle.self_timed.specs.Told.{IsValidForSome};
 ghost use Rattle.dates_text.specs.Listing.{dated_in, dated_text};
 ghost use Rattle.dates_text.specs.Printed.{Appends, EachFits, HaveSpans, entry_span, dates_up_to};
 
 use crate::line::Reaction;
 use crate::reaction::append_reaction;
-use archi_graph::Archi;
-use flat_graph::Flat;
-use schedule::{Decision, Schedule};
-use self_timed::Dates;
+use self_timed::{Archi, Dates, Decision, Flat, Schedule};
 use std::alloc::Global;
 use syn_base::{OutOfMemory, append, append_count};
 

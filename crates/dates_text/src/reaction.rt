@@ -1,12 +1,11 @@
 //! The part of a listing that tells of one reaction.
 ghost use Rattle.std.specs.Prelude.{◌+◌, ◌++◌, ◌∷◌, [], ◌≡◌, ◌≤◌, ◌<◌, IfOk, length, map};
-ghost use Rattle.schedule.specs.Acts.{acts_of, carry, run};
+ghost use Rattle.self_timed.specs.Acts.{acts_of, carry, run};
 ghost use Rattle.self_timed.specs.Told.{reaction_at, span_at};
 ghost use Rattle.dates_text.specs.Printed.{Appends, Fit, dated_by};
 
 use crate::line::{Reaction, append_operation, append_transfer};
-use schedule::{Decision, Transfer};
-use self_timed::Span;
+use self_timed::{Decision, Span, Transfer};
 use syn_base::OutOfMemory;
 
 /// Appends the lines of a reaction, decision by decision, and returns its latest end.

@@ -19,7 +19,7 @@ use Rattle.std.specs.Fmt.{decimal, signed_decimal}
 use Rattle.std.specs.List.{flat_map, list_any}
 use Rattle.std.specs.Str.{bytes_eq}
 use Rattle.syn_base.specs.Bytes.{Bytes}
-use Rattle.body_lang.specs.declared.expression.Port.{Port}
+use Rattle.algo_text.specs.declared.Port.{Port}
 use Rattle.algo_text.specs.declared.definition.Def.{Def}
 use Rattle.algo_text.specs.declared.definition.Defs.{Defs}
 use Rattle.algo_text.specs.declared.definition.Body.{Body}
@@ -44,9 +44,7 @@ use Rattle.algo_text.specs.declared.definition.FrontierLine.{FrontierLine}
 use Rattle.definition_drawing.specs.declared.word.Word.TheVariants as word
 use Rattle.definition_drawing.specs.Words.{word_text}
 
--- The identifiers of what stands inside a definition: an input, an output, a reference, the case of
--- this number, and
--- the case otherwise or the copies of a repetition.
+-- The identifier of the node of an input of a definition.
 unfoldable pub in_id : Bytes → Bytes → Bytes
 in_id def port = def ++ (word_text word.In ++ port)
 
@@ -66,7 +64,7 @@ case_id def n = def ++ (word_text word.Case ++ decimal n)
 unfoldable pub rest_id : Bytes → Bytes
 rest_id def = def ++ word_text word.Rest
 
--- a node, whose label and attributes follow; an edge likewise
+-- A node with this identifier, and with this label and these attributes after it.
 abbrev pub node_text : Bytes → Bytes → Bytes
 node_text id rest =
     word_text word.Begin ++ (id ++ (word_text word.Label ++ (rest ++ word_text word.Finish)))

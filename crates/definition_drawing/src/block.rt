@@ -7,8 +7,7 @@ use crate::frontier::{append_frontier, append_rest_id};
 use crate::line::{append_case, append_in, append_link, append_on, append_out, append_reference};
 use crate::piece::{append_in_id, begin, begin_label, begin_target, finish, finish_dotted};
 use crate::word::{Word, append_word};
-use algo_text::{Case, Def, Edge, FrontierLine, Reference};
-use body_lang::Port;
+use algo_text::{Case, Def, Edge, FrontierLine, Port, Reference};
 use syn_base::{OutOfMemory, append};
 
 /// Appends the inputs of a definition.

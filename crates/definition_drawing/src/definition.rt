@@ -12,8 +12,7 @@ use crate::frontier::append_copies;
 use crate::line::{append_on, append_port};
 use crate::piece::{begin, begin_label, finish};
 use crate::word::{Word, append_word, bytes_of};
-use algo_text::{Body, Case, Def, Defs, Edge, FrontierLine, Output, Reference};
-use body_lang::Port;
+use algo_text::{Body, Case, Def, Defs, Edge, FrontierLine, Output, Port, Reference};
 use std::alloc::Global;
 use syn_base::{OutOfMemory, append, append_count};
 

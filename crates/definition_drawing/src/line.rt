@@ -9,8 +9,7 @@ use crate::piece::{
     finish_dotted,
 };
 use crate::word::{Word, append_word};
-use algo_text::{Body, Case, Def, Edge, End, Reference};
-use body_lang::Port;
+use algo_text::{Body, Case, Def, Edge, End, Port, Reference};
 use syn_base::{OutOfMemory, append, append_count, print_int};
 
 /// Appends the name and the length of a port.

@@ -7,7 +7,7 @@ use Rattle.std.proofs.lemmas.Bool.{and_parts, eqb-true, eqb-false, leb-true}
 use Rattle.std.proofs.lemmas.List.Elements.{All-nil, All-cons, All-head, All-tail, All-map}
 use Rattle.std.proofs.lemmas.List.FromFn.{length-map-range_with_len}
 use Rattle.flat_graph.specs.declared.vertex.Vertex.{Vertex}
-use Rattle.archi_graph.specs.Archi.{Architecture, is_archi, is_medium, are_joined, are_bounded, are_distinct, names_of, stands_in_all}
+use Rattle.archi_defs.specs.Archi.{Architecture, is_archi, is_medium, are_joined, are_bounded, are_distinct, names_of, connections_in}
 use Rattle.archi_defs.specs.declared.text.DurationLine.{DurationLine}
 use Rattle.syn_base.specs.Bytes.{Bytes}
 use Rattle.durations.specs.Lines.{ticks_of, is_given, IsDuration, AreDurations}
@@ -80,6 +80,6 @@ has_operator a e =
     let outer = and_parts ((are_bounded a.operators a.media && list_all (is_medium n) a.media) && are_distinct (names_of a.operators a.media)) (are_joined n a.media) e in
     let inner = and_parts (are_bounded a.operators a.media && list_all (is_medium n) a.media) (are_distinct (names_of a.operators a.media)) outer.0 in
     let both = and_parts (are_bounded a.operators a.media) (list_all (is_medium n) a.media) inner.0 in
-    let stands = and_parts ((nat_le 1 n && nat_le n 16) && nat_le (length a.media) 16) (nat_le (stands_in_all a.media) 64) both.0 in
+    let stands = and_parts ((nat_le 1 n && nat_le n 16) && nat_le (length a.media) 16) (nat_le (connections_in a.media) 64) both.0 in
     let sizes = and_parts (nat_le 1 n && nat_le n 16) (nat_le (length a.media) 16) stands.0 in
     leb-true 1 n (and_parts (nat_le 1 n) (nat_le n 16) sizes.0).0

@@ -10,30 +10,31 @@ use Rattle.syn_base.specs.Name.{is_name}
 use Rattle.syn_base.specs.Integer.{integer_of}
 use Rattle.syn_base.specs.declared.integer.NumFault.{NumFault}
 use Rattle.syn_base.specs.declared.limits.LimitKind.TheVariants.{Operators, Media, Connections}
-use Rattle.text_lines.specs.Text.{lines_of, words_of, code_of, foreign_place}
-use Rattle.archi_graph.specs.declared.medium.Medium.{Medium}
-use Rattle.archi_defs.specs.declared.fault.ArchiError.{ArchiError}
+use Rattle.text_lines.specs.Text.{lines_of, words_of, code_of, foreign_place, word, begins}
+use Rattle.archi_defs.specs.declared.Medium.{Medium}
+use Rattle.archi_defs.specs.Refusals.{ArchiRefusal}
 use Rattle.archi_defs.specs.declared.fault.ArchiCause.TheVariants.{BadLine, BadName}
 use Rattle.syn_base.specs.Bytes.{Bytes}
-use Rattle.archi_defs.specs.Text.{Described, Reading, start, refused, word, with_some, version_of, depth_of, depth_line, and_then, all_names, up_to, place_of, is_above, is_taken, medium_names, no_medium, version_line, operator_line, medium_line, connected, connect_line, duration_line, begins, described_line, line_by, next_line, has_stands, media_are_right, all_joined, apart, whole_of, whole, rest_of, description_of}
+use Rattle.archi_defs.specs.Text.{Described, Reading, start, version_of, depth_of, depth_line, all_names, up_to, place_of, is_taken, medium_names, no_medium, version_line, operator_line, medium_line, connected, connect_line, duration_line, described_line, line_by, next_line, has_stands, media_are_right, all_joined, apart, whole_of, whole, rest_of, description_of}
+use Rattle.text_lines.specs.Refusals.{refused, with_some, and_then, is_above}
 use Rattle.durations.specs.Lines.{IsDuration, AreDurations}
 
 record IsKept (r : Reading) : Type 0 where
   pub kept : AreDurations (length r.operators) r.durations
 
-abbrev Holds : Result Reading ArchiError → Type 0
+abbrev Holds : Result Reading ArchiRefusal → Type 0
 Holds (Ok s) = IsKept s
 Holds (Err e) = Unit {0}
 
 -- what was read is kept, where nothing was refused
-record Keeps (read : Result Reading ArchiError) : Type 0 where
+record Keeps (read : Result Reading ArchiRefusal) : Type 0 where
   pub holds : Holds read
 
-keeps_if : (b : Bool) (e : ArchiError) (go : Result Reading ArchiError) → Keeps go → Keeps (if b then Err e else go)
+keeps_if : (b : Bool) (e : ArchiRefusal) (go : Result Reading ArchiRefusal) → Keeps go → Keeps (if b then Err e else go)
 keeps_if true e go h = record { holds = tt }
 keeps_if false e go h = h
 
-keeps_names : (n : ℕ) (ws : List Bytes) (go : Result Reading ArchiError) → Keeps go → Keeps (all_names n ws go)
+keeps_names : (n : ℕ) (ws : List Bytes) (go : Result Reading ArchiRefusal) → Keeps go → Keeps (all_names n ws go)
 keeps_names n [] go h = h
 keeps_names n (w ∷ ws) go h = by (is_name w) (keeps_names n ws go h)
   where
@@ -41,11 +42,11 @@ keeps_names n (w ∷ ws) go h = by (is_name w) (keeps_names n ws go h)
     by true k = k
     by false k = record { holds = tt }
 
-keeps_some : {A : Type 0} (o : Option A) (e : ArchiError) (go : A → Result Reading ArchiError) → ((x : A) → o ≡ Some x → Keeps (go x)) → Keeps (with_some o (Err e) go)
+keeps_some : {A : Type 0} (o : Option A) (e : ArchiRefusal) (go : A → Result Reading ArchiRefusal) → ((x : A) → o ≡ Some x → Keeps (go x)) → Keeps (with_some o (Err e) go)
 keeps_some None e go h = record { holds = tt }
 keeps_some (Some x) e go h = h x refl
 
-either : (b : Bool) (x y : Result Reading ArchiError) → Keeps x → Keeps y → Keeps (if b then x else y)
+either : (b : Bool) (x y : Result Reading ArchiRefusal) → Keeps x → Keeps y → Keeps (if b then x else y)
 either true x y h k = h
 either false x y h k = k
 
@@ -119,7 +120,7 @@ kept_described r n version ws h =
     (either (begins ws (codes "duration")) _ _ (kept_duration r n ws h)
     (either (begins ws (codes "depth")) _ _ (kept_depth r n version ws h) (record { holds = tt })))))
 
-by_version : (o : Option ℕ) (first : Result Reading ArchiError) (later : ℕ → Result Reading ArchiError) → Keeps first → ((version : ℕ) → Keeps (later version)) → Keeps (with_some o first later)
+by_version : (o : Option ℕ) (first : Result Reading ArchiRefusal) (later : ℕ → Result Reading ArchiRefusal) → Keeps first → ((version : ℕ) → Keeps (later version)) → Keeps (with_some o first later)
 by_version None first later h k = h
 by_version (Some version) first later h k = k version
 
@@ -132,23 +133,23 @@ kept_line r n line None h =
 kept_next : (r new : Reading) (n : ℕ) (line : Bytes) → IsKept r → next_line r n line ≡ Ok new → IsKept new
 kept_next r new n line h is = let kept : Keeps (next_line r n line) = kept_line r n line (foreign_place line) h in subst Holds is kept.holds
 
-passed : {A : Type 0} (t : Bool) (e : ArchiError) (x : Result A ArchiError) (a : A) → cond t (Err e) x ≡ Ok a → x ≡ Ok a
+passed : {A : Type 0} (t : Bool) (e : ArchiRefusal) (x : Result A ArchiRefusal) (a : A) → cond t (Err e) x ≡ Ok a → x ≡ Ok a
 passed true e x a h = cc
 passed false e x a h = h
 
-held : {A : Type 0} (t : Bool) (e : ArchiError) (x : Result A ArchiError) (a : A) → cond t x (Err e) ≡ Ok a → x ≡ Ok a
+held : {A : Type 0} (t : Bool) (e : ArchiRefusal) (x : Result A ArchiRefusal) (a : A) → cond t x (Err e) ≡ Ok a → x ≡ Ok a
 held true e x a h = h
 held false e x a h = cc
 
-read : {A B : Type 0} (o : Result A ArchiError) (go : A → Result B ArchiError) (b : B) → and_then o go ≡ Ok b → (x : A) × (o ≡ Ok x) × (go x ≡ Ok b)
+read : {A B : Type 0} (o : Result A ArchiRefusal) (go : A → Result B ArchiRefusal) (b : B) → and_then o go ≡ Ok b → (x : A) × (o ≡ Ok x) × (go x ≡ Ok b)
 read (Ok x) go b h = (x, refl, h)
 read (Err e) go b h = cc
 
-right : (media : List Medium) (lines : List ℕ) (go : Result Described ArchiError) (d : Described) → media_are_right media lines go ≡ Ok d → go ≡ Ok d
+right : (media : List Medium) (lines : List ℕ) (go : Result Described ArchiRefusal) (d : Described) → media_are_right media lines go ≡ Ok d → go ≡ Ok d
 right [] lines go d h = h
 right (m ∷ media) lines go d h = right media _ go d (held (has_stands m) _ _ d h)
 
-abbrev done : Described → Result Described ArchiError
+abbrev done : Described → Result Described ArchiRefusal
 done d = Ok d
 
 same : (x y : Described) → done x ≡ Ok y → x ≡ y

@@ -3,7 +3,8 @@ use Rattle.std.proofs.Common.{◌≡◌, ℕ, zero, suc, ◌≤◌, ◌<◌, Boo
 use Rattle.std.specs.Prelude.{min, is_some, slice_index_or, IfSome}
 use Rattle.std.specs.List.{list_any}
 use Rattle.std.proofs.lemmas.Bool.{leb-true, leb-false}
-use Rattle.durations.specs.Table.{lesser, least_of, IsLeast, IsRow}
+use Rattle.durations.specs.Table.{least_of, IsLeast, IsRow}
+use Rattle.syn_base.specs.Numbers.{lesser}
 
 pub lesser_of_three : (e f g : Option ℕ) → lesser (lesser e f) g ≡ lesser e (lesser f g)
 lesser_of_three None f g = refl

@@ -7,7 +7,7 @@ use Rattle.flat_graph.specs.declared.vertex.Kind.TheVariants.{Sensor, Actuator, 
 use Rattle.flat_graph.specs.declared.vertex.Vertex.{Vertex}
 use Rattle.flat_graph.specs.Graph.{Graph, with_vertex}
 use Rattle.flat_graph.specs.Order.{get_half}
-use Rattle.archi_graph.specs.Archi.{Architecture}
+use Rattle.archi_defs.specs.Archi.{Architecture}
 use Rattle.durations.specs.Table.{Table, get_half_of, half_by, half_in, is_timed}
 use Rattle.durations.specs.Fitting.{IsOf}
 

@@ -1,7 +1,7 @@
 -- How durations stand to the flat graph and the architecture that they are of.
 use Rattle.std.specs.Prelude.{◌≡◌, length, map, Ok}
 use Rattle.flat_graph.specs.Graph.{Graph}
-use Rattle.archi_graph.specs.Archi.{Architecture}
+use Rattle.archi_defs.specs.Archi.{Architecture}
 use Rattle.archi_defs.specs.Text.{Described}
 use Rattle.durations.specs.Table.{Table, StandBeside, durations_of, get_half_of}
 

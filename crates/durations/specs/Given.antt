@@ -1,4 +1,4 @@
--- Durations that are found by hash, and how what was returned stands to what is defined.
+-- Durations that are found by hash, and the refusal where one is missing.
 use Rattle.std.specs.Prelude.{
   ◌≡◌,
   ℕ,
@@ -12,18 +12,14 @@ use Rattle.std.specs.Prelude.{
   Option,
   Some,
   None,
-  Result,
-  Ok,
-  Err,
 }
 use Rattle.std.specs.Str.{bytes_eq}
 use Rattle.archi_defs.specs.declared.text.DurationLine.{DurationLine}
-use Rattle.archi_defs.specs.declared.fault.ArchiError.{ArchiError}
-use Rattle.archi_defs.specs.declared.fault.ArchiError.TheVariants.{Refused, Limit, OutOfMemory}
+use Rattle.archi_defs.specs.Refusals.{ArchiError}
+use Rattle.text_lines.specs.declared.fault.TextError.TheVariants.{Refused, Limit, OutOfMemory}
 use Rattle.archi_defs.specs.declared.fault.ArchiCause.TheVariants.{NoDuration}
 use Rattle.syn_base.specs.Bytes.{Bytes}
 use Rattle.durations.specs.Lines.{ticks_of, AreDurations}
-use Rattle.durations.specs.Table.{Table}
 
 -- the lines of a text for this many operators
 pub record Lines : Type 0 where
@@ -45,13 +41,6 @@ pub record AreFound (operators : ℕ) (found : List (List (Bytes × ℕ))) (line
   pub each : length found ≡ operators
   pub same : (def : Bytes) (o : ℕ) → o < operators → ticks_at (slice_index_or found o []) def ≡ ticks_of lines def o
   pub known : AreDurations operators lines
-
--- the table or the refusal that is defined, unless memory ran out
-abbrev pub Gives : Result Table ArchiError → Result Table ArchiError → Type 0
-Gives (Ok t) defined = defined ≡ Ok t
-Gives (Err (Refused f)) defined = defined ≡ Err (Refused f)
-Gives (Err (Limit f)) defined = ⊥
-Gives (Err OutOfMemory) defined = Unit {0}
 
 -- the definition is refused, unless memory ran out
 abbrev pub IsRefused : ArchiError → Bytes → Type 0

@@ -16,7 +16,6 @@ use Rattle.std.specs.Prelude.{
   ◌∷◌,
   length,
   map,
-  min,
   slice_index_or,
   Option,
   Some,
@@ -34,11 +33,13 @@ use Rattle.flat_graph.specs.declared.vertex.Kind.TheVariants.{Sensor, Actuator, 
 use Rattle.flat_graph.specs.declared.vertex.Vertex.{Vertex}
 use Rattle.flat_graph.specs.Graph.{Graph}
 use Rattle.archi_defs.specs.declared.text.DurationLine.{DurationLine}
-use Rattle.archi_defs.specs.declared.fault.ArchiError.{ArchiError}
+use Rattle.archi_defs.specs.Refusals.{ArchiRefusal}
 use Rattle.archi_defs.specs.declared.fault.ArchiCause.TheVariants.{NoDuration}
 use Rattle.syn_base.specs.Bytes.{Bytes}
-use Rattle.archi_defs.specs.Text.{Described, refused}
+use Rattle.archi_defs.specs.Text.{Described}
+use Rattle.text_lines.specs.Refusals.{refused}
 use Rattle.durations.specs.Lines.{ticks_of, is_given, most_ticks}
+use Rattle.syn_base.specs.Numbers.{lesser}
 
 -- For each operation a row, the ticks on each operator, where it may stand there; and its get half, where it is a
 -- set half.
@@ -91,12 +92,12 @@ missing lines [] = None
 missing lines (x ∷ xs) = if is_missing lines x then Some x.def else missing lines xs
 
 -- the table, unless a duration is missing
-abbrev pub unless_missing : Option Bytes → Table → Result Table ArchiError
+abbrev pub unless_missing : Option Bytes → Table → Result Table ArchiRefusal
 unless_missing None t = Ok t
 unless_missing (Some def) t = refused 0 (NoDuration def)
 
 -- the durations of a flat graph by what a text describes, or the refusal
-abbrev pub durations_of : Graph → Described → Result Table ArchiError
+abbrev pub durations_of : Graph → Described → Result Table ArchiRefusal
 durations_of g d =
     unless_missing (missing d.durations g.vertices) (table g.vertices (length d.archi.operators) d.durations)
 
@@ -132,12 +133,6 @@ pub record IsTable (table : Table) : Type 0 where
   pub rows : All (IsRow table.operators) table.rows
   pub halves : length table.halves ≡ length table.rows
   pub beside : StandBeside table
-
--- the lesser of two entries, where they are there
-abbrev pub lesser : Option ℕ → Option ℕ → Option ℕ
-lesser None f = f
-lesser (Some t) None = Some t
-lesser (Some t) (Some u) = Some (min t u)
 
 -- the least entry that is there
 abbrev pub least_of : List (Option ℕ) → Option ℕ

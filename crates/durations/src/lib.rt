@@ -17,3 +17,9 @@ pub use given::Given;
 pub use laws::{accepted_are_durations, durations_fit};
 pub use rows::{durations_of, entry};
 pub use table::Durations;
+
+// What the clauses here speak of: flat graphs and architectures.
+pub use archi_defs::{
+    Archi, ArchiCause, ArchiError, ArchiText, DurationLine, Hop, Medium, Seq, is_archi,
+};
+pub use flat_graph::{Flat, Guard, Kind, Source, Vertex, is_flat, len_of};

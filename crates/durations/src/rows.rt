@@ -4,17 +4,19 @@ ghost use Rattle.archi_defs.specs.Text.{described_by};
 ghost use Rattle.archi_defs.specs.declared.text.DurationLine.{DurationLine};
 ghost use Rattle.durations.specs.Lines.{AreDurations};
 ghost use Rattle.durations.specs.Table.{durations_of, entry, missing, row, table};
-ghost use Rattle.durations.specs.Given.{Gives, IsRefused};
+ghost use Rattle.durations.specs.Given.{IsRefused};
+ghost use Rattle.text_lines.specs.Refusals.{Gives};
 ghost use Rattle.durations.specs.Fitting.{IsOf};
 
 use crate::given::Given;
 use crate::halves::halves;
 use crate::missing::{is_timed, missing};
 use crate::table::Durations;
-use archi_defs::{ArchiCause, ArchiError, ArchiFault, ArchiText};
+use archi_defs::{ArchiCause, ArchiError, ArchiText};
 use flat_graph::{Flat, Vertex};
 use std::alloc::Global;
 use syn_base::{Items, Name, OutOfMemory};
+use text_lines::refused_at;
 
 /// How long each operation lasts on each operator. A sensor, an actuator or a function lasts as long as the
 /// text says for its definition, and may not stand on an operator for which the text says nothing. A constant,
@@ -39,10 +41,7 @@ fn no_duration(alloc: Global, def: &Name) -> ArchiError
     ensures { IsRefused result def.now }
 {
     match def.copy(alloc) {
-        Ok(def) => ArchiError::Refused(ArchiFault {
-            line: 0,
-            cause: ArchiCause::NoDuration(def),
-        }),
+        Ok(def) => refused_at(0, ArchiCause::NoDuration(def)),
         Err(_) => ArchiError::OutOfMemory,
     }
 }

@@ -1,7 +1,8 @@
 //! The table of durations, which whoever places operations reads.
 ghost use Rattle.std.specs.Prelude.{◌≡◌, ◌<◌, ◌≤◌, Some, All, IfSome, length};
 ghost use Rattle.durations.specs.Lines.{most_ticks};
-ghost use Rattle.durations.specs.Table.{entry_in, half_in, least_of, lesser, of_columns, row_in, IsLeast, IsRow, IsTable, StandBeside};
+ghost use Rattle.durations.specs.Table.{entry_in, half_in, least_of, of_columns, row_in, IsLeast, IsRow, IsTable, StandBeside};
+ghost use Rattle.syn_base.specs.Numbers.{lesser};
 
 use std::marker::Model;
 use syn_base::Items;

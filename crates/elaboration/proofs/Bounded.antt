@@ -1,16 +1,16 @@
 -- What definitions mean within the bound on vertices, and what they mean without it.
 use Rattle.std.proofs.Common.{◌≡◌, ◌==◌, Bool, true, false, List, length, Result, Ok, Err, ◌⊎◌, inl, inr, sym, ap, ◌∙◌, if◌then◌else◌}
-use Rattle.algo_tree.specs.Size.{is_large}
-use Rattle.algo_tree.specs.Tree.{Vertex}
-use Rattle.algo_text.specs.Returned.{Gives, GivesList}
-use Rattle.algo_text.specs.declared.definition.Def.{Def}
-use Rattle.algo_text.specs.declared.definition.Defs.{Defs}
 use Rattle.syn_base.specs.declared.limits.LimitFault.{LimitFault}
-use Rattle.algo_text.specs.declared.fault.AlgoFault.{AlgoFault}
-use Rattle.algo_text.specs.declared.fault.AlgoError.{AlgoError}
-use Rattle.algo_text.specs.declared.fault.AlgoError.TheVariants.{Refused, Limit, TooLarge, OutOfMemory}
-use Rattle.algo_rules.specs.Resolved.{resolution_of}
-use Rattle.algo_rules.specs.WellRead.{AreWellRead}
+use Rattle.algo_laws.specs.Size.{is_large}
+use Rattle.algo_laws.specs.Tree.{Vertex}
+use Rattle.algo_laws.specs.Returned.{Gives, GivesList}
+use Rattle.algo_laws.specs.declared.Def.{Def}
+use Rattle.algo_laws.specs.declared.Defs.{Defs}
+use Rattle.algo_laws.specs.declared.AlgoFault.{AlgoFault}
+use Rattle.algo_laws.specs.declared.AlgoError.{AlgoError}
+use Rattle.algo_laws.specs.declared.AlgoError.TheVariants.{Refused, Limit, TooLarge, OutOfMemory}
+use Rattle.algo_laws.specs.Resolved.{resolution_of}
+use Rattle.algo_laws.specs.WellRead.{AreWellRead}
 use Rattle.algo_resolve.specs.Within.{within_bound}
 use Rattle.algo_resolve.proofs.Within.{large_stops, small_stays, was_error, was_tree}
 use Rattle.multi_period.specs.declared.fault.PeriodError.{PeriodError}

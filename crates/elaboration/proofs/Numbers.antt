@@ -1,8 +1,8 @@
 -- The marks on references by their places.
 use Rattle.std.proofs.Common.{◌≡◌, ℕ, suc, ◌+◌, ◌<◌, ◌≤◌, cond, List, [], ◌∷◌, ◌++◌, length, Option, Some, None, refl, ap, ◌∙◌, eq-eqb, ne_eqb, arith}
-use Rattle.algo_text.specs.declared.definition.Reference.{Reference}
 use Rattle.multi_period.specs.declared.mark.Mark.{Mark}
 use Rattle.multi_period.specs.Marks.{mark_at, IsOnce, AreOnce}
+use Rattle.algo_laws.specs.declared.Reference.{Reference}
 use Rattle.elaboration.specs.Marking.{mark_of, marks_from}
 
 -- the mark of a reference at place k

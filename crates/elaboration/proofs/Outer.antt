@@ -1,21 +1,21 @@
 -- The outputs of what may be marked have distinct names.
 use Rattle.std.proofs.Common.{◌≡◌, ℕ, true, List, [], ◌∷◌, ◌++◌}
 use Rattle.std.specs.List.{flat_map}
-use Rattle.body_lang.specs.declared.expression.Port.{Port}
-use Rattle.algo_tree.specs.Well.{IsNewName, AreDistinctNames}
-use Rattle.algo_tree.specs.Named.{AreNames}
-use Rattle.algo_tree.proofs.Texts.{name_word}
-use Rattle.algo_text.specs.declared.definition.Body.{Body}
-use Rattle.algo_text.specs.declared.definition.Body.TheVariants.{Sensor, Actuator, Constant, Delay, Function, Graph, Switch, Repeat}
-use Rattle.algo_text.specs.declared.definition.Frontier.{Frontier}
-use Rattle.algo_text.specs.declared.definition.Frontier.TheVariants.{Fork, Diffuse, Iterate, Join}
-use Rattle.algo_text.specs.declared.definition.FrontierLine.{FrontierLine}
-use Rattle.algo_text.specs.Outer.{outer_names, all_outer}
 use Rattle.syn_base.specs.Bytes.{Bytes}
-use Rattle.algo_rules.specs.Links.{may_be_inner}
-use Rattle.algo_rules.specs.Ports.{ports_by, outer_outs}
-use Rattle.algo_rules.specs.declared.ports.Ports.{Ports}
-use Rattle.algo_rules.specs.WellRead.{IsName, IsWellRead, port_names, ports_in}
+use Rattle.algo_laws.specs.declared.Port.{Port}
+use Rattle.algo_laws.specs.Well.{IsNewName, AreDistinctNames}
+use Rattle.algo_laws.specs.Named.{AreNames}
+use Rattle.algo_laws.proofs.Texts.{name_word}
+use Rattle.algo_laws.specs.declared.Body.{Body}
+use Rattle.algo_laws.specs.declared.Body.TheVariants.{Sensor, Actuator, Constant, Delay, Function, Graph, Switch, Repeat}
+use Rattle.algo_laws.specs.declared.Frontier.{Frontier}
+use Rattle.algo_laws.specs.declared.Frontier.TheVariants.{Fork, Diffuse, Iterate, Join}
+use Rattle.algo_laws.specs.declared.FrontierLine.{FrontierLine}
+use Rattle.algo_laws.specs.Outer.{outer_names, all_outer}
+use Rattle.algo_laws.specs.RuleLinks.{may_be_inner}
+use Rattle.algo_laws.specs.Ports.{ports_by, outer_outs}
+use Rattle.algo_laws.specs.declared.Ports.{Ports}
+use Rattle.algo_laws.specs.WellRead.{IsName, IsWellRead, port_names, ports_in}
 use Rattle.algo_laws.proofs.Firsts.{Each, each_all, each_append}
 use Rattle.algo_laws.proofs.Lengths.{distinct_append}
 

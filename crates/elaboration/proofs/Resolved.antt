@@ -1,15 +1,15 @@
 -- What definitions resolve to, and what becomes of it.
 use Rattle.std.proofs.Common.{◌≡◌, suc, ◌≤◌, ◌==◌, true, List, [], ◌∷◌, length, Option, Some, None, Result, Ok, Err, refl, sym, ap, subst, ◌∙◌, arith}
 use Rattle.std.proofs.lemmas.Bool.{eqb-true}
-use Rattle.algo_tree.specs.Tree.{Vertex}
-use Rattle.algo_tree.specs.Counted.{operations}
-use Rattle.algo_tree.specs.Valid.{IsTree}
-use Rattle.algo_text.specs.declared.definition.Def.{Def}
-use Rattle.algo_text.specs.declared.fault.AlgoError.{AlgoError}
-use Rattle.algo_rules.specs.Resolved.{tree_of, refusal, resolution_of, resolved_by as told_by}
-use Rattle.algo_rules.specs.WellRead.{AreWellRead}
-use Rattle.algo_tree.specs.Bounded.{HasBounds}
-use Rattle.algo_tree.specs.Named.{HasNames}
+use Rattle.algo_laws.specs.Tree.{Vertex}
+use Rattle.algo_laws.specs.Counted.{operations}
+use Rattle.algo_laws.specs.Valid.{IsTree}
+use Rattle.algo_laws.specs.declared.Def.{Def}
+use Rattle.algo_laws.specs.declared.AlgoError.{AlgoError}
+use Rattle.algo_laws.specs.Resolved.{tree_of, refusal, resolution_of, resolved_by as told_by}
+use Rattle.algo_laws.specs.WellRead.{AreWellRead}
+use Rattle.algo_laws.specs.Bounded.{HasBounds}
+use Rattle.algo_laws.specs.Named.{HasNames}
 use Rattle.algo_laws.proofs.Bounds.{have_bounds}
 use Rattle.algo_laws.proofs.Names.{have_names}
 use Rattle.algo_laws.proofs.Trees.{make_a_tree}

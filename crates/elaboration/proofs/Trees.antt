@@ -2,25 +2,25 @@
 use Rattle.std.proofs.Common.{◌≡◌, ℕ, suc, ◌+◌, ◌≤◌, Bool, true, false, ◌&&◌, List, [], ◌∷◌, map, length, Option, Some, None, refl, sym, ap, subst, ◌∙◌, arith, if◌then◌else◌}
 use Rattle.std.specs.Prelude.{Ok}
 use Rattle.std.specs.List.{All}
-use Rattle.body_lang.specs.declared.expression.Port.{Port}
-use Rattle.level_meaning.specs.declared.source.Source.{Source}
-use Rattle.level_meaning.specs.declared.part.Part.{Part}
-use Rattle.level_meaning.specs.declared.part.Part.TheVariants.{Named}
-use Rattle.algo_tree.specs.Tree.{Label, Vertex, Vertices, and_vertex}
-use Rattle.algo_tree.specs.Code.{count_of}
-use Rattle.algo_tree.specs.View.{vertices_of}
-use Rattle.algo_text.specs.declared.definition.Def.{Def}
-use Rattle.algo_text.specs.declared.definition.Body.{Body}
-use Rattle.algo_text.specs.declared.definition.Body.TheVariants.{Sensor, Actuator, Constant, Delay, Function, Graph, Switch, Repeat}
-use Rattle.algo_text.specs.declared.definition.Reference.{Reference}
-use Rattle.algo_text.specs.declared.definition.Edge.{Edge}
-use Rattle.algo_text.specs.declared.fault.AlgoError.{AlgoError}
-use Rattle.algo_text.specs.declared.fault.AlgoCause.TheVariants.{BadEvery}
 use Rattle.syn_base.specs.Bytes.{Bytes}
-use Rattle.algo_rules.specs.Links.{fault, first_of, definition, is_main, may_be_inner}
-use Rattle.algo_rules.specs.Ports.{ports_of, lens_of}
-use Rattle.algo_rules.specs.declared.ports.Ports.{Ports}
-use Rattle.algo_rules.specs.Resolved.{Making, refusal, resolved_by, tree_of, vertex_within, vertex_by, references_from, kind_by, is_main_graph, is_sensor, is_actuator}
+use Rattle.algo_laws.specs.declared.Port.{Port}
+use Rattle.algo_laws.specs.declared.Source.{Source}
+use Rattle.algo_laws.specs.declared.Part.{Part}
+use Rattle.algo_laws.specs.declared.Part.TheVariants.{Named}
+use Rattle.algo_laws.specs.Tree.{Label, Vertex, Vertices, and_vertex}
+use Rattle.algo_laws.specs.TreeCode.{count_of}
+use Rattle.algo_laws.specs.View.{vertices_of}
+use Rattle.algo_laws.specs.declared.Def.{Def}
+use Rattle.algo_laws.specs.declared.Body.{Body}
+use Rattle.algo_laws.specs.declared.Body.TheVariants.{Sensor, Actuator, Constant, Delay, Function, Graph, Switch, Repeat}
+use Rattle.algo_laws.specs.declared.Reference.{Reference}
+use Rattle.algo_laws.specs.declared.Edge.{Edge}
+use Rattle.algo_laws.specs.declared.AlgoError.{AlgoError}
+use Rattle.algo_laws.specs.declared.AlgoCause.TheVariants.{BadEvery}
+use Rattle.algo_laws.specs.RuleLinks.{fault, first_of, definition, is_main, may_be_inner}
+use Rattle.algo_laws.specs.Ports.{ports_of, lens_of}
+use Rattle.algo_laws.specs.declared.Ports.{Ports}
+use Rattle.algo_laws.specs.Resolved.{Making, refusal, resolved_by, tree_of, vertex_within, vertex_by, references_from, kind_by, is_main_graph, sensor_count, actuator_count}
 use Rattle.algo_laws.proofs.Firsts.{Each, none_flat, none_each, each_all}
 use Rattle.algo_laws.proofs.Standing.{definition_by, both}
 use Rattle.algo_laws.proofs.Refused.{has_none, main_is_graph}
@@ -29,10 +29,11 @@ use Rattle.algo_laws.proofs.Trees.{main, main_by}
 use Rattle.multi_period.specs.declared.mark.Mark.{Mark}
 use Rattle.multi_period.specs.Marks.{mark_at, IsMarkable, MayHave, AreMarked, AreOnce}
 use Rattle.multi_period.specs.Named.{MarkNamed, AreNamed}
-use Rattle.elaboration.specs.Marking.{references_of, may_be_marked, may_stand_by, bad_by, bad_every, marks_from, marks_in, marking_by}
+use Rattle.elaboration.specs.Marking.{may_be_marked, may_stand_by, bad_by, bad_every, marks_from, marks_in, marking_by}
 use Rattle.elaboration.specs.Stand.{IsPeriod, HavePeriods, Stand, AcceptedMarksStand}
 use Rattle.elaboration.proofs.Outer.{AreApart, outs_apart}
 use Rattle.elaboration.proofs.Numbers.{to_mark, mark_first, mark_later, once_from}
+use Rattle.algo_laws.specs.Periods.{references_of}
 
 -- what is known of a reference: where it has a mark, the mark is a number, and what it refers to may have one
 abbrev IsGood : List Def → Option ℕ → Option Def → Type 0
@@ -103,13 +104,13 @@ module _ (ds : List Def) (acc : Accepted ds) (n : ℕ) (ins : List Port) (all : 
       → AreMarked mark (made s a rs) × AreNamed mark (made s a rs)
   each_stands s a k [] mark is good = (tt, tt)
   each_stands s a k (r ∷ rs) mark is good =
-      let rest = each_stands (s + is_sensor (definition ds r.def)) (a + is_actuator (definition ds r.def)) (suc k) rs (λ i. mark (suc i)) (λ i. is (suc i) ∙ mark_later k i r rs) good.1 in
+      let rest = each_stands (s + sensor_count (definition ds r.def)) (a + actuator_count (definition ds r.def)) (suc k) rs (λ i. mark (suc i)) (λ i. is (suc i) ∙ mark_later k i r rs) good.1 in
       one_by ds acc (vertex_within ds n) (Named r.name) r.def _ s a k r.every (definition ds r.def) refl good.0 mark
-      (made (s + is_sensor (definition ds r.def)) (a + is_actuator (definition ds r.def)) rs) (is 0 ∙ mark_first k r rs) rest.0 rest.1
+      (made (s + sensor_count (definition ds r.def)) (a + actuator_count (definition ds r.def)) rs) (is 0 ∙ mark_first k r rs) rest.0 rest.1
 
   counted : (s a : ℕ) (rs : List Reference) → count_of (made s a rs) ≡ length rs
   counted s a [] = refl
-  counted s a (r ∷ rs) = ap suc (counted (s + is_sensor (definition ds r.def)) (a + is_actuator (definition ds r.def)) rs)
+  counted s a (r ∷ rs) = ap suc (counted (s + sensor_count (definition ds r.def)) (a + actuator_count (definition ds r.def)) rs)
 
   graph_stands : (rs : List Reference) → Each (λ r. IsGood ds r.every (definition ds r.def)) rs
       → (AreMarked (mark_at (marks_from 0 rs)) (made 0 0 rs) × AreNamed (mark_at (marks_from 0 rs)) (made 0 0 rs)) × AreOnce (count_of (made 0 0 rs)) (marks_from 0 rs)

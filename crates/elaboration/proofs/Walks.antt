@@ -2,21 +2,21 @@
 use Rattle.std.proofs.Common.{◌≡◌, ℕ, ◌+◌, ◌<◌, Bool, true, false, List, [], ◌∷◌, length, get_or, drop, map, None, refl, ap, sym, subst, ◌∙◌, if◌then◌else◌}
 use Rattle.std.specs.Prelude.{slice_get}
 use Rattle.std.proofs.lemmas.List.{get_or-map}
-use Rattle.algo_text.specs.declared.definition.Def.{Def}
-use Rattle.algo_text.specs.declared.definition.Reference.{Reference}
-use Rattle.algo_text.specs.declared.definition.Edge.{Edge}
-use Rattle.algo_text.specs.declared.definition.Body.{Body}
-use Rattle.algo_text.specs.declared.definition.Body.TheVariants.{Graph}
-use Rattle.body_lang.specs.declared.expression.Port.{Port}
-use Rattle.algo_text.specs.declared.fault.AlgoError.{AlgoError}
-use Rattle.algo_text.specs.declared.fault.AlgoCause.TheVariants.{BadEvery}
 use Rattle.syn_base.specs.Bytes.{Bytes}
-use Rattle.algo_rules.specs.Links.{fault, first_of, definition, mentions_in}
-use Rattle.algo_text.specs.Returned.{Tells}
 use Rattle.algo_check.specs.Placing.{places_of}
 use Rattle.algo_check.proofs.Firsts.{one_told}
 use Rattle.algo_check.proofs.Fresh.{from_here}
 use Rattle.algo_check.proofs.Found.{found}
+use Rattle.algo_laws.specs.declared.Def.{Def}
+use Rattle.algo_laws.specs.declared.Reference.{Reference}
+use Rattle.algo_laws.specs.declared.Edge.{Edge}
+use Rattle.algo_laws.specs.declared.Body.{Body}
+use Rattle.algo_laws.specs.declared.Body.TheVariants.{Graph}
+use Rattle.algo_laws.specs.declared.Port.{Port}
+use Rattle.algo_laws.specs.declared.AlgoError.{AlgoError}
+use Rattle.algo_laws.specs.declared.AlgoCause.TheVariants.{BadEvery}
+use Rattle.algo_laws.specs.RuleLinks.{fault, first_of, definition, mentions_in}
+use Rattle.algo_laws.specs.Returned.{Tells}
 use Rattle.elaboration.specs.Marking.{may_stand, bad_by}
 use Rattle.elaboration.specs.Walked.{place_of, places_in, bad_in}
 

@@ -4,14 +4,14 @@ use Rattle.std.specs.List.{All}
 use Rattle.std.proofs.lemmas.Bool.{ltb-false}
 use Rattle.syn_base.specs.declared.limits.LimitKind.TheVariants.{Operations}
 use Rattle.syn_base.specs.Limits.{bound_of}
-use Rattle.algo_tree.specs.Tree.{Vertex}
-use Rattle.algo_tree.specs.Counted.{operations}
-use Rattle.algo_text.specs.declared.definition.Def.{Def}
-use Rattle.algo_text.specs.declared.definition.Reference.{Reference}
-use Rattle.algo_text.specs.declared.fault.AlgoError.{AlgoError}
-use Rattle.algo_text.specs.declared.fault.AlgoError.TheVariants as error
-use Rattle.algo_rules.specs.Resolved.{resolution_of}
-use Rattle.algo_rules.specs.WellRead.{AreWellRead}
+use Rattle.algo_laws.specs.Tree.{Vertex}
+use Rattle.algo_laws.specs.Counted.{operations}
+use Rattle.algo_laws.specs.declared.Def.{Def}
+use Rattle.algo_laws.specs.declared.Reference.{Reference}
+use Rattle.algo_laws.specs.declared.AlgoError.{AlgoError}
+use Rattle.algo_laws.specs.declared.AlgoError.TheVariants as error
+use Rattle.algo_laws.specs.Resolved.{resolution_of}
+use Rattle.algo_laws.specs.WellRead.{AreWellRead}
 use Rattle.algo_laws.specs.Periods as text
 use Rattle.algo_laws.proofs.Lines.{accepted_well}
 use Rattle.algo_laws.proofs.Marks.{accepted_marked}
@@ -21,12 +21,13 @@ use Rattle.multi_period.specs.Periods.{periods}
 use Rattle.multi_period.proofs.Main.{periods-keep}
 use Rattle.multi_period.proofs.Names.{names-keep, bounds-keep}
 use Rattle.multi_period.proofs.Trees.{tree-made}
-use Rattle.elaboration.specs.Marking.{marking_of, references_of}
+use Rattle.elaboration.specs.Marking.{marking_of}
 use Rattle.elaboration.specs.Stand.{IsPeriod, HavePeriods}
 use Rattle.elaboration.proofs.Trees.{marks_stand}
 use Rattle.elaboration.specs.Elaborated.{made_by, marked_by, resolved_by}
 use Rattle.elaboration.specs.Laws.{AcceptedAreElaborated, IsElaborated}
 use Rattle.elaboration.proofs.Resolved.{not_given, same_tree, sound}
+use Rattle.algo_laws.specs.Periods.{references_of}
 
 module _ (ds : List Def) (read : AreWellRead ds) (have : HavePeriods ds) where
   module _ (resolved : Vertex) (marks : List Mark) (r : resolution_of ds ≡ Ok resolved) (m : marking_of ds ≡ Ok marks) where

@@ -1,12 +1,12 @@
 -- The tree that the definitions of a text mean, or their first refusal.
 use Rattle.std.specs.Prelude.{List, Result, Ok, Err}
-use Rattle.algo_tree.specs.Tree.{Vertex}
-use Rattle.algo_text.specs.declared.definition.Def.{Def}
-use Rattle.algo_text.specs.declared.definition.Defs.{Defs}
-use Rattle.algo_text.specs.declared.fault.AlgoError.{AlgoError}
-use Rattle.algo_text.specs.declared.fault.AlgoError.TheVariants.{Limit, OutOfMemory}
+use Rattle.algo_laws.specs.Tree.{Vertex}
+use Rattle.algo_laws.specs.declared.Def.{Def}
+use Rattle.algo_laws.specs.declared.Defs.{Defs}
+use Rattle.algo_laws.specs.declared.AlgoError.{AlgoError}
+use Rattle.algo_laws.specs.declared.AlgoError.TheVariants.{Limit, OutOfMemory}
+use Rattle.algo_laws.specs.Resolved.{resolution_of}
 use Rattle.algo_resolve.specs.Within.{within_bound}
-use Rattle.algo_rules.specs.Resolved.{resolution_of}
 use Rattle.multi_period.specs.declared.fault.PeriodError.{PeriodError}
 use Rattle.multi_period.specs.declared.fault.PeriodError.TheVariants as period
 use Rattle.multi_period.specs.declared.mark.Mark.{Mark}

@@ -1,18 +1,18 @@
 -- What the tree of an accepted text is.
 use Rattle.std.specs.Prelude.{◌≡◌, List, Ok}
 use Rattle.syn_base.specs.Bytes.{Bytes}
-use Rattle.algo_tree.specs.Tree.{Vertex}
-use Rattle.algo_tree.specs.Valid.{IsTree}
-use Rattle.algo_text.specs.declared.definition.Def.{Def}
-use Rattle.algo_text.specs.declared.definition.Defs.{Defs}
-use Rattle.algo_text.specs.Text.{definitions_of}
-use Rattle.algo_rules.specs.Resolved.{resolution_of}
-use Rattle.algo_tree.specs.Bounded.{HasBounds}
-use Rattle.algo_tree.specs.Named.{HasNames}
 use Rattle.multi_period.specs.declared.mark.Mark.{Mark}
 use Rattle.multi_period.specs.Laws.{DoesAsMarked}
 use Rattle.multi_period.specs.Marks.{MayHaveMarks}
 use Rattle.multi_period.specs.Periods.{periods}
+use Rattle.algo_laws.specs.Tree.{Vertex}
+use Rattle.algo_laws.specs.Valid.{IsTree}
+use Rattle.algo_laws.specs.declared.Def.{Def}
+use Rattle.algo_laws.specs.declared.Defs.{Defs}
+use Rattle.algo_laws.specs.Text.{definitions_of}
+use Rattle.algo_laws.specs.Resolved.{resolution_of}
+use Rattle.algo_laws.specs.Bounded.{HasBounds}
+use Rattle.algo_laws.specs.Named.{HasNames}
 use Rattle.elaboration.specs.Marking.{marking_of}
 use Rattle.elaboration.specs.Elaborated.{elaboration_of}
 

@@ -21,20 +21,14 @@ use Rattle.std.specs.Prelude.{
   codes,
 }
 use Rattle.std.specs.List.{flat_map}
-use Rattle.algo_text.specs.declared.definition.Def.{Def}
-use Rattle.algo_text.specs.declared.definition.Body.{Body}
-use Rattle.algo_text.specs.declared.definition.Body.TheVariants.{Graph}
-use Rattle.algo_text.specs.declared.definition.Reference.{Reference}
-use Rattle.algo_text.specs.declared.fault.AlgoError.{AlgoError}
-use Rattle.algo_text.specs.declared.fault.AlgoCause.TheVariants.{BadEvery}
 use Rattle.syn_base.specs.Bytes.{Bytes}
-use Rattle.algo_rules.specs.Links.{fault, first_of, definition, is_main, may_be_inner}
 use Rattle.multi_period.specs.declared.mark.Mark.{Mark}
-
--- The references of a graph, in order; any other body has none.
-abbrev pub references_of : Body → List Reference
-references_of (Graph ins outs references edges) = references
-references_of _ = []
+use Rattle.algo_laws.specs.declared.Def.{Def}
+use Rattle.algo_laws.specs.declared.Reference.{Reference}
+use Rattle.algo_laws.specs.declared.AlgoError.{AlgoError}
+use Rattle.algo_laws.specs.declared.AlgoCause.TheVariants.{BadEvery}
+use Rattle.algo_laws.specs.RuleLinks.{fault, first_of, definition, is_main, may_be_inner}
+use Rattle.algo_laws.specs.Periods.{references_of}
 
 -- What may have a mark is what may stand in a case: neither a sensor nor an actuator, a constant or a delay.
 abbrev pub may_be_marked : Option Def → Bool

@@ -1,14 +1,15 @@
 -- Accepted marks may stand in the tree that the definitions resolve to.
 use Rattle.std.specs.Prelude.{◌≡◌, ℕ, ◌≤◌, List, Option, Some, None, Ok, All}
-use Rattle.algo_tree.specs.Tree.{Vertex}
-use Rattle.algo_tree.specs.Meaning.{vertices_in}
-use Rattle.algo_text.specs.declared.definition.Def.{Def}
-use Rattle.algo_rules.specs.Resolved.{resolution_of}
-use Rattle.algo_rules.specs.WellRead.{AreWellRead}
 use Rattle.multi_period.specs.declared.mark.Mark.{Mark}
 use Rattle.multi_period.specs.Marks.{mark_at, MayHaveMarks}
 use Rattle.multi_period.specs.Named.{AreNamed}
-use Rattle.elaboration.specs.Marking.{references_of, marking_of}
+use Rattle.elaboration.specs.Marking.{marking_of}
+use Rattle.algo_laws.specs.Tree.{Vertex}
+use Rattle.algo_laws.specs.Meaning.{vertices_in}
+use Rattle.algo_laws.specs.declared.Def.{Def}
+use Rattle.algo_laws.specs.Resolved.{resolution_of}
+use Rattle.algo_laws.specs.WellRead.{AreWellRead}
+use Rattle.algo_laws.specs.Periods.{references_of}
 
 -- A mark is a number from 1 to 16.
 abbrev pub IsPeriod : Option ℕ → Type 0

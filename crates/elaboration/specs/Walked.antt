@@ -2,12 +2,13 @@
 use Rattle.std.specs.Prelude.{ℕ, List, map, Option}
 use Rattle.std.specs.List.{flat_map, position_or_len}
 use Rattle.std.specs.Str.{bytes_eq}
-use Rattle.algo_text.specs.declared.definition.Def.{Def}
-use Rattle.algo_text.specs.declared.definition.Reference.{Reference}
-use Rattle.algo_text.specs.declared.fault.AlgoError.{AlgoError}
 use Rattle.syn_base.specs.Bytes.{Bytes}
-use Rattle.algo_rules.specs.Links.{first_of}
-use Rattle.elaboration.specs.Marking.{references_of, bad_by}
+use Rattle.elaboration.specs.Marking.{bad_by}
+use Rattle.algo_laws.specs.declared.Def.{Def}
+use Rattle.algo_laws.specs.declared.Reference.{Reference}
+use Rattle.algo_laws.specs.declared.AlgoError.{AlgoError}
+use Rattle.algo_laws.specs.RuleLinks.{first_of}
+use Rattle.algo_laws.specs.Periods.{references_of}
 
 -- where the definition that a reference names stands
 abbrev pub place_of : List Def → Reference → ℕ

@@ -15,18 +15,17 @@ mod standing;
 
 ghost use Rattle.std.specs.Prelude.{◌≡◌, ◌≤◌, IfOk, length};
 ghost use Rattle.syn_base.specs.Limits.{most_in_text};
-ghost use Rattle.algo_text.specs.Returned.{Gives};
-ghost use Rattle.algo_rules.specs.WellRead.{AreWellRead};
-ghost use Rattle.algo_tree.specs.Size.{vertices_made};
-ghost use Rattle.algo_tree.specs.Bounded.{HasBounds};
-ghost use Rattle.algo_tree.specs.Named.{HasNames};
+ghost use Rattle.algo_laws.specs.Returned.{Gives};
+ghost use Rattle.algo_laws.specs.WellRead.{AreWellRead};
+ghost use Rattle.algo_laws.specs.Size.{vertices_made};
+ghost use Rattle.algo_laws.specs.Bounded.{HasBounds};
+ghost use Rattle.algo_laws.specs.Named.{HasNames};
 ghost use Rattle.elaboration.specs.Stand.{HavePeriods};
 ghost use Rattle.elaboration.specs.Elaborated.{bounded_elaboration, of_periods};
 ghost use Rattle.elaboration.specs.Laws.{AcceptedAreElaborated};
 
+use algo_laws::{AlgoError, Defs, Tree, is_large};
 use algo_resolve::resolve;
-use algo_text::{AlgoError, Defs};
-use algo_tree::{Tree, is_large};
 pub use mark_laws::accepted_marks_stand;
 pub use marking::marks;
 use multi_period::{PeriodError, periods};

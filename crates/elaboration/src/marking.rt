@@ -1,15 +1,16 @@
 //! The marks on the references of `main`: `marks`, which `elaboration` calls.
 ghost use Rattle.std.specs.Prelude.{◌≡◌, ◌≤◌, IfOk, None, codes, length, map};
 ghost use Rattle.syn_base.specs.Limits.{most_in_text};
-ghost use Rattle.algo_tree.specs.Well.{AreDistinctNames};
-ghost use Rattle.algo_rules.specs.Links.{definition};
-ghost use Rattle.algo_rules.specs.Resolved.{refusal};
-ghost use Rattle.elaboration.specs.Marking.{marking_of, marks_from, marks_in, references_of};
-ghost use Rattle.algo_text.specs.Returned.{GivesList};
+ghost use Rattle.elaboration.specs.Marking.{marking_of, marks_from, marks_in};
+ghost use Rattle.algo_laws.specs.Well.{AreDistinctNames};
+ghost use Rattle.algo_laws.specs.RuleLinks.{definition};
+ghost use Rattle.algo_laws.specs.Resolved.{refusal};
+ghost use Rattle.algo_laws.specs.Returned.{GivesList};
+ghost use Rattle.algo_laws.specs.Periods.{references_of};
 
 use crate::standing::check_marks;
 use algo_check::links_of;
-use algo_text::{AlgoError, Body, Def, Defs, Reference};
+use algo_laws::{AlgoError, Body, Def, Defs, Reference};
 use multi_period::Mark;
 use std::alloc::Global;
 use syn_base::{OutOfMemory, to_u32};

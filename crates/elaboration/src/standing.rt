@@ -1,15 +1,14 @@
 //! The check of where marks may stand, which `marks` makes before it lists them.
 ghost use Rattle.std.specs.Prelude.{◌≡◌, ◌&&◌, slice_get};
-ghost use Rattle.algo_text.specs.declared.fault.AlgoCause.TheVariants.{BadEvery};
-ghost use Rattle.algo_rules.specs.Links.{fault, is_main as names_main, links_of, may_be_inner as inner};
-ghost use Rattle.algo_rules.specs.Placed.{Checks};
-ghost use Rattle.algo_rules.specs.Links.{mentions};
-ghost use Rattle.algo_text.specs.Returned.{Tells};
 ghost use Rattle.algo_check.specs.Placing.{places_of};
+ghost use Rattle.algo_laws.specs.declared.AlgoCause.TheVariants.{BadEvery};
+ghost use Rattle.algo_laws.specs.RuleLinks.{fault, is_main as names_main, links_of, may_be_inner as inner, mentions};
+ghost use Rattle.algo_laws.specs.Placed.{Checks};
+ghost use Rattle.algo_laws.specs.Returned.{Tells};
 ghost use Rattle.elaboration.specs.Marking.{may_be_marked, may_stand as stands};
 ghost use Rattle.elaboration.specs.Walked.{bad_all, bad_in, bad_of, places_in};
 
-use algo_text::{AlgoCause, AlgoError, AlgoFault, Body, Def, Reference};
+use algo_laws::{AlgoCause, AlgoError, AlgoFault, Body, Def, Reference};
 use std::alloc::Global;
 use syn_base::{Items, Name};
 

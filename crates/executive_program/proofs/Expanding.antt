@@ -12,8 +12,8 @@ use Rattle.interleavings.specs.Owners.{sum_below}
 use Rattle.executive_program.specs.declared.program.Program.{Program}
 use Rattle.executive_program.specs.declared.steps.MicroStep.{MicroStep}
 use Rattle.executive_program.specs.Blocks.{blocks}
-use Rattle.executive_program.specs.Instructions.{len_of}
-use Rattle.executive_program.specs.Steps.{call_steps, steps_at, steps_of, steps_in, len_by, len_at, load_step, store_step, load_steps, store_steps, input_steps, output_steps}
+use Rattle.executive_program.specs.Instructions.{len_of, len_by}
+use Rattle.executive_program.specs.Steps.{call_steps, steps_at, steps_of, steps_in, len_at, load_step, store_step, load_steps, store_steps, input_steps, output_steps}
 
 -- a block list grows by its next block
 pub blocks_more : {A : Type 0} (f : ℕ → List A) (k : ℕ) (start out new : List A) → out ≡ start ++ blocks f k → new ≡ out ++ f k → new ≡ start ++ blocks f (k + 1)

@@ -74,6 +74,13 @@ abbrev pub number_or : ℕ → Option ℕ → ℕ
 number_or d None = d
 number_or d (Some m) = m
 
+-- Both are the same medium, or both are none.
+abbrev pub same_medium : Option ℕ → Option ℕ → Bool
+same_medium None None = true
+same_medium None (Some n) = false
+same_medium (Some m) None = false
+same_medium (Some m) (Some n) = nat_eq m n
+
 -- A buffer has this many elements in each of its places, and 0 if there is no buffer.
 abbrev pub len_in : Option Buffer → ℕ
 len_in None = 0
@@ -123,6 +130,11 @@ module _ (p : Program) where
   -- Buffer b has this many elements in each of its places, and 0 if the program has no buffer b.
   abbrev pub len_of : ℕ → ℕ
   len_of b = len_in (slice_get p.buffers b)
+
+  -- A given buffer has this many elements in each place, and 0 if none is given.
+  abbrev pub len_by : Option ℕ → ℕ
+  len_by None = 0
+  len_by (Some b) = len_of b
 
   -- Buffer b has this many places, and 1 if the program has no buffer b.
   abbrev pub depth_of : ℕ → ℕ

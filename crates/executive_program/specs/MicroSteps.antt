@@ -42,6 +42,7 @@ use Rattle.executive_program.specs.Instructions.{
   len_of,
   depth_of,
   pair_depth,
+  len_by,
 }
 
 -- This is the first value if there is one, and otherwise the second, which may be none too.
@@ -95,17 +96,12 @@ module _ (p : Program) where
   abbrev pub sent : ℕ → ℕ → Option ℕ
   sent m t = sent_by p.seqs m t
 
-  -- A buffer that is sent has this many elements, and 0 if none is sent.
-  abbrev pub len_sent : Option ℕ → ℕ
-  len_sent None = 0
-  len_sent (Some b) = len_of p b
-
   -- Transfer t of medium m carries this many elements, as many as the buffer that is
   -- sent has, and 0 if none is sent.
   abbrev pub transfer_len : ℕ → ℕ → ℕ
-  transfer_len m t = len_sent (sent m t)
+  transfer_len m t = len_by p (sent m t)
 
-  -- 1 where transfer t uses element j of the wire, and how many of the transfers before t do
+  -- How often transfer t of medium m uses element j of its wire: once, or not at all.
   abbrev pub uses : ℕ → ℕ → ℕ → ℕ
   uses m j t = cond (nat_lt j (transfer_len m t)) 1 0
 
@@ -114,7 +110,8 @@ module _ (p : Program) where
   abbrev pub access : ℕ → ℕ → ℕ → ℕ
   access m j t = sum_below (uses m j) t
 
-  -- a wire is as long as the longest buffer that is sent over it
+  -- An instruction sends this many elements, as many as its buffer has if it is a send, and 0
+  -- otherwise.
   abbrev pub sent_len : Instr → ℕ
   sent_len (Send b q) = len_of p b
   sent_len _ = 0
@@ -165,7 +162,8 @@ module _ (p : Program) where
   abbrev pub store_at : ℕ → ℕ → List Micro
   store_at b j = store (element_of b j) 0 ∷ []
 
-  -- the loads of an operation's input k, the stores of its output k
+  -- These are the loads of all elements of an input's buffer, in order; without a
+  -- buffer there are none.
   abbrev pub loads_of : Option ℕ → List Micro
   loads_of None = []
   loads_of (Some b) = blocks (load_at b) (len_of p b)
@@ -221,7 +219,7 @@ module _ (p : Program) where
   abbrev pub block_in : ℕ → List Instr → ℕ → List Micro
   block_in m xs a = micros_in m (count_by is_communication (take a xs)) (slice_get xs a)
 
-  -- of instruction a of the loop of s, and of its prologue
+  -- Instruction a of the loop of s has these micro-steps, and none if a is beyond its end.
   abbrev pub block : ℕ → ℕ → List Micro
   block s a = block_in (number_or 0 (medium p s)) (turn p s) a
 

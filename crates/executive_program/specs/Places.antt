@@ -18,6 +18,8 @@ use Rattle.std.specs.Prelude.{
   Some,
   None,
   slice_get,
+  ◌<◌,
+  ◌≡◌,
 }
 use Rattle.std.specs.List.{list_any, position_or_len}
 use Rattle.flat_graph.specs.declared.vertex.Source.{Source}
@@ -36,6 +38,7 @@ use Rattle.executive_program.specs.Instructions.{
   readers,
   depth_of,
   communications,
+  prologue,
 }
 use Rattle.executive_program.specs.MicroSteps.{is_on, sent}
 
@@ -180,7 +183,8 @@ module _ (p : Program) where
   abbrev pub reader : ℕ → Reader
   reader q = reader_or (slice_get (readers p) q)
 
-  -- of the pairs before n, the signals of the empty semaphore in the prologue of s
+  -- How many signals of the empty semaphore of pair i the prologue of sequence s has: one for each
+  -- place of its buffer if s is its reader, and none otherwise.
   abbrev pub opening_signals : ℕ → ℕ → ℕ
   opening_signals s i = cond (nat_eq (reader i).sequence s) (depth_of p (reader i).buffer) 0
 
@@ -197,8 +201,8 @@ module _ (p : Program) where
     front = sum_below (opening_signals (reader q).sequence) q;
   }
 
-  -- the prologue that a sequence has: for each pair of which it is the reader, by
-  -- number, a signal of the empty semaphore for each place of the buffer
+  -- The signals of the empty semaphore of pair q in the prologue of sequence s: one for each place
+  -- of its buffer if s is its reader, and none otherwise.
   abbrev pub signals_of : ℕ → ℕ → List Instr
   signals_of s q = repeated (Pre0 q) (opening_signals s q)
 
@@ -255,8 +259,7 @@ module _ (p : Program) where
   abbrev pub places : Places
   places = record { writing = writing; pair = pair; transfer = transfer; calling = calling }
 
-  -- The source that a buffer carries: an output of the call that writes it, or what the buffer carries
-  -- whose transfer it receives. A value goes over no more transfers than there are buffers.
+  -- The source that is given if there is none: output 0 of operation 0.
   abbrev pub no_source : Source
   no_source = record { vertex = 0; port = 0 }
 
@@ -277,14 +280,21 @@ module _ (p : Program) where
       sent_in_turn w (Some m) = sent p m (communications p w.writer w.at)
   source_by inner w _ = no_source
 
-  -- Buffer b carries this source if its value has come over fewer transfers than this
-  -- number; if it has not, it is output 0 of operation 0.
+  -- Buffer b carries this source if its value has come over fewer transfers than this number; if
+  -- it has not, it is output 0 of operation 0. It is an output of the call that writes b, or what
+  -- the buffer carries whose transfer b receives.
   abbrev pub carried_within : ℕ → ℕ → Source
   carried_within zero b = no_source
   carried_within (suc hops) b = source_by (carried_within hops) (writing b)
       (slice_get (turn p (writing b).writer) (writing b).at)
 
   -- Buffer b carries the value of this source, an output of the call from which the value came,
-  -- over transfers or none; if there is no such call, it is output 0 of operation 0.
+  -- over transfers or none; if there is no such call, it is output 0 of operation 0. A value goes
+  -- over fewer transfers than there are buffers.
   abbrev pub carried : ℕ → Source
   carried b = carried_within (length p.buffers) b
+
+-- Each prologue opens the pairs by which its sequence reads, by number and once for
+-- each place, and does nothing else.
+abbrev pub AreOpened : Program → Type 0
+AreOpened p = (s : ℕ) → s < length p.seqs → prologue p s ≡ opening_of p s

@@ -40,8 +40,7 @@ module _ (depth : ℕ → ℕ) where
   abbrev pub looks_in : List Instr → ℕ
   looks_in xs = sum_by looks_of xs
 
--- How many pairs these signals open several times in succession. The
--- pair opened last, and whether it was counted, come first.
+-- A number is given, and it is q.
 abbrev pub is_last : ℕ → Option ℕ → Bool
 is_last q None = false
 is_last q (Some r) = nat_eq q r

@@ -49,7 +49,7 @@ use Rattle.executive_program.specs.declared.steps.MicroStep.TheVariants.{
   Store,
 }
 use Rattle.executive_program.specs.Blocks.{blocks}
-use Rattle.executive_program.specs.Instructions.{is_communication, number_or, len_of, pair_depth}
+use Rattle.executive_program.specs.Instructions.{is_communication, number_or, len_of, pair_depth, len_by}
 
 -- A take of a semaphore of a pair whose buffer has this many places. With one place it is one micro-step. With several
 -- the word may be above 1, so that it is seen first and then lowered by one.
@@ -89,14 +89,9 @@ abbrev pub receive_step : ℕ → ℕ → ℕ → List MicroStep
 receive_step medium buffer element = Load (Wire medium element) CarryIn ∷ Store (Buffer buffer element) CarryOut ∷ []
 
 module _ (p : Program) where
-  -- A given buffer has this many elements in each place, and 0 if none is given.
-  abbrev pub len_by : Option ℕ → ℕ
-  len_by None = 0
-  len_by (Some buffer) = len_of p buffer
-
   -- how many elements the buffer at this place of a list has, and all buffers of the list together
   abbrev pub len_at : List ℕ → ℕ → ℕ
-  len_at buffers place = len_by (slice_get buffers place)
+  len_at buffers place = len_by p (slice_get buffers place)
 
   -- These buffers have this many elements together, each buffer counted as often as it
   -- is in the list.

@@ -20,3 +20,7 @@ pub use program::{Buffer, Instr, Program, SeqCode};
 pub use sizes::{deep_pairs, plain_prologues, plain_turns, turn_micros, words};
 pub use steps::{MicroStep, OnLoad, OnStore, Place};
 pub use wires::wire_len;
+
+// What the clauses here speak of: flat graphs, architectures and interleavings.
+pub use archi_graph::{Archi, Medium, Seq};
+pub use flat_graph::{Flat, Guard, Ins, Kind, Source, Vertex, fire, len_of};

@@ -10,8 +10,8 @@ use crate::group::Group;
 use crate::ready::Ready;
 use crate::together::drivers_of;
 use outside::Gate;
-use phase_laws::job_has_laws;
 use semaphore_core::Job;
+use word_rule::job_has_laws;
 use word_table::{Closed, Driven, Fabric};
 
 /// Runs a job by one driver.

@@ -2,7 +2,7 @@
 use Rattle.std.proofs.Common.{◌≡◌, ℕ, zero, suc, ◌+◌, ◌-◌, ◌<◌, ◌≤◌, cond, List, [], ◌∷◌, ◌++◌, length, get_or, map, take, drop, refl, sym, ap, ◌∙◌, subst, arith, le-leb}
 use Rattle.std.proofs.lemmas.Bool.{lt-leb}
 use Rattle.std.specs.List.{insert}
-use Rattle.level_meaning.specs.declared.frontier.Feed.{Feed}
+use Rattle.algo_tree.specs.declared.Feed.{Feed}
 use Rattle.flat_laws.specs.Lines.{outer_of, put_line, in_line_order}
 
 -- after a line that stands before it

@@ -6,9 +6,8 @@ use Rattle.std.specs.Prelude.{IfOk}
 use Rattle.std.specs.declared.result.Result.{Result}
 use Rattle.std.specs.declared.result.Result.TheVariants.{Ok, Err}
 use Rattle.syn_base.specs.declared.memory.OutOfMemory.{OutOfMemory}
-use Rattle.level_meaning.specs.declared.frontier.Feed.{Feed}
-use Rattle.level_meaning.specs.declared.frontier.Give.{Give}
-use Rattle.level_meaning.specs.Level.{numbers_below}
+use Rattle.algo_tree.specs.declared.Feed.{Feed}
+use Rattle.algo_tree.specs.declared.Give.{Give}
 use Rattle.algo_tree.specs.Tree.{Label, Kind, graph, repeat, Vertex, vertex, Vertices, no_vertices, and_vertex}
 use Rattle.algo_tree.specs.Meaning.{vertices_in}
 use Rattle.algo_tree.specs.Typed.{label_of}
@@ -22,6 +21,7 @@ use Rattle.flat_laws.specs.Lines.{in_line_order}
 use Rattle.algo_tree.specs.Relabelled.{with_kind}
 use Rattle.flat_laws.specs.Unrolled.{explodes, copy, copies, implodes, give_sources, unrolled_inside, unrolled_at, unroll, unroll_all}
 use Rattle.algo_tree.specs.Size.{made_by, vertices_made, vertices_made_in}
+use Rattle.syn_base.specs.Numbers.{numbers_below}
 
 abbrev pub inner_of : Declared → List Declared
 inner_of u = (out-Vertex u).inner.items

@@ -1,14 +1,13 @@
 //! The frontier of an unrolled repetition: the vertices and sources that its lines become. `pass` and `vertices` call
 //! it.
 ghost use Rattle.std.specs.Prelude.{◌≡◌, ◌<◌, ◌≤◌, ◌+◌, ◌++◌, IfOk, OnOk, length, map, replicate, slice_index_or, ◌-◌, ◌==◌, if◌then◌else◌};
-ghost use Rattle.level_meaning.specs.Level.{numbers_below};
 ghost use Rattle.algo_tree.specs.View.{kind_view, view};
 ghost use Rattle.algo_tree.specs.Well.{fork_names, join_names};
 ghost use Rattle.flat_laws.specs.Unrolled.{made as vertex_made, explode_of, implode_of, explodes as exploded, implodes as imploded, copy_sources, give_sources as sources_given};
+ghost use Rattle.syn_base.specs.Numbers.{numbers_below};
 
 use crate::lines::place_of;
-use algo_tree::{Kind, MOST_VERTICES, Vertex, copy_bytes};
-use level_meaning::{Feed, Give, Part, Source};
+use algo_tree::{Feed, Give, Kind, MOST_VERTICES, Part, Source, Vertex, copy_bytes};
 use std::alloc::Global;
 use syn_base::{OutOfMemory, Shared, len_at};
 

@@ -5,8 +5,7 @@ ghost use Rattle.std.specs.List.{insert};
 ghost use Rattle.algo_tree.specs.Well.{fork_names};
 ghost use Rattle.flat_laws.specs.Lines.{fork_place, in_line_order as ordered, outer_of as outer_input, put_line};
 
-use algo_tree::MOST_VERTICES;
-use level_meaning::Feed;
+use algo_tree::{Feed, MOST_VERTICES};
 use std::alloc::Global;
 use syn_base::OutOfMemory;
 

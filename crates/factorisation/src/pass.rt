@@ -18,9 +18,8 @@ use crate::frontier::{Copies, add_implodes, begin_of, explodes};
 use crate::lines::in_line_order;
 use crate::vertices::{as_copy, as_graph};
 use algo_tree::{
-    Kind, MOST_VERTICES, SizeError, Tree, Vertex, is_large, share_vertex, with_inside,
+    Feed, Give, Kind, MOST_VERTICES, SizeError, Tree, Vertex, is_large, share_vertex, with_inside,
 };
-use level_meaning::{Feed, Give};
 use std::alloc::Global;
 use syn_base::OutOfMemory;
 

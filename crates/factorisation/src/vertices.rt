@@ -11,8 +11,7 @@ ghost use Rattle.algo_tree.specs.Relabelled.{with_kind};
 ghost use Rattle.flat_laws.specs.Unrolled.{copy, give_sources as sources_given};
 
 use crate::frontier::{Copies, copy_ins, give_sources};
-use algo_tree::{Kind, MOST_VERTICES, Vertex, rebuild};
-use level_meaning::{Feed, Give, Part};
+use algo_tree::{Feed, Give, Kind, MOST_VERTICES, Part, Vertex, rebuild};
 use std::alloc::Global;
 use syn_base::{OutOfMemory, Shared};
 

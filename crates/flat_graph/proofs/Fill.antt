@@ -5,10 +5,13 @@ use Rattle.std.proofs.lemmas.Bool.{ltb-true, ltb-false}
 use Rattle.std.proofs.lemmas.List.{length-map, set-set, set-get_or, get_or-set_same, drop-drop, take_all, drop_all, append-nil, get_or-map, get_or_append_left, get_or-append-add}
 use Rattle.std.proofs.lemmas.List.Sums.{sum_by-take-le}
 use Rattle.std.proofs.Math.Seq.{take-append_seam, drop-append-add}
-use Rattle.body_lang.specs.Expr.{Expr, numbers_below, vector_of, value_of, function_outputs}
-use Rattle.level_meaning.specs.Level.{Vector, Values, vector_at, parts_of, all_joined}
+use Rattle.body_lang.specs.Expr.{Expr, vector_of, value_of, function_outputs}
+use Rattle.level_meaning.specs.Level.{all_joined}
 use Rattle.flat_graph.specs.Put.{over}
 use Rattle.flat_graph.proofs.KindLens.{length-vector_at, sum-cons, joined_len}
+use Rattle.syn_base.specs.Vectors.{Vector, Values, vector_at}
+use Rattle.syn_base.specs.Numbers.{numbers_below}
+use Rattle.syn_base.specs.Rows.{cut}
 
 -- one place more
 pub fill : {A : Type 0} (target initial : List A) (i : ℕ) (d v : A) → i < length target → i < length initial → v ≡ slice_index_or target i d
@@ -48,11 +51,11 @@ only_set [] n v e = absurd (cc)
 only_set (w ∷ []) n v e = refl
 only_set (w ∷ u ∷ vs) n v e = absurd (let f = ap length e in let long : suc (suc (length (map length vs))) ≡ 1 = f in omega arith)
 
-pub length-parts_of : (lens : List ℕ) (v : Vector) → length (parts_of lens v) ≡ length lens
-length-parts_of [] v = refl
-length-parts_of (n ∷ lens) v = ap suc (length-parts_of lens (drop n v))
+pub length-cut : (lens : List ℕ) (v : Vector) → length (cut lens v) ≡ length lens
+length-cut [] v = refl
+length-cut (n ∷ lens) v = ap suc (length-cut lens (drop n v))
 
-pub part_at : (lens : List ℕ) (v : Vector) (i : ℕ) → i < length lens → slice_index_or (parts_of lens v) i [] ≡ take (slice_index_or lens i 0) (drop (sum (take i lens)) v)
+pub part_at : (lens : List ℕ) (v : Vector) (i : ℕ) → i < length lens → slice_index_or (cut lens v) i [] ≡ take (slice_index_or lens i 0) (drop (sum (take i lens)) v)
 part_at [] v i l = absurd (omega arith)
 part_at (n ∷ lens) v zero l = refl
 part_at (n ∷ lens) v (suc i) l =

@@ -3,7 +3,6 @@ use Rattle.std.proofs.Common.{◌≡◌, ℕ, zero, suc, ◌+◌, Bool, true, fa
 use Rattle.std.specs.Prelude.{slice_get, Option, Some, if◌then◌else◌, ℤ}
 use Rattle.std.proofs.Math.Seq.{take-append_seam, drop-append_seam}
 use Rattle.std.proofs.lemmas.List.{length-map}
-use Rattle.level_meaning.specs.Level.{Vector, Values, vector_at}
 use Rattle.flat_graph.specs.declared.vertex.Source.{Source}
 use Rattle.flat_graph.specs.declared.vertex.Kind.{Kind}
 use Rattle.flat_graph.specs.declared.vertex.Kind.TheVariants.{Get}
@@ -13,6 +12,7 @@ use Rattle.flat_graph.specs.Fire.{fired, kept}
 use Rattle.flat_graph.specs.Meaning.{sensed, is_get, delay_number, cell_of, value_in, conditions, inputs, reads, next_cell, next_from}
 use Rattle.flat_graph.specs.Laws.{IsFired, IsKept}
 use Rattle.flat_graph.proofs.Settled.{fixed_point}
+use Rattle.syn_base.specs.Vectors.{Vector, Values, vector_at}
 
 module _ (look : Source → Vector) (x : Vertex) where
   pub first_reads : take (length x.ins) (reads look x) ≡ inputs look x

@@ -10,11 +10,12 @@ use Rattle.syn_base.specs.declared.arithmetic.Op.TheVariants.{Neg}
 use Rattle.syn_base.specs.Arithmetic.{applied, wrapped}
 use Rattle.body_lang.specs.declared.expression.Expr as declared
 use Rattle.body_lang.specs.Expr.{Expr, view, literal, index, element, sum_over, negation, apply, select, PortsBelow, value_of, vector_of, function_outputs, total, element_at}
-use Rattle.level_meaning.specs.Level.{Vector, Values, vector_at, selected, merged}
+use Rattle.level_meaning.specs.Level.{selected, merged}
 use Rattle.flat_graph.specs.Valid.{ports_below, is_body, is_only, is_merge}
 use Rattle.flat_graph.proofs.Bodies.{ports_are_below}
 use Rattle.flat_graph.proofs.KindLens.{length-vector_at, only_is, selected_le, merge_lens}
 use Rattle.flat_graph.proofs.Fill.{map-take}
+use Rattle.syn_base.specs.Vectors.{Vector, Values, vector_at}
 
 pub vector_at_take : (vs : Values) (n k : ℕ) → k < n → vector_at (take n vs) k ≡ vector_at vs k
 vector_at_take vs zero k l = absurd (omega arith)
@@ -37,7 +38,7 @@ value_same vs n (select c a b) j h =
 
 pub function_same : (lens : List ℕ) (es : List Expr) (vs : Values) (n : ℕ) → list_all (ports_below n) es ≡ true → function_outputs lens es vs ≡ function_outputs lens es (take n vs)
 function_same [] es vs n h = refl
-function_same (m ∷ lens) [] vs n h = ap (λ ws. Rattle.body_lang.specs.Expr.zeros m ∷ ws) (function_same lens [] vs n h)
+function_same (m ∷ lens) [] vs n h = ap (λ ws. Rattle.syn_base.specs.Vectors.zeros m ∷ ws) (function_same lens [] vs n h)
 function_same (m ∷ lens) (e ∷ es) vs n h = let a = and_parts (ports_below n e) (list_all (ports_below n) es) h in
     λ i. vector_of m (λ j. value_same vs n e j a.0 i) ∷ function_same lens es vs n a.1 i
 

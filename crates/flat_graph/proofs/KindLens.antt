@@ -6,12 +6,15 @@ use Rattle.std.specs.Ordering.{int_eq}
 use Rattle.std.proofs.lemmas.Bool.{and_parts, eqb-true, false≢true}
 use Rattle.std.proofs.lemmas.List.{length-map, length-replicate}
 use Rattle.std.proofs.lemmas.List.Sums.{sum_by-cons}
-use Rattle.body_lang.specs.Expr.{Expr, function_outputs, numbers_below, value_of}
-use Rattle.level_meaning.specs.Level.{Vector, Values, vector_at, zeros, selected, element_at, parts_of, all_joined, merged}
+use Rattle.body_lang.specs.Expr.{Expr, function_outputs, value_of}
+use Rattle.level_meaning.specs.Level.{selected, element_at, all_joined, merged}
 use Rattle.flat_graph.specs.declared.vertex.Kind.{Kind}
 use Rattle.flat_graph.specs.declared.vertex.Kind.TheVariants.{Sensor, Actuator, Function, Constant, Get, Set, Explode, Implode, Merge}
 use Rattle.flat_graph.specs.Valid.{is_only, is_merge, fits}
 use Rattle.flat_graph.specs.Fire.{kind_outputs}
+use Rattle.syn_base.specs.Vectors.{Vector, Values, vector_at, zeros}
+use Rattle.syn_base.specs.Numbers.{numbers_below}
+use Rattle.syn_base.specs.Rows.{cut}
 
 pub length-vector_at : (vs : Values) (k : ℕ) → length (vector_at vs k) ≡ slice_index_or (map length vs) k 0
 length-vector_at [] k = refl
@@ -48,7 +51,7 @@ function_lens [] es ins = refl
 function_lens (n ∷ outs) [] ins = λ i. length-replicate n (pos 0) i ∷ function_lens outs [] ins i
 function_lens (n ∷ outs) (e ∷ es) ins = λ i. (length-map (numbers_below n) (value_of e ins) ∙ numbers_long n) i ∷ function_lens outs es ins i
 
-parts_lens : (outs : List ℕ) (v : Vector) → length v ≡ sum outs → map length (parts_of outs v) ≡ outs
+parts_lens : (outs : List ℕ) (v : Vector) → length v ≡ sum outs → map length (cut outs v) ≡ outs
 parts_lens [] v h = refl
 parts_lens (n ∷ outs) v h =
     let all : length v ≡ n + sum outs = h ∙ sum-cons n outs in

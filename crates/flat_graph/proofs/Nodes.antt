@@ -5,7 +5,7 @@ use Rattle.std.specs.List.{list_all, range_with_len}
 use Rattle.std.proofs.lemmas.Bool.{and_parts, and_from, false≢true}
 use Rattle.std.proofs.lemmas.List.FromFn.{get_or-range_with_len, length-range_with_len}
 use Rattle.std.proofs.lemmas.List.Sums.{AllPass-from_list_all}
-use Rattle.level_meaning.specs.Level.{Values, with_node}
+use Rattle.level_meaning.specs.Level.{with_node}
 use Rattle.level_meaning.specs.Order.{sources_ready, guards_ready, is_ready, settled, IsAcyclic}
 use Rattle.flat_graph.specs.declared.vertex.Source.{Source}
 use Rattle.flat_graph.specs.declared.vertex.Guard.{Guard}
@@ -14,6 +14,7 @@ use Rattle.flat_graph.specs.Graph.{Graph, with_vertex}
 use Rattle.flat_graph.specs.Order.{depends_on, get_half, is_done, is_acyclic}
 use Rattle.flat_graph.specs.Meaning.{level_source, level_guard, node_of, cell_of, nodes_from, level}
 use Rattle.flat_graph.proofs.Rounds.{ready_by_parts}
+use Rattle.syn_base.specs.Vectors.{Values}
 
 module _ (g : Graph) (cells : Values) where
   pub length-nodes_from : (v : ℕ) (xs : List Vertex) → length (nodes_from g cells v xs) ≡ length xs

@@ -6,11 +6,11 @@ use Rattle.std.proofs.lemmas.Bool.{and_parts, leb-true}
 use Rattle.std.proofs.Math.Seq.{take-append_seam}
 use Rattle.std.proofs.lemmas.List.{length-map, length-replicate}
 use Rattle.std.proofs.lemmas.List.Sums.{AllPass-from_list_all}
-use Rattle.level_meaning.specs.Level.{Vector, Values}
 use Rattle.flat_graph.specs.declared.vertex.Vertex.{Vertex}
 use Rattle.flat_graph.specs.Graph.{Graph, with_vertex, len_of, lens_of}
 use Rattle.flat_graph.specs.Valid.{is_vertex, is_path, is_len, is_guard, fits, has_twin}
 use Rattle.flat_graph.specs.Fire.{read_lens, cell_len, seen_len, out_lens, kind_cell_len, kind_seen_len}
+use Rattle.syn_base.specs.Vectors.{Vector, Values}
 
 -- the element at a place
 pub element_there : (xs : List Vertex) (v : ℕ) (x : Vertex) → v < length xs → x ≡ slice_index_or xs v x → slice_get xs v ≡ Some x

@@ -3,7 +3,7 @@ use Rattle.std.proofs.Common.{◌≡◌, true, ◌&&◌, ◌==◌, List, [], ◌
 use Rattle.std.specs.Prelude.{IsTrue, if◌then◌else◌}
 use Rattle.std.proofs.lemmas.Bool.{and_parts}
 use Rattle.level_meaning.specs.declared.source.Source as of_level
-use Rattle.level_meaning.specs.Level.{Vector, zeros, selected, all_hold, level_value}
+use Rattle.level_meaning.specs.Level.{selected, all_hold, level_value}
 use Rattle.level_meaning.proofs.Fuel.{out_is}
 use Rattle.flat_graph.specs.declared.vertex.Source.{Source}
 use Rattle.flat_graph.specs.declared.vertex.Guard.{Guard}
@@ -14,6 +14,7 @@ use Rattle.flat_graph.specs.Fire.{guards_hold, kind_outputs}
 use Rattle.flat_graph.specs.Meaning.{level_source, level_guard, node_of, cell_of, level, sensed, no_state}
 use Rattle.flat_graph.specs.Laws.{IsFixedPoint}
 use Rattle.flat_graph.proofs.Nodes.{node_at, has_no_cycle}
+use Rattle.syn_base.specs.Vectors.{Vector, zeros}
 
 module _ (look : of_level.Source → Vector) where
   pub same_guards : (gs : List Guard) → all_hold look (map level_guard gs) ≡ guards_hold gs (map (λ d. look (level_source d.source)) gs)

@@ -3,19 +3,20 @@ use Rattle.std.proofs.Common.{◌≡◌, ℕ, zero, suc, ◌+◌, Bool, true, fa
 use Rattle.std.specs.Prelude.{slice_get, slice_index_or, Option, None, Some, if◌then◌else◌, nat_lt}
 use Rattle.std.proofs.lemmas.Bool.{and_parts, false≢true}
 use Rattle.level_meaning.specs.declared.source.Source as of_level
-use Rattle.level_meaning.specs.Level.{Vector, Values, vector_at, zeros, all_hold, source_value, out}
+use Rattle.level_meaning.specs.Level.{all_hold, source_value, out}
 use Rattle.flat_graph.specs.declared.vertex.Source.{Source}
 use Rattle.flat_graph.specs.declared.vertex.Kind.{Kind}
 use Rattle.flat_graph.specs.declared.vertex.Kind.TheVariants.{Sensor, Actuator, Function, Constant, Get, Set, Explode, Implode, Merge}
 use Rattle.flat_graph.specs.declared.vertex.Vertex.{Vertex}
 use Rattle.flat_graph.specs.Graph.{Graph, with_vertex, len_of, lens_of}
-use Rattle.flat_graph.specs.Valid.{is_flat, is_vertex, fits, names, is_only, is_set_half_by, is_set_half_of, has_set_half, has_twin, all_from}
+use Rattle.flat_graph.specs.Valid.{is_flat, is_vertex, fits, is_only, is_set_half_by, is_set_half_of, has_set_half, has_twin, all_from, is_number}
 use Rattle.flat_graph.specs.Fire.{guards_hold, kind_outputs, stored, kept}
 use Rattle.flat_graph.specs.Meaning.{level_source, level_guard, sensed, is_get, delay_number, no_state, cell_of, level, value_in, conditions, inputs, next_cell, next_from}
 use Rattle.flat_graph.specs.Laws.{sensor_lens, delay_len, delay_lens, KeepsLengths}
 use Rattle.flat_graph.proofs.Facts.{all_valid, vertex_valid, fits_of, twin_of, sensor_at, delay_at}
 use Rattle.flat_graph.proofs.KindLens.{length-vector_at, length-zeros, only_is, HasSeen, HasCell, kind_lens}
 use Rattle.flat_graph.proofs.Nodes.{node_at, none_at}
+use Rattle.syn_base.specs.Vectors.{Vector, Values, vector_at, zeros}
 
 module _ (g : Graph) (cells row : Values) (valid : is_flat g ≡ true) (rows_fit : map length row ≡ sensor_lens g.vertices) (cells_fit : map length cells ≡ delay_lens g.vertices) where
   has_seen : (v : ℕ) (x : Vertex) → slice_get g.vertices v ≡ Some x → HasSeen x.kind x.outs (sensed x.kind row)
@@ -90,7 +91,7 @@ module _ (g : Graph) (cells row : Values) (valid : is_flat g ≡ true) (rows_fit
       → length (stored kind b cell (vector_at (inputs (value_in g cells row) y) 0)) ≡ len
   kept_len v len y cell Set true h l =
       length-vector_at (inputs (value_in g cells row) y) 0
-      ∙ ap (λ (ns : List ℕ). slice_index_or ns 0 0) (inputs_fit y.ins ∙ only_is len (lens_of g.vertices y.ins) (and_parts (names y.twin v) (is_only len (lens_of g.vertices y.ins)) h).1)
+      ∙ ap (λ (ns : List ℕ). slice_index_or ns 0 0) (inputs_fit y.ins ∙ only_is len (lens_of g.vertices y.ins) (and_parts (is_number y.twin v) (is_only len (lens_of g.vertices y.ins)) h).1)
   kept_len v len y cell Set false h l = l
   kept_len v len y cell (Sensor i) b h l = absurd (false≢true h)
   kept_len v len y cell (Actuator i) b h l = absurd (false≢true h)

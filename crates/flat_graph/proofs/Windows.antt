@@ -1,10 +1,10 @@
 -- A run may be cut into windows.
 use Rattle.std.proofs.Common.{◌≡◌, ℕ, zero, suc, ◌+◌, ◌<◌, ◌≤◌, List, [], ◌∷◌, ◌++◌, length, refl, arith, add-suc, add-zero, zero-add, suc-add}
 use Rattle.std.specs.Prelude.{slice_index_or}
-use Rattle.level_meaning.specs.Level.{Values}
 use Rattle.flat_graph.specs.Graph.{Graph}
 use Rattle.flat_graph.specs.Meaning.{outputs_in, value_in, taken, next_cells, cells_after}
 use Rattle.flat_graph.specs.Laws.{RunsInWindows}
+use Rattle.syn_base.specs.Vectors.{Values}
 
 at_front : {A : Type 0} (xs ys : List A) (d : A) (k : ℕ) → k < length xs → slice_index_or (xs ++ ys) k d ≡ slice_index_or xs k d
 at_front [] ys d k h = absurd (omega arith)

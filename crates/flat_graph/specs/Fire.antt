@@ -20,7 +20,7 @@ use Rattle.std.specs.Prelude.{
   slice_get,
 }
 use Rattle.body_lang.specs.Expr.{Expr, function_outputs}
-use Rattle.level_meaning.specs.Level.{Vector, Values, vector_at, zeros, selected, parts_of, all_joined, merged}
+use Rattle.level_meaning.specs.Level.{selected, all_joined, merged}
 use Rattle.flat_graph.specs.declared.vertex.Guard.{Guard}
 use Rattle.flat_graph.specs.declared.vertex.Kind.{Kind}
 use Rattle.flat_graph.specs.declared.vertex.Kind.TheVariants.{
@@ -36,6 +36,8 @@ use Rattle.flat_graph.specs.declared.vertex.Kind.TheVariants.{
 }
 use Rattle.flat_graph.specs.declared.vertex.Vertex.{Vertex}
 use Rattle.flat_graph.specs.Graph.{Graph, with_vertex, lens_of}
+use Rattle.syn_base.specs.Vectors.{Vector, Values, vector_at, zeros}
+use Rattle.syn_base.specs.Rows.{cut}
 
 -- The guards hold, where their sources have these values.
 abbrev pub guards_hold : List Guard → Values → Bool
@@ -50,7 +52,7 @@ kind_outputs bodies (Function b) outs cell seen ins = function_outputs outs (sli
 kind_outputs bodies (Constant z) outs cell seen ins = z ∷ []
 kind_outputs bodies (Get z) outs cell seen ins = cell ∷ []
 kind_outputs bodies Set outs cell seen ins = []
-kind_outputs bodies Explode outs cell seen ins = parts_of outs (vector_at ins 0)
+kind_outputs bodies Explode outs cell seen ins = cut outs (vector_at ins 0)
 kind_outputs bodies Implode outs cell seen ins = all_joined ins ∷ []
 kind_outputs bodies (Merge values) outs cell seen ins = merged values ins ∷ []
 

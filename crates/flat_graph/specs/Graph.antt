@@ -1,5 +1,5 @@
 -- A flat graph as plain data.
-use Rattle.std.specs.Prelude.{ℕ, List, map, Option, None, Some, slice_get, slice_index_or, refl}
+use Rattle.std.specs.Prelude.{ℕ, List, map, Option, None, Some, slice_get, slice_index_or, refl, [], Bool, nat_eq, ◌&&◌}
 use Rattle.std.specs.Coded.{Coded, code_by, coded×, coded_list}
 use Rattle.body_lang.specs.Expr.{Expr}
 use Rattle.flat_graph.specs.declared.vertex.Source.{Source}
@@ -30,3 +30,11 @@ graph_code vertex expr =
     (λ g. (g.vertices, g.bodies))
     (λ p. record { vertices = p.0; bodies = p.1 })
     (λ _. refl)
+
+-- The name of operation v, and the empty text if there is no operation v.
+abbrev pub operation_name : List Vertex → ℕ → List ℕ
+operation_name vertices v = with_vertex (slice_get vertices v) [] (λ x. x.name)
+
+-- Both are the same output of the same operation.
+abbrev pub same_source : Source → Source → Bool
+same_source x y = nat_eq x.vertex y.vertex && nat_eq x.port y.port

@@ -1,10 +1,9 @@
 -- Laws of the flat meaning.
 use Rattle.std.specs.Prelude.{◌≡◌, ℕ, ◌+◌, ℤ, IsTrue, List, [], ◌∷◌, ◌++◌, map, length, Some, slice_get, slice_index_or}
-use Rattle.level_meaning.specs.Level.{Values}
 use Rattle.flat_graph.specs.declared.vertex.Kind.{Kind}
-use Rattle.flat_graph.specs.declared.vertex.Kind.TheVariants.{Sensor, Get}
+use Rattle.flat_graph.specs.declared.vertex.Kind.TheVariants.{Sensor, Get, Actuator}
 use Rattle.flat_graph.specs.declared.vertex.Vertex.{Vertex}
-use Rattle.flat_graph.specs.Graph.{Graph}
+use Rattle.flat_graph.specs.Graph.{Graph, lens_of}
 use Rattle.flat_graph.specs.Valid.{is_flat}
 use Rattle.flat_graph.specs.Fire.{fired, fired_at, kept_at}
 use Rattle.flat_graph.specs.Meaning.{
@@ -20,6 +19,7 @@ use Rattle.flat_graph.specs.Meaning.{
   flat_outputs,
   flat_act_row,
 }
+use Rattle.syn_base.specs.Vectors.{Values}
 
 -- Each operation gives what it makes of what its sources give.
 abbrev pub IsFixedPoint : Type 0
@@ -75,3 +75,14 @@ KeepsLengths = (g : Graph) (cells row : Values) → IsTrue (is_flat g)
     → map length row ≡ sensor_lens g.vertices → map length cells ≡ delay_lens g.vertices
     → ((v : ℕ) (x : Vertex) → slice_get g.vertices v ≡ Some x → map length (outputs_in g cells row v) ≡ x.outs)
     × (map length (next_cells g cells row) ≡ delay_lens g.vertices)
+
+-- A list that holds the length of the vector that an actuator takes, or nothing if the operation is
+-- none.
+abbrev pub actuator_len : Graph → Vertex → Kind → List ℕ
+actuator_len g x (Actuator i) = lens_of g.vertices x.ins
+actuator_len g x _ = []
+
+-- The lengths of the vectors that the actuators among these operations take, in order.
+abbrev pub actuator_lens : Graph → List Vertex → List ℕ
+actuator_lens g [] = []
+actuator_lens g (x ∷ xs) = actuator_len g x x.kind ++ actuator_lens g xs

@@ -26,7 +26,7 @@ use Rattle.level_meaning.specs.declared.part.Part.TheVariants.{Numbered}
 use Rattle.level_meaning.specs.declared.source.Source.TheVariants.{Of}
 use Rattle.level_meaning.specs.declared.source.Source as of_level
 use Rattle.level_meaning.specs.declared.source.Guard as guard_of_level
-use Rattle.level_meaning.specs.Level.{Vector, Values, State, Node, vector_at, out, level_value}
+use Rattle.level_meaning.specs.Level.{State, Node, out, level_value}
 use Rattle.flat_graph.specs.declared.vertex.Source.{Source}
 use Rattle.flat_graph.specs.declared.vertex.Guard.{Guard}
 use Rattle.flat_graph.specs.declared.vertex.Kind.{Kind}
@@ -34,6 +34,7 @@ use Rattle.flat_graph.specs.declared.vertex.Kind.TheVariants.{Sensor, Actuator, 
 use Rattle.flat_graph.specs.declared.vertex.Vertex.{Vertex}
 use Rattle.flat_graph.specs.Graph.{Graph, with_vertex}
 use Rattle.flat_graph.specs.Fire.{kind_outputs, kept}
+use Rattle.syn_base.specs.Vectors.{Vector, Values, vector_at}
 
 -- A source of a flat graph as a source of a level.
 abbrev pub level_source : Source → of_level.Source
@@ -101,7 +102,7 @@ module _ (g : Graph) (cells : Values) where
   abbrev pub value_in : Values → Source → Vector
   value_in row s = level_value level row no_state [] (level_source s)
 
--- The values of the sources of an operation's guards, and of its inputs.
+-- The values of the sources of an operation's guards, in order.
 abbrev pub conditions : (Source → Vector) → Vertex → Values
 conditions look x = map (λ g. look g.source) x.guards
 
@@ -119,7 +120,8 @@ next_cell vertices look None cell = cell
 next_cell vertices look (Some t) cell =
     with_vertex (slice_get vertices t) cell (λ y. kept y cell (conditions look y) (inputs look y))
 
--- Get half by get half.
+-- The cells after a reaction of the delays whose get halves are among these operations, in order,
+-- from the cells that they had before it.
 abbrev pub next_from : List Vertex → (Source → Vector) → List Vertex → Values → Values
 next_from vertices look [] cells = []
 next_from vertices look (x ∷ xs) cells =

@@ -1,6 +1,6 @@
 -- A vector written over another.
 use Rattle.std.specs.Prelude.{ℕ, ◌+◌, ◌++◌, length, take, drop}
-use Rattle.level_meaning.specs.Level.{Vector}
+use Rattle.syn_base.specs.Vectors.{Vector}
 
 -- The values v stand in w from this place on.
 abbrev pub over : ℕ → Vector → Vector → Vector

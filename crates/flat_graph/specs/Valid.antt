@@ -22,6 +22,7 @@ use Rattle.std.specs.Prelude.{
   Some,
   is_none,
   slice_get,
+  ◌≤◌,
 }
 use Rattle.std.specs.List.{list_all, list_any}
 use Rattle.std.specs.Str.{bytes_eq}
@@ -60,6 +61,10 @@ are_named_apart (x ∷ xs) = not (list_any (λ y. bytes_eq x.name y.name) xs) &&
 -- The number is the length of a vector: 1 to 64.
 abbrev pub is_len : ℕ → Bool
 is_len n = nat_le 1 n && nat_le n 64
+
+-- The operation has at most 64 outputs.
+abbrev pub HasFewOutputs : Vertex → Type 0
+HasFewOutputs x = length x.outs ≤ 64
 
 -- The guard's source has one element, and its case is there.
 abbrev pub is_guard : List Vertex → Guard → Bool
@@ -103,15 +108,15 @@ fits bodies Explode lens outs = is_only (sum outs) lens
 fits bodies Implode lens outs = is_only (sum lens) outs
 fits bodies (Merge values) lens outs = is_merge (length values) lens outs
 
--- There is a twin, and it is operation v.
-abbrev pub names : Option ℕ → ℕ → Bool
-names None v = false
-names (Some u) v = u == v
+-- A number is given, and it is v.
+abbrev pub is_number : Option ℕ → ℕ → Bool
+is_number None v = false
+is_number (Some u) v = u == v
 
 -- The operation y, of this kind, is the set half of a delay of this length, whose get
 -- half is operation v.
 abbrev pub is_set_half_by : List Vertex → ℕ → ℕ → Vertex → Kind → Bool
-is_set_half_by vertices v len y Set = names y.twin v && is_only len (lens_of vertices y.ins)
+is_set_half_by vertices v len y Set = is_number y.twin v && is_only len (lens_of vertices y.ins)
 is_set_half_by vertices v len y _ = false
 
 -- It is the set half of a delay of this length, whose get half is operation v.
@@ -120,7 +125,7 @@ is_set_half_of vertices v len y = is_set_half_by vertices v len y y.kind
 
 -- The operation y, of this kind, is the get half of a delay whose set half is operation v.
 abbrev pub is_get_half_by : ℕ → Vertex → Kind → Bool
-is_get_half_by v y (Get z) = names y.twin v
+is_get_half_by v y (Get z) = is_number y.twin v
 is_get_half_by v y _ = false
 
 -- It is the get half of a delay whose set half is operation v.
@@ -175,7 +180,9 @@ actuators_from n (_ ∷ kinds) = actuators_from n kinds
 abbrev pub kinds_of : List Vertex → List Kind
 kinds_of vertices = map (λ x. x.kind) vertices
 
--- Valid operations and bodies.
+-- The flat graph is valid: it has at most 2,048 operations, each of them valid and with a name of
+-- its own, its sensors and its actuators are each numbered from 0 in order, and no operation
+-- depends on itself within a reaction.
 abbrev pub is_flat : Graph → Bool
 is_flat g =
     nat_le (length g.vertices) 2048 &&

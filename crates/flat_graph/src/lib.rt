@@ -26,3 +26,6 @@ pub use lengths::len_of;
 pub use operation::fire;
 pub use valid::is_flat;
 pub use vertex::{Guard, Kind, Source, Vertex};
+
+// What the clauses here speak of: the functions of operations, and their levels.
+pub use body_lang::{Body, Ins};

@@ -1,8 +1,9 @@
 //! The step of one operation in one reaction. `semaphore_core` calls it by `fire`.
 ghost use Rattle.std.specs.Prelude.{◌≡◌, ◌+◌, ◌<◌, ◌≤◌, ◌==◌, All, IsTrue, true, length, map, take, drop};
-ghost use Rattle.level_meaning.specs.Level.{element_at, selected, vector_at};
+ghost use Rattle.level_meaning.specs.Level.{element_at, selected};
 ghost use Rattle.flat_graph.specs.Valid.{fits};
 ghost use Rattle.flat_graph.specs.Fire.{cell_len, fired, fired_at, guards_hold, kept, kept_at, kind_cell_len, kind_outputs, kind_seen_len, out_lens, read_lens, seen_len, stored};
+ghost use Rattle.syn_base.specs.Vectors.{vector_at};
 
 use crate::flat::Flat;
 use crate::put::{put_joined, put_only, put_parts, put_values, put_zeros};

@@ -2,7 +2,9 @@
 ghost use Rattle.std.specs.Prelude.{◌≡◌, ◌+◌, ◌<◌, ◌≤◌, [], ◌∷◌, All, length, map, take, slice_set, sum};
 ghost use Rattle.body_lang.specs.Expr.{view, function_outputs, vector_of, value_of, PortsBelow};
 ghost use Rattle.flat_graph.specs.Put.{over};
-ghost use Rattle.level_meaning.specs.Level.{all_joined, parts_of, vector_at, zeros};
+ghost use Rattle.level_meaning.specs.Level.{all_joined};
+ghost use Rattle.syn_base.specs.Vectors.{vector_at, zeros};
+ghost use Rattle.syn_base.specs.Rows.{cut};
 
 use body_lang::{Expr, Ins, value};
 
@@ -40,7 +42,7 @@ fn zero_vector(len: u32) -> &'static [i64]
 pub fn put_parts(lens: &[u32], whole: &[i64], outs: &mut Ins)
     requires lens { map length outs.old ≡ lens.now }
     requires whole { length whole.now ≡ sum lens.now }
-    ensures { outs.new ≡ parts_of lens.now whole.now }
+    ensures { outs.new ≡ cut lens.now whole.now }
 {
     let mut from = 0;
     for (port, len) in lens.iter().enumerate() {

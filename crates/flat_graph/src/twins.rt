@@ -1,7 +1,7 @@
 //! The twins of operations: the two halves of each delay. `valid` calls it.
 ghost use Rattle.std.specs.Prelude.{◌≡◌, false, slice_get};
 ghost use Rattle.flat_graph.specs.Graph.{lens_of, with_vertex};
-ghost use Rattle.flat_graph.specs.Valid.{has_get_half, has_set_half, has_twin, is_get_half_of, is_only, is_set_half_of, names};
+ghost use Rattle.flat_graph.specs.Valid.{has_get_half, has_set_half, has_twin, is_get_half_of, is_only, is_set_half_of, is_number};
 
 use crate::lengths::len_of;
 use crate::vertex::{Kind, Source, Vertex};
@@ -63,7 +63,7 @@ fn is_get_half(vertices: &[Vertex], v: usize, twin: usize) -> bool
 
 /// Whether this twin is operation `v`.
 fn is_named(twin: Option<u32>, v: usize) -> bool
-    ensures { result ≡ names twin v }
+    ensures { result ≡ is_number twin v }
 {
     match twin {
         Some(twin) => twin as usize == v,

@@ -5,12 +5,12 @@ use Rattle.std.specs.Prelude.{Contains, option_map}
 use Rattle.std.proofs.lemmas.Bool.{false≢true}
 use Rattle.std.proofs.lemmas.Option.{slice_get_within, slice_get-map}
 use Rattle.std.proofs.lemmas.List.{length-map}
-use Rattle.body_lang.specs.Expr.{Expr}
-use Rattle.level_meaning.specs.Level.{Node, with_node}
-use Rattle.level_meaning.specs.Order.{sources_ready, guards_ready, is_ready, settled, IsAcyclic}
-use Rattle.level_meaning.proofs.Fuel.{and-left, and-right}
+use Rattle.algo_tree.specs.Level.{Node, with_node}
+use Rattle.algo_tree.specs.Order.{sources_ready, guards_ready, is_ready, settled, IsAcyclic}
+use Rattle.algo_tree.proofs.Fuel.{and-left, and-right}
 use Rattle.algo_tree.specs.Tree as tree
 use Rattle.algo_tree.specs.Valid.{IsTree}
+use Rattle.flat_graph.specs.Expr.{Expr}
 use Rattle.flat_graph.specs.declared.vertex.Source.{Source}
 use Rattle.flat_graph.specs.declared.vertex.Guard.{Guard}
 use Rattle.flat_graph.specs.declared.vertex.Kind.{Kind}
@@ -19,10 +19,10 @@ use Rattle.flat_graph.specs.declared.vertex.Vertex.{Vertex}
 use Rattle.flat_graph.specs.Graph.{Graph}
 use Rattle.flat_graph.specs.Order.{depends_on, get_half, is_acyclic}
 use Rattle.flat_graph.specs.Cycles.{DependsOn, LeadsTo, at_once, through, AllAreThere}
-use Rattle.flat_graph.specs.Meaning.{level_source, level_guard, is_get}
+use Rattle.flat_graph.specs.Meaning.{level_source, level_guard, is_get, no_state}
 use Rattle.flat_graph.proofs.Loops.{rounds_find_cycles}
 use Rattle.flat_laws.specs.Flat as list
-use Rattle.flat_laws.specs.Flat.{Operation, sets, flat_level, no_state}
+use Rattle.flat_laws.specs.Flat.{Operation, sets, flat_level}
 use Rattle.flat_laws.specs.Inlined.{operations}
 use Rattle.flat_laws.specs.Plain.{IsPlain}
 use Rattle.flat_laws.proofs.Flatten.{flatten-keeps}

@@ -1,12 +1,13 @@
 -- The functions of a flat list have as many outputs as those of the tree.
 use Rattle.std.proofs.Common.{◌≡◌, ℕ, zero, suc, ◌+◌, List, [], ◌∷◌, ◌++◌, map, Some, slice_get, subst}
-use Rattle.level_meaning.specs.declared.source.Source.{Source}
-use Rattle.level_meaning.specs.Level.{Vector, Path}
+use Rattle.algo_tree.specs.declared.Source.{Source}
+use Rattle.algo_tree.specs.Level.{Path}
 use Rattle.algo_tree.specs.Tree.{Label, Kind, sensor, actuator, constant, delay, function, explode, implode, merge, graph, switch, repeat, Vertex, vertex, Vertices, no_vertices, and_vertex}
 use Rattle.algo_tree.specs.Counted.{operations as count}
 use Rattle.flat_laws.specs.Flat.{Operation, Task, runs, gets, sets}
 use Rattle.flat_laws.specs.Inlined.{wire, wirings, stages, inlined_by, inlined, inlined_all, operations}
 use Rattle.algo_tree.specs.Bounded.{IsKindBounded, IsBounded, AllBounded, HasBounds}
+use Rattle.syn_base.specs.Vectors.{Vector}
 
 abbrev pub IsTaskBounded : Task → List ℕ → Type 0
 IsTaskBounded (runs k) outs = IsKindBounded k outs

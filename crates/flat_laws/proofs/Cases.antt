@@ -6,23 +6,25 @@ use Rattle.std.proofs.lemmas.List.{map-append}
 use Rattle.std.proofs.lemmas.Bool.{cases_lt, false≢true}
 use Rattle.std.proofs.lemmas.Bool.Decides.{eqb_tells}
 use Rattle.std.specs.Ordering.{int_eq}
-use Rattle.level_meaning.specs.declared.source.Source.{Source}
-use Rattle.level_meaning.specs.declared.source.Source.TheVariants.{Own, Of}
-use Rattle.level_meaning.specs.declared.source.Guard.{Guard}
-use Rattle.level_meaning.specs.declared.part.Part.{Part}
-use Rattle.level_meaning.specs.declared.part.Part.TheVariants.{Port}
-use Rattle.level_meaning.specs.Level.{Values, Vector, State, Path, Node, below, vector_at, element_at, numbers_below, zeros, selected, source_value, all_hold, with_node, same_part, find_node, node_outputs, node_next, out, case_look, case_outputs, switch_outputs, switch_next, graph_outputs, graph_next, graph_initial}
-use Rattle.level_meaning.specs.Order.{IsAcyclic, IsBefore, AreBefore, GuardsBefore, MeetsLevel}
-use Rattle.level_meaning.specs.Parts.{IsApart, HasDistinctParts}
+use Rattle.algo_tree.specs.declared.Source.{Source}
+use Rattle.algo_tree.specs.declared.Source.TheVariants.{Own, Of}
+use Rattle.algo_tree.specs.declared.Guard.{Guard}
+use Rattle.algo_tree.specs.declared.Part.{Part}
+use Rattle.algo_tree.specs.declared.Part.TheVariants.{Port}
+use Rattle.algo_tree.specs.Level.{State, Path, Node, below, element_at, selected, source_value, all_hold, with_node, same_part, find_node, node_outputs, node_next, out, case_look, case_outputs, switch_outputs, switch_next, graph_outputs, graph_next, graph_initial}
+use Rattle.algo_tree.specs.Order.{IsAcyclic, IsBefore, AreBefore, GuardsBefore, MeetsLevel}
+use Rattle.algo_tree.specs.Parts.{IsApart, HasDistinctParts}
+use Rattle.algo_tree.proofs.Fuel.{unique}
+use Rattle.algo_tree.proofs.InOrder.{acyclic-in_order}
 use Rattle.algo_tree.specs.Meaning.{node, nodes}
 use Rattle.algo_tree.specs.Well.{IsOwn, AreOwn, OwnGuards}
 use Rattle.algo_tree.proofs.SameParts.{same_itself, same_means}
 use Rattle.flat_laws.specs.Guarded.{guard_for, merge_of, merges, merge_sources}
-use Rattle.level_meaning.proofs.Fuel.{unique}
-use Rattle.level_meaning.proofs.InOrder.{acyclic-in_order}
 use Rattle.algo_tree.proofs.Segments.{OrderFrom, in_order-from, order-append, before_below}
 use Rattle.algo_tree.proofs.Lists.{append_left, append_right, map_below, at_below, mapped, map_map, none_past}
 use Rattle.flat_laws.proofs.Guards.{Follows, Under, hold-append, AllStill, at_found, still_found, graph-still}
+use Rattle.syn_base.specs.Vectors.{Vector, Values, vector_at, zeros}
+use Rattle.syn_base.specs.Numbers.{numbers_below}
 
 -- fed by the level's own inputs alone
 pub record IsFed (d : Node) : Type 0 where

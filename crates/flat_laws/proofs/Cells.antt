@@ -4,23 +4,25 @@ use Rattle.std.specs.Prelude.{if◌then◌else◌}
 use mathlib.Core.Path.{fun_ext}
 use Rattle.std.proofs.lemmas.Bool.{false≢true, eqb-true}
 use Rattle.std.proofs.lemmas.List.{append_assoc}
-use Rattle.level_meaning.specs.declared.source.Source.{Source}
-use Rattle.level_meaning.specs.declared.source.Source.TheVariants.{Own}
+use Rattle.algo_tree.specs.declared.Source.{Source}
+use Rattle.algo_tree.specs.declared.Source.TheVariants.{Own}
+use Rattle.algo_tree.specs.declared.Guard.{Guard}
+use Rattle.algo_tree.specs.declared.Part.{Part}
+use Rattle.algo_tree.specs.Level.{State, Path, Node, all_hold, with_node, same_part, find_node, node_next, level_value, graph_next, graph_initial, delay_next}
+use Rattle.algo_tree.specs.Parts.{IsApart, HasDistinctParts}
+use Rattle.algo_tree.specs.Order.{IsAcyclic}
 use Rattle.algo_tree.specs.Tree.{Label, Kind, sensor, actuator, constant, delay, function, explode, implode, merge, graph, switch, repeat, Vertex, vertex, Vertices, no_vertices, and_vertex}
-use Rattle.level_meaning.specs.declared.source.Guard.{Guard}
-use Rattle.level_meaning.specs.declared.part.Part.{Part}
-use Rattle.level_meaning.specs.Level.{Values, Vector, State, Path, Node, vector_at, zeros, all_hold, with_node, same_part, find_node, node_next, level_value, graph_next, graph_initial, delay_next}
 use Rattle.algo_tree.specs.Meaning.{node, nodes}
-use Rattle.level_meaning.specs.Parts.{IsApart, HasDistinctParts}
 use Rattle.algo_tree.proofs.SameParts.{same_itself, same_means}
-use Rattle.flat_laws.specs.Flat.{Operation, Task, runs, gets, sets, Stages, stages_of, same_path, is_set, is_get, set_value, initial_value, pick, next_cells, first_cells, no_state}
+use Rattle.flat_laws.specs.Flat.{Operation, Task, runs, gets, sets, Stages, stages_of, same_path, is_set, is_get, set_value, initial_value, pick, next_cells, first_cells}
 use Rattle.flat_laws.specs.Inlined.{nowhere, wire, wirings, operation_of, stage_input, stages, inlined_by, inlined, inlined_all, inlined_level}
 use Rattle.algo_tree.specs.Counted.{operations as count}
 use Rattle.flat_laws.proofs.Inlinable.{with_kind, IsKindInlinable, CanInline, AllCanInline}
 use Rattle.algo_tree.proofs.Lists.{map_map}
-use Rattle.level_meaning.specs.Order.{IsAcyclic}
 use Rattle.flat_laws.proofs.Long.{IsKindLong, IsLong, AllLong}
 use Rattle.flat_laws.proofs.Wires.{long-inlined, Meets, meets-left, meets-right, hold-wired, own_wired, Reads, reads-all}
+use Rattle.flat_graph.specs.Meaning.{no_state}
+use Rattle.syn_base.specs.Vectors.{Vector, Values, vector_at, zeros}
 
 -- paths below a level differ just where their rests do
 abbrev pub Keeps : (Path → Path) → Type 0

@@ -5,15 +5,15 @@ use Rattle.std.proofs.lemmas.List.{map-append}
 use Rattle.std.proofs.lemmas.Slice.Eq.{bytes_eq-Decides}
 use Rattle.std.proofs.Math.Dec.{eqb-suc-zero}
 use Rattle.std.specs.Str.{bytes_eq}
-use Rattle.level_meaning.specs.declared.source.Source.{Source}
-use Rattle.level_meaning.specs.declared.source.Source.TheVariants.{Own, Of}
-use Rattle.level_meaning.specs.declared.part.Part.TheVariants.{Numbered}
-use Rattle.level_meaning.specs.declared.frontier.Feed.{Feed}
-use Rattle.level_meaning.specs.declared.frontier.Feed.TheVariants.{Fork, Diffuse, Iterate}
-use Rattle.level_meaning.specs.declared.frontier.Give.{Give}
-use Rattle.level_meaning.specs.declared.frontier.Give.TheVariants.{Last, Join}
-use Rattle.level_meaning.specs.Level.{Path, numbers_below}
-use Rattle.level_meaning.specs.Order.{IsAcyclic}
+use Rattle.algo_tree.specs.declared.Source.{Source}
+use Rattle.algo_tree.specs.declared.Source.TheVariants.{Own, Of}
+use Rattle.algo_tree.specs.declared.Part.TheVariants.{Numbered}
+use Rattle.algo_tree.specs.declared.Feed.{Feed}
+use Rattle.algo_tree.specs.declared.Feed.TheVariants.{Fork, Diffuse, Iterate}
+use Rattle.algo_tree.specs.declared.Give.{Give}
+use Rattle.algo_tree.specs.declared.Give.TheVariants.{Last, Join}
+use Rattle.algo_tree.specs.Level.{Path}
+use Rattle.algo_tree.specs.Order.{IsAcyclic}
 use Rattle.algo_tree.specs.Tree.{Label, Kind, sensor, actuator, constant, delay, function, explode, implode, merge, graph, switch, repeat, Vertex, vertex, Vertices, no_vertices, and_vertex}
 use Rattle.algo_tree.specs.Meaning.{asked_by, nodes}
 use Rattle.algo_tree.specs.View.{vertices_of}
@@ -25,6 +25,7 @@ use Rattle.flat_laws.proofs.Lines.{AllLines, IsLine, lines-are, many-lines, plac
 use Rattle.flat_laws.specs.Origins.{Origin, nowhere, origin_at, inside, port, output_of, Outlet, origin_by, origin_in, copy_input, copy_inputs, copy_output, give_origin, leads_by, outlets, body_leads}
 use Rattle.flat_laws.proofs.Following.{given, matched, origin-is}
 use Rattle.flat_laws.proofs.Rows.{unit_of, outlets-of}
+use Rattle.syn_base.specs.Numbers.{numbers_below}
 
 -- a delay leads to its get half, whatever it takes
 blind : (p : Path) (k : Kind) (us : List Outlet) (body : ℕ → List Origin → ℕ → Origin) (f : Source → Origin) (ss : List Source) (q : ℕ) → leads_by p k us body (map f (asked_by k ss)) q ≡ leads_by p k us body (map f ss) q

@@ -1,25 +1,25 @@
 -- The sensors and actuators of a flat graph have the lengths that those of the tree have.
 use Rattle.std.proofs.Common.{◌≡◌, ℕ, suc, List, [], ◌∷◌, ◌++◌, length, map, Option, Some, None, refl, sym, ap, ap₂, ◌∙◌, subst, arith}
-use Rattle.body_lang.specs.Expr.{Expr}
-use Rattle.level_meaning.specs.declared.source.Source.{Source}
-use Rattle.level_meaning.specs.Level.{Path}
+use Rattle.algo_tree.specs.declared.Source.{Source}
+use Rattle.algo_tree.specs.Level.{Path}
 use Rattle.algo_tree.specs.Tree as tree
 use Rattle.algo_tree.specs.Tree.{Label, sensor, actuator, constant, delay, function, explode, implode, merge, graph, switch, repeat, vertex, Vertices, no_vertices, and_vertex}
 use Rattle.algo_tree.specs.Ends.{IsNoEnd, first_length, sensor_length, actuator_length, sensor_lengths_in, actuator_lengths_in}
 use Rattle.algo_tree.specs.Meaning.{nodes}
 use Rattle.algo_tree.specs.Typed.{outs_of, source_length, IsKindTyped, IsTyped, AllTyped, IsBodyTyped}
 use Rattle.algo_tree.specs.Valid.{IsTree}
+use Rattle.flat_graph.specs.Expr.{Expr}
 use Rattle.flat_graph.specs.declared.vertex.Kind.{Kind}
 use Rattle.flat_graph.specs.declared.vertex.Kind.TheVariants.{Sensor, Actuator, Function, Constant, Get, Set, Explode, Implode, Merge}
 use Rattle.flat_graph.specs.declared.vertex.Vertex.{Vertex}
 use Rattle.flat_graph.specs.Graph.{Graph, lens_of}
-use Rattle.flat_graph.specs.Laws.{sensor_len, sensor_lens}
+use Rattle.flat_graph.specs.Laws.{sensor_len, sensor_lens, actuator_lens, actuator_len}
 use Rattle.flat_laws.specs.Flat.{Operation, Task, runs, gets, sets}
 use Rattle.flat_laws.specs.Inlined.{wire, wirings, operations}
 use Rattle.flat_laws.specs.Plain.{IsPlain}
 use Rattle.flat_laws.proofs.Inlinable.{IsKindInlinable, CanInline, can_inline}
 use Rattle.algo_tree.proofs.Lists.{map_map}
-use Rattle.flat_laws.specs.EndLengths.{actuator_len, actuator_lens, HasEndLengths}
+use Rattle.flat_laws.specs.EndLengths.{HasEndLengths}
 use Rattle.flat_laws.specs.Stands.{task_of, AllStand, Stands}
 use Rattle.flat_laws.proofs.Ends.{IsNoEndTask, told_in, told_of, main_wire, told-main}
 use Rattle.flat_laws.proofs.Fits.{AllFit, IsTaskFit, fit-main}

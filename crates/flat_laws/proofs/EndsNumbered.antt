@@ -1,14 +1,14 @@
 -- In a flat graph that stands for the flat list of a tree, sensors and actuators are numbered in order as in the tree.
 use Rattle.std.proofs.Common.{◌≡◌, ℕ, zero, suc, ◌+◌, ◌≤◌, ◌==◌, Bool, true, List, [], ◌∷◌, ◌++◌, length, refl, sym, ap, ◌∙◌, subst, arith, eq-eqb, length-append}
 use Rattle.std.proofs.lemmas.Bool.{and_from}
-use Rattle.body_lang.specs.Expr.{Expr}
-use Rattle.level_meaning.specs.declared.source.Source.{Source}
-use Rattle.level_meaning.specs.Level.{Path, numbers_below}
+use Rattle.algo_tree.specs.declared.Source.{Source}
+use Rattle.algo_tree.specs.Level.{Path}
 use Rattle.algo_tree.specs.Tree as tree
 use Rattle.algo_tree.specs.Tree.{sensor, actuator, constant, delay, function, explode, implode, merge, graph, switch, repeat, vertex, Vertices, no_vertices, and_vertex}
 use Rattle.algo_tree.specs.Ends.{IsNoEnd, NoneInside, sensor_number, actuator_number, sensor_numbers, actuator_numbers}
 use Rattle.algo_tree.specs.Meaning.{vertices_in}
 use Rattle.algo_tree.specs.Valid.{IsTree}
+use Rattle.flat_graph.specs.Expr.{Expr}
 use Rattle.flat_graph.specs.declared.vertex.Kind.{Kind}
 use Rattle.flat_graph.specs.declared.vertex.Kind.TheVariants.{Sensor, Actuator, Function, Constant, Get, Set, Explode, Implode, Merge}
 use Rattle.flat_graph.specs.declared.vertex.Vertex.{Vertex}
@@ -21,6 +21,7 @@ use Rattle.flat_laws.proofs.Flatten.{flatten-count}
 use Rattle.flat_laws.specs.Stands.{task_of, AllStand, Stands}
 use Rattle.flat_laws.proofs.Acyclic.{same_length}
 use Rattle.flat_laws.proofs.Ends.{IsNoEndTask, told_in, told_of, main_wire, told-main}
+use Rattle.syn_base.specs.Numbers.{numbers_below}
 
 -- numbers that count up from n
 abbrev CountFrom : ℕ → List ℕ → Type 0

@@ -1,17 +1,17 @@
 -- What holds of each vertex of a level, where that level is unrolled: it holds of all inside the graph, if it holds of explodes and implodes, and of a copy where it holds of what is copied.
 use Rattle.std.proofs.Common.{ℕ, suc, ◌+◌, List, [], ◌∷◌, ◌++◌, map, replicate}
 use Rattle.std.specs.Prelude.{slice_index_or}
-use Rattle.level_meaning.specs.declared.source.Source.{Source}
-use Rattle.level_meaning.specs.declared.source.Source.TheVariants.{Own, Of}
-use Rattle.level_meaning.specs.declared.frontier.Feed.{Feed}
-use Rattle.level_meaning.specs.declared.frontier.Feed.TheVariants.{Fork, Diffuse, Iterate}
-use Rattle.level_meaning.specs.declared.frontier.Give.{Give}
-use Rattle.level_meaning.specs.declared.frontier.Give.TheVariants.{Last, Join}
-use Rattle.level_meaning.specs.Level.{numbers_below}
+use Rattle.algo_tree.specs.declared.Source.{Source}
+use Rattle.algo_tree.specs.declared.Source.TheVariants.{Own, Of}
+use Rattle.algo_tree.specs.declared.Feed.{Feed}
+use Rattle.algo_tree.specs.declared.Feed.TheVariants.{Fork, Diffuse, Iterate}
+use Rattle.algo_tree.specs.declared.Give.{Give}
+use Rattle.algo_tree.specs.declared.Give.TheVariants.{Last, Join}
 use Rattle.algo_tree.specs.Tree.{Label, explode, implode, Vertex, vertex, Vertices, no_vertices, and_vertex}
 use Rattle.algo_tree.specs.View.{vertices_of}
 use Rattle.flat_laws.specs.Lines.{in_line_order}
 use Rattle.flat_laws.specs.Unrolled.{made, explode_of, explodes, copy, copies, implode_of, implodes, begin, unrolled_inside}
+use Rattle.syn_base.specs.Numbers.{numbers_below}
 
 module _ (One : Vertex → Type 0) (All : Vertices → Type 0) (none : All no_vertices) (more : (u : Vertex) (us : Vertices) → One u → All us → All (and_vertex u us)) (parts : (u : Vertex) (us : Vertices) → All (and_vertex u us) → One u × All us)
     (explode_is : (d name : List ℕ) (ins : List Source) (outs : List ℕ) → One (made d name ins outs explode)) (implode_is : (d name : List ℕ) (ins : List Source) (outs : List ℕ) → One (made d name ins outs implode))

@@ -2,8 +2,8 @@
 use Rattle.std.proofs.Common.{◌≡◌, ◌∙◌, ℕ, suc, ◌+◌, ◌<◌, ◌≤◌, List, [], ◌∷◌, ◌++◌, drop, length, map, Option, Some, refl, sym, ap, ap₂, subst, arith, add-zero, add-one}
 use Rattle.std.proofs.Math.Seq.{drop-cons}
 use Rattle.std.proofs.lemmas.List.{drop_all}
-use Rattle.body_lang.specs.Expr.{Expr}
-use Rattle.level_meaning.specs.Level.{Path}
+use Rattle.algo_tree.specs.Level.{Path}
+use Rattle.flat_graph.specs.Expr.{Expr}
 use Rattle.flat_graph.specs.declared.vertex.Source.{Source}
 use Rattle.flat_graph.specs.declared.vertex.Guard.{Guard}
 use Rattle.flat_graph.specs.declared.vertex.Kind.{Kind}
@@ -15,7 +15,7 @@ use Rattle.flat_laws.specs.Flat.{Operation, Task, runs, gets, sets}
 use Rattle.flat_laws.specs.Stands.{task_of, operation_at, IsTwin, StandsFor, AllStand, Stands}
 use Rattle.flat_laws.specs.FlatOf.{flat_source, flat_guard, flat_kind, twin_of, body_of, vertex_of, vertices_from, bodies_of, graph_of}
 use Rattle.flat_laws.specs.Names.{name_of}
-use Rattle.flat_laws.specs.Numbering.{IsNumbered, bodies_in, AreNumbered, HasBodiesInOrder}
+use Rattle.flat_laws.specs.Numbering.{IsNumbered, AreNumbered, HasBodiesInOrder, body_count}
 
 sources_back : (ss : List Source) → map flat_source (map level_source ss) ≡ ss
 sources_back [] = refl
@@ -41,7 +41,7 @@ twin_back v (gets vs) twin h = sym h
 twin_back v sets twin (u, is, h) = ap (λ (n : ℕ). Some n) (omega (arith, is)) ∙ sym h
 twin_back v (runs k) twin h = sym h
 
-count_back : (bodies : List (List Expr)) (k : Kind) → length (body_of (task_of bodies k)) ≡ bodies_in k
+count_back : (bodies : List (List Expr)) (k : Kind) → length (body_of (task_of bodies k)) ≡ body_count k
 count_back bodies (Sensor i) = refl
 count_back bodies (Actuator i) = refl
 count_back bodies (Function c) = refl
@@ -62,7 +62,7 @@ vertex_back bodies v b x op s h =
     ap (vertex_of v b) s.same
     ∙ vertex_at bodies v b x op.path op.stage h (s.name ∙ ap name_of s.same) (subst (λ (o : Operation). IsTwin v o.task x.twin) s.same s.twin)
 
-body_back : (bodies : List (List Expr)) (b : ℕ) (k : Kind) → IsNumbered b k → b + bodies_in k ≤ length bodies → body_of (task_of bodies k) ++ drop (b + bodies_in k) bodies ≡ drop b bodies
+body_back : (bodies : List (List Expr)) (b : ℕ) (k : Kind) → IsNumbered b k → b + body_count k ≤ length bodies → body_of (task_of bodies k) ++ drop (b + body_count k) bodies ≡ drop b bodies
 body_back bodies b (Function c) h few =
     let inside : b < length bodies = omega (arith, few) in
     rw (h, add-one b) (sym (drop-cons bodies b [] inside))
@@ -86,9 +86,9 @@ all_back bodies v b [] [] s h = record { vertices = refl; behind = sym (drop_all
 all_back bodies v b [] (op ∷ ops) s h = absurd s
 all_back bodies v b (x ∷ xs) [] s h = absurd s
 all_back bodies v b (x ∷ xs) (op ∷ ops) (s, ss) (h, hs) =
-    let rest = all_back bodies (suc v) (b + bodies_in x.kind) xs ops ss hs in
+    let rest = all_back bodies (suc v) (b + body_count x.kind) xs ops ss hs in
     let task : op.task ≡ task_of bodies x.kind = ap (λ (o : Operation). o.task) s.same in
-    let count : length (body_of op.task) ≡ bodies_in x.kind = ap (λ (t : Task). length (body_of t)) task ∙ count_back bodies x.kind in
+    let count : length (body_of op.task) ≡ body_count x.kind = ap (λ (t : Task). length (body_of t)) task ∙ count_back bodies x.kind in
     record {
       vertices = ap₂ (λ (y : Vertex) (ys : List Vertex). y ∷ ys) (vertex_back bodies v b x op s h) (ap (λ (n : ℕ). vertices_from (suc v) (b + n) ops) count ∙ rest.vertices);
       behind = ap₂ (λ (t : Task) (bs : List (List Expr)). body_of t ++ bs) task rest.behind ∙ body_back bodies b x.kind h rest.few;

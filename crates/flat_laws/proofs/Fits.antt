@@ -1,9 +1,9 @@
 -- Each operation of the flat list has guards, inputs and outputs of the lengths that its vertex has in the tree.
 use Rattle.std.proofs.Common.{◌≡◌, ℕ, zero, suc, ◌+◌, List, [], ◌∷◌, ◌++◌, length, map, true, Option, Some, None, slice_get, slice_index_or, refl, sym, ap, ◌∙◌, subst, arith}
-use Rattle.level_meaning.specs.declared.source.Source.{Source}
-use Rattle.level_meaning.specs.declared.source.Source.TheVariants.{Own}
-use Rattle.level_meaning.specs.declared.source.Guard.{Guard}
-use Rattle.level_meaning.specs.Level.{Vector, Path}
+use Rattle.algo_tree.specs.declared.Source.{Source}
+use Rattle.algo_tree.specs.declared.Source.TheVariants.{Own}
+use Rattle.algo_tree.specs.declared.Guard.{Guard}
+use Rattle.algo_tree.specs.Level.{Path}
 use Rattle.algo_tree.specs.Tree.{Label, Kind, sensor, actuator, constant, delay, function, explode, implode, merge, graph, switch, repeat, Vertex, vertex, Vertices, no_vertices, and_vertex}
 use Rattle.algo_tree.specs.Meaning.{nodes}
 use Rattle.algo_tree.specs.Typed.{AreGroups, AreLengths, AreGuardsTyped, label_of, outs_of, source_length, IsKindTyped, IsTyped, AllTyped, IsBodyTyped}
@@ -16,6 +16,7 @@ use Rattle.flat_laws.proofs.Inlinable.{IsKindInlinable, CanInline, AllCanInline,
 use Rattle.algo_tree.proofs.Lists.{map_map}
 use Rattle.flat_laws.proofs.Wires.{long-inlined}
 use Rattle.flat_laws.proofs.Lengths.{same_map, Outs, outs-left, outs-right, at_same, Measures, measures-all}
+use Rattle.syn_base.specs.Vectors.{Vector}
 
 -- the inputs and outputs of an operation that does what a vertex of this kind does
 abbrev pub IsRun : Kind → List ℕ → List ℕ → Type 0

@@ -2,12 +2,13 @@
 use Rattle.std.proofs.Common.{◌≡◌, ℕ, zero, suc, ◌+◌, List, [], ◌∷◌, ◌++◌, length, map, slice_index_or, Some, slice_get, refl, sym, ap, ap₂, ◌∙◌, subst, arith, zero-add}
 use mathlib.Core.Path.{fun_ext}
 use Rattle.std.proofs.lemmas.List.{append_assoc}
-use Rattle.level_meaning.specs.declared.source.Source.{Source}
+use Rattle.algo_tree.specs.declared.Source.{Source}
+use Rattle.algo_tree.specs.Level.{State, Path}
+use Rattle.algo_tree.specs.Order.{IsAcyclic}
+use Rattle.algo_tree.proofs.Fuel.{out_is}
 use Rattle.algo_tree.specs.Tree.{Label, Kind, sensor, actuator, constant, delay, function, explode, implode, merge, graph, switch, repeat, Vertex, vertex, Vertices, no_vertices, and_vertex}
-use Rattle.level_meaning.specs.Level.{Values, Vector, State, Path, vector_at}
 use Rattle.algo_tree.specs.Meaning.{nodes, past, actuator_values, actuator_value, input_value}
-use Rattle.level_meaning.specs.Order.{IsAcyclic}
-use Rattle.flat_laws.specs.Flat.{Operation, Stages, stages_of, node_of, flat_level, flat_value, no_state, next_cells, flat_past, flat_taken, taken}
+use Rattle.flat_laws.specs.Flat.{Operation, Stages, stages_of, node_of, flat_level, flat_value, next_cells, flat_past, flat_taken, taken}
 use Rattle.flat_laws.specs.Inlined.{wire, wirings, stages, inlined_by, inlined, inlined_all, operations}
 use Rattle.algo_tree.specs.Counted.{operations as count, operations_in as count_all, operations_by as count_by}
 use Rattle.algo_tree.specs.Ends.{IsNoEnd, HasNoEnds, AllNoEnds, NoneInside}
@@ -15,11 +16,12 @@ use Rattle.algo_tree.specs.Valid.{IsTree}
 use Rattle.flat_laws.specs.Plain.{IsPlain}
 use Rattle.flat_laws.proofs.Inlinable.{with_kind, IsKindInlinable, CanInline, AllCanInline, can_inline}
 use Rattle.flat_laws.specs.SameMeaning.{KeepsFlat}
-use Rattle.level_meaning.proofs.Fuel.{out_is}
 use Rattle.flat_laws.proofs.Wires.{long-plain_all, Meets, reads-all}
 use Rattle.flat_laws.proofs.Long.{AllLong, first-level as long-first, next-level as long-next}
 use Rattle.flat_laws.proofs.Leads.{Ends, Placed, each-level, each-at, acyclic-from_ends}
 use Rattle.flat_laws.proofs.Cells.{first-level, next-level}
+use Rattle.flat_graph.specs.Meaning.{no_state}
+use Rattle.syn_base.specs.Vectors.{Vector, Values, vector_at}
 
 length-map : {A B : Type 0} (f : A → B) (xs : List A) → length (map f xs) ≡ length xs
 length-map f [] = refl

@@ -1,6 +1,5 @@
 -- The flat graph of any tree: repetitions are unrolled, cases are put under guards, and graphs are inlined.
 use Rattle.std.proofs.Common.{◌≡◌, true, [], length, sym, ◌∙◌, ap}
-use Rattle.level_meaning.specs.Level.{vector_at}
 use Rattle.algo_tree.specs.Tree.{Vertex}
 use Rattle.algo_tree.specs.Valid.{IsTree}
 use Rattle.algo_tree.specs.Counted.{operations as count}
@@ -33,6 +32,7 @@ use Rattle.flat_laws.proofs.Plain.{plain}
 use Rattle.flat_laws.proofs.Valid.{stands-flat}
 use Rattle.flat_laws.proofs.UnrollBounds.{unroll-keeps}
 use Rattle.flat_laws.proofs.GuardBounds.{guard-keeps}
+use Rattle.syn_base.specs.Vectors.{vector_at}
 
 module _ (main : Vertex) (h : IsTree main) where
   abbrev flat : Vertex

@@ -1,11 +1,11 @@
 -- Where the sources of a level lead is determined by what its units say, and more fuel changes nothing.
 use Rattle.std.proofs.Common.{◌≡◌, ℕ, zero, suc, ◌≤◌, inl, inr, List, [], ◌∷◌, length, map, Bool, true, false, Option, slice_get, refl, sym, ap, ap₂, ◌∙◌, arith}
 use Rattle.std.proofs.lemmas.Bool.{cases_lt, false≢true}
-use Rattle.level_meaning.specs.declared.source.Source.{Source}
-use Rattle.level_meaning.specs.declared.source.Source.TheVariants.{Own, Of}
-use Rattle.level_meaning.specs.Level.{Path, Node, with_node}
-use Rattle.level_meaning.specs.Order.{sources_ready, guards_ready, is_ready, settled, IsAcyclic}
-use Rattle.level_meaning.proofs.Fuel.{and-left, and-right}
+use Rattle.algo_tree.specs.declared.Source.{Source}
+use Rattle.algo_tree.specs.declared.Source.TheVariants.{Own, Of}
+use Rattle.algo_tree.specs.Level.{Path, Node, with_node}
+use Rattle.algo_tree.specs.Order.{sources_ready, guards_ready, is_ready, settled, IsAcyclic}
+use Rattle.algo_tree.proofs.Fuel.{and-left, and-right}
 use Rattle.algo_tree.specs.Tree.{Vertex, vertex, Vertices, no_vertices, and_vertex}
 use Rattle.algo_tree.specs.Meaning.{node, nodes}
 use Rattle.algo_tree.specs.Typed.{label_of}

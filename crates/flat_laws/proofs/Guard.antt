@@ -1,12 +1,12 @@
 -- A tree without cases has the same meaning.
 use Rattle.std.proofs.Common.{◌≡◌, ℤ, ℕ, zero, suc, ◌+◌, ◌==◌, inl, inr, List, [], ◌∷◌, ◌++◌, length, map, slice_index_or, Bool, true, false, cond, ◌&&◌, refl, sym, ap, ap₂, ◌∙◌, subst, zero-add}
 use Rattle.std.proofs.lemmas.List.{map-append}
-use Rattle.level_meaning.specs.declared.source.Source.{Source}
-use Rattle.level_meaning.specs.declared.source.Source.TheVariants.{Own, Of}
-use Rattle.level_meaning.specs.declared.source.Guard.{Guard}
-use Rattle.level_meaning.specs.Level.{Values, Vector, State, Node, vector_at, zeros, selected, source_value, all_hold, node_next, level_value, graph_outputs, graph_next, switch_outputs, switch_next}
-use Rattle.level_meaning.specs.Order.{IsAcyclic}
-use Rattle.level_meaning.specs.Parts.{HasDistinctParts}
+use Rattle.algo_tree.specs.declared.Source.{Source}
+use Rattle.algo_tree.specs.declared.Source.TheVariants.{Own, Of}
+use Rattle.algo_tree.specs.declared.Guard.{Guard}
+use Rattle.algo_tree.specs.Level.{State, Node, selected, source_value, all_hold, node_next, level_value, graph_outputs, graph_next, switch_outputs, switch_next}
+use Rattle.algo_tree.specs.Order.{IsAcyclic}
+use Rattle.algo_tree.specs.Parts.{HasDistinctParts}
 use Rattle.algo_tree.specs.Tree.{Label, Kind, sensor, actuator, constant, delay, function, explode, implode, merge, graph, switch, repeat, Vertex, vertex, Vertices, no_vertices, and_vertex}
 use Rattle.algo_tree.specs.Code.{count_of, join}
 use Rattle.algo_tree.specs.Meaning.{asked_by, behaviour, behaviour_of, node, nodes, past, actuator_values, actuator_value, input_value}
@@ -20,6 +20,7 @@ use Rattle.algo_tree.proofs.Lists.{append_right}
 use Rattle.flat_laws.specs.Guarded.{shift, shift_guard, guard_sources, own_guards, guard_for, merges, merge_sources, switch_inside, operation_under, graph_under, guarded_by, guarded, guarded_all, guarded_cases, guard}
 use Rattle.flat_laws.proofs.Guards.{Follows, Under, AllUnder, hold-append, own-hold, graph-still, idle-still, first-same, graph_next-same, graph_outputs-same, level-follows}
 use Rattle.flat_laws.proofs.Cases.{IsFed, CasesUnder, cases_level, switch-idle, switch_outputs-same, switch_next-same, cases_level-acyclic, switch_first-same}
+use Rattle.syn_base.specs.Vectors.{Vector, Values, vector_at, zeros}
 
 -- sources and guards that are shifted
 own-shift : (n : ℕ) (ss : List Source) → AreOwn ss → AreOwn (map (shift n) ss)

@@ -1,6 +1,6 @@
 -- Putting cases under guards keeps the bounds: parts stay, and merges stand for ports.
 use Rattle.std.proofs.Common.{ℕ, suc, ℤ, List, [], ◌∷◌, ◌++◌, length, sym, subst}
-use Rattle.level_meaning.specs.declared.source.Guard.{Guard}
+use Rattle.algo_tree.specs.declared.Guard.{Guard}
 use Rattle.algo_tree.specs.Code.{count_of, join}
 use Rattle.algo_tree.specs.Tree.{Label, Kind, sensor, actuator, constant, delay, function, explode, implode, merge, graph, switch, repeat, Vertex, vertex, Vertices, no_vertices, and_vertex}
 use Rattle.algo_tree.specs.Valid.{IsTree}

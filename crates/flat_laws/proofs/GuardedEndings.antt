@@ -1,11 +1,11 @@
 -- In a guarded tree sensors and actuators stand where they stood.
 use Rattle.std.proofs.Common.{◌≡◌, ℤ, ℕ, suc, List, [], ◌∷◌, ◌++◌, length, refl, sym, ap, ◌∙◌, subst}
-use Rattle.level_meaning.specs.declared.source.Guard.{Guard}
-use Rattle.level_meaning.specs.Level.{numbers_below}
+use Rattle.algo_tree.specs.declared.Guard.{Guard}
 use Rattle.algo_tree.specs.Tree.{Label, Kind, sensor, actuator, constant, delay, function, explode, implode, merge, graph, switch, repeat, Vertex, vertex, Vertices, no_vertices, and_vertex}
 use Rattle.algo_tree.specs.Code.{count_of, join}
 use Rattle.algo_tree.specs.Ends.{IsNoEnd, HasNoEnds, AllNoEnds, NoneInside, sensor_number, actuator_number, sensor_numbers, actuator_numbers, AreEndsNumbered}
 use Rattle.flat_laws.specs.Guarded.{own_guards, guard_for, merges, switch_inside, guarded_by, guarded, guarded_all, guarded_cases}
+use Rattle.syn_base.specs.Numbers.{numbers_below}
 
 none-joined : (us vs : Vertices) → AllNoEnds us → AllNoEnds vs → AllNoEnds (join us vs)
 none-joined no_vertices vs h k = k

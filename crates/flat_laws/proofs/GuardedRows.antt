@@ -1,11 +1,11 @@
 -- Putting cases under guards keeps the operations of a tree without repetitions: a guard is a condition.
 use Rattle.std.proofs.Common.{◌≡◌, ℕ, suc, ◌+◌, ℤ, List, [], ◌∷◌, ◌++◌, length, map, append-nil, slice_index_or, refl, sym, ap, ap₂, ◌∙◌, arith, add-zero, zero-add}
 use Rattle.std.proofs.lemmas.List.{map-append}
-use Rattle.level_meaning.specs.declared.source.Source.{Source}
-use Rattle.level_meaning.specs.declared.source.Source.TheVariants.{Own, Of}
-use Rattle.level_meaning.specs.declared.source.Guard.{Guard}
-use Rattle.level_meaning.specs.declared.part.Part.TheVariants.{Numbered}
-use Rattle.level_meaning.specs.Level.{Path, numbers_below}
+use Rattle.algo_tree.specs.declared.Source.{Source}
+use Rattle.algo_tree.specs.declared.Source.TheVariants.{Own, Of}
+use Rattle.algo_tree.specs.declared.Guard.{Guard}
+use Rattle.algo_tree.specs.declared.Part.TheVariants.{Numbered}
+use Rattle.algo_tree.specs.Level.{Path}
 use Rattle.algo_tree.specs.Tree.{Label, Kind, sensor, actuator, constant, delay, function, explode, implode, merge, graph, switch, repeat, Vertex, vertex, Vertices, no_vertices, and_vertex}
 use Rattle.algo_tree.specs.Code.{count_of}
 use Rattle.algo_tree.specs.Typed.{label_of}
@@ -18,6 +18,7 @@ use Rattle.flat_laws.specs.Origins.{Origin, origin_at, inside, port, origin_in, 
 use Rattle.flat_laws.specs.Table.{Condition, Row, Inside, row, merge_rows, rows_by, condition_of, graph_rows, case_rows, copy_rows, table}
 use Rattle.flat_laws.proofs.Rows.{vertex_rows, rows-join}
 use Rattle.flat_laws.proofs.Shifted.{shifted-same, own-same, handed, SameUnits, SameCases, graph-leads, cases-lead, leads, long-guarded_all, long-guarded_cases, units-guarded, cases-guarded}
+use Rattle.syn_base.specs.Numbers.{numbers_below}
 
 -- the conditions of guards whose sources lead here
 abbrev pub conditions : (Source → Origin) → List Guard → List Condition

@@ -2,21 +2,20 @@
 use Rattle.std.proofs.Common.{◌≡◌, ℤ, ℕ, zero, suc, ◌+◌, ◌<◌, List, [], ◌∷◌, ◌++◌, length, get_or, map, replicate, refl, sym, ap, ap₂, ◌∙◌, subst, arith, zero-add}
 use Rattle.std.proofs.lemmas.List.{map-append}
 use Rattle.std.proofs.lemmas.Grind.{same_number_lists}
-use Rattle.level_meaning.specs.declared.source.Source.{Source}
-use Rattle.level_meaning.specs.declared.source.Source.TheVariants.{Own, Of}
-use Rattle.level_meaning.specs.declared.source.Guard.{Guard}
-use Rattle.level_meaning.specs.Level.{numbers_below}
+use Rattle.algo_tree.specs.declared.Source.{Source}
+use Rattle.algo_tree.specs.declared.Source.TheVariants.{Own, Of}
+use Rattle.algo_tree.specs.declared.Guard.{Guard}
 use Rattle.algo_tree.specs.Tree.{Label, Kind, sensor, actuator, constant, delay, function, explode, implode, merge, graph, switch, repeat, Vertex, vertex, Vertices, no_vertices, and_vertex}
 use Rattle.algo_tree.specs.Code.{count_of, join}
 use Rattle.algo_tree.specs.Well.{IsOwn, AreOwn, OwnGuards, AreCases, IsKindWell, IsWell, AllWell}
 use Rattle.algo_tree.specs.Typed.{IsLength, AreLengths, label_of, outs_of, source_length, AreGuardsTyped, AllGive, IsTyped, AllTyped}
 use Rattle.algo_tree.specs.NoRepeat.{IsNoRepeat, HasNoRepeat, AllNoRepeat}
 use Rattle.algo_tree.specs.Relabelled.{with_kind}
-use Rattle.algo_tree.proofs.Lists.{append_left, append_right, map_map, map_below, at_below, long_below}
+use Rattle.algo_tree.proofs.Lists.{append_left, append_right, map_map, map_below, at_below, long_below, same_below, lengths-replicate}
 use Rattle.algo_tree.proofs.Appends.{lengths-append}
 use Rattle.flat_laws.specs.Guarded.{shift, shift_guard, guard_sources, own_guards, guard_for, merges, merge_sources, switch_inside, guarded_by, guarded, guarded_all, guarded_cases}
 use Rattle.flat_laws.proofs.Guard.{count-nodes}
-use Rattle.algo_tree.proofs.Lists.{same_below, lengths-replicate}
+use Rattle.syn_base.specs.Numbers.{numbers_below}
 
 -- a list of lengths as its elements
 each_of : (xs : List ℕ) (n : ℕ) → n ≡ length xs → xs ≡ map (λ q. get_or xs q 0) (numbers_below n)

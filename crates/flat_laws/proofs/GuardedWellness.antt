@@ -1,14 +1,14 @@
 -- A guarded tree is well again.
 use Rattle.std.proofs.Common.{◌≡◌, ℤ, ℕ, zero, suc, List, [], ◌∷◌, ◌++◌, length, map, Bool, true, false, ◌&&◌, slice_get, refl, sym, ap, ap₂, ◌∙◌, subst, arith}
 use mathlib.Core.Path.{fun_ext}
-use Rattle.level_meaning.specs.declared.source.Source.{Source}
-use Rattle.level_meaning.specs.declared.source.Source.TheVariants.{Own, Of}
-use Rattle.level_meaning.specs.declared.source.Guard.{Guard}
-use Rattle.level_meaning.specs.declared.part.Part.{Part}
-use Rattle.level_meaning.specs.declared.part.Part.TheVariants.{Named, Numbered, Port}
-use Rattle.level_meaning.specs.Level.{Node, same_part, with_node}
-use Rattle.level_meaning.specs.Order.{source_ready, sources_ready, guards_ready, is_ready, settled, IsAcyclic}
-use Rattle.level_meaning.specs.Parts.{IsApart, HasDistinctParts}
+use Rattle.algo_tree.specs.declared.Source.{Source}
+use Rattle.algo_tree.specs.declared.Source.TheVariants.{Own, Of}
+use Rattle.algo_tree.specs.declared.Guard.{Guard}
+use Rattle.algo_tree.specs.declared.Part.{Part}
+use Rattle.algo_tree.specs.declared.Part.TheVariants.{Named, Numbered, Port}
+use Rattle.algo_tree.specs.Level.{Node, same_part, with_node}
+use Rattle.algo_tree.specs.Order.{source_ready, sources_ready, guards_ready, is_ready, settled, IsAcyclic}
+use Rattle.algo_tree.specs.Parts.{IsApart, HasDistinctParts}
 use Rattle.algo_tree.specs.Tree.{Label, Kind, sensor, actuator, constant, delay, function, explode, implode, merge, graph, switch, repeat, Vertex, vertex, Vertices, no_vertices, and_vertex}
 use Rattle.algo_tree.specs.Code.{count_of, join}
 use Rattle.algo_tree.specs.Meaning.{asked_by, node, nodes}

@@ -1,14 +1,15 @@
 -- A level whose vertices stand under guards does what it did before.
 use Rattle.std.proofs.Common.{◌≡◌, ℕ, zero, suc, ◌+◌, ◌==◌, List, [], ◌∷◌, ◌++◌, length, map, Bool, true, false, cond, ◌&&◌, Option, Some, slice_get, refl, ap, ap₂, ◌∙◌, arith}
 use mathlib.Core.Path.{fun_ext}
-use Rattle.level_meaning.specs.declared.source.Source.{Source}
-use Rattle.level_meaning.specs.declared.source.Source.TheVariants.{Own, Of}
-use Rattle.level_meaning.specs.declared.source.Guard.{Guard}
-use Rattle.level_meaning.specs.declared.part.Part.{Part}
-use Rattle.level_meaning.specs.Level.{Values, Vector, State, Path, Node, below, vector_at, zeros, selected, source_value, all_hold, with_node, same_part, find_node, node_outputs, node_next, out, level_value, graph_outputs, graph_next, graph_initial}
+use Rattle.algo_tree.specs.declared.Source.{Source}
+use Rattle.algo_tree.specs.declared.Source.TheVariants.{Own, Of}
+use Rattle.algo_tree.specs.declared.Guard.{Guard}
+use Rattle.algo_tree.specs.declared.Part.{Part}
+use Rattle.algo_tree.specs.Level.{State, Path, Node, below, selected, source_value, all_hold, with_node, same_part, find_node, node_outputs, node_next, out, level_value, graph_outputs, graph_next, graph_initial}
 use Rattle.algo_tree.proofs.SameParts.{same_means}
 use Rattle.flat_laws.specs.Guarded.{shift, guard_sources, own_guards}
 use Rattle.algo_tree.proofs.Lists.{append_right}
+use Rattle.syn_base.specs.Vectors.{Vector, Values, vector_at, zeros}
 
 -- what looks at the sources of the new level sees what was seen at those of the old
 abbrev pub Follows : ℕ → (Source → Vector) → (Source → Vector) → Type 0

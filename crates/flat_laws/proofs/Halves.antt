@@ -1,11 +1,12 @@
 -- In the flat list of a tree each set half stands right after its get half, under the same guards.
 use Rattle.std.proofs.Common.{◌≡◌, ℕ, zero, suc, ◌+◌, List, [], ◌∷◌, ◌++◌, map, true, Option, Some, None, slice_get, refl, ap, ◌∙◌, subst}
-use Rattle.level_meaning.specs.declared.source.Source.{Source}
-use Rattle.level_meaning.specs.Level.{Vector, Path}
+use Rattle.algo_tree.specs.declared.Source.{Source}
+use Rattle.algo_tree.specs.Level.{Path}
 use Rattle.algo_tree.specs.Tree.{Label, Kind, sensor, actuator, constant, delay, function, explode, implode, merge, graph, switch, repeat, Vertex, vertex, Vertices, no_vertices, and_vertex}
 use Rattle.algo_tree.specs.Counted.{operations as count}
 use Rattle.flat_laws.specs.Flat.{Operation, Task, runs, gets, sets, is_get}
 use Rattle.flat_laws.specs.Inlined.{wire, wirings, operation_of, stage_input, stages, inlined_by, inlined, inlined_all, operations}
+use Rattle.syn_base.specs.Vectors.{Vector}
 
 -- what stands before a set half
 abbrev pub IsHalf : Task → Option Operation → Operation → Type 0

@@ -1,9 +1,9 @@
 -- What inlining needs of a well tree of graphs and operations.
 use Rattle.std.specs.Prelude.{◌≡◌, ℕ, ◌≤◌, List, [], length, map}
-use Rattle.level_meaning.specs.declared.source.Guard.{Guard}
-use Rattle.level_meaning.specs.Level.{Node}
-use Rattle.level_meaning.specs.Order.{IsAcyclic}
-use Rattle.level_meaning.specs.Parts.{HasDistinctParts}
+use Rattle.algo_tree.specs.declared.Guard.{Guard}
+use Rattle.algo_tree.specs.Level.{Node}
+use Rattle.algo_tree.specs.Order.{IsAcyclic}
+use Rattle.algo_tree.specs.Parts.{HasDistinctParts}
 use Rattle.algo_tree.specs.Tree.{Label, Kind, sensor, actuator, constant, delay, function, explode, implode, merge, graph, switch, repeat, Vertex, vertex, Vertices, no_vertices, and_vertex}
 use Rattle.algo_tree.specs.Meaning.{nodes}
 use Rattle.algo_tree.specs.Typed.{label_of, outs_of, source_length, IsKindTyped, IsTyped, AllTyped, IsBodyTyped}

@@ -1,11 +1,11 @@
 -- The flat list of a tree of graphs and operations has the operations of the tree.
 use Rattle.std.proofs.Common.{◌≡◌, ℕ, zero, suc, ◌+◌, List, [], ◌∷◌, ◌++◌, length, get_or, map, Some, slice_get, slice_index_or, refl, sym, ap, ap₂, subst, ◌∙◌, arith, add-zero, zero-add}
 use Rattle.std.proofs.lemmas.List.{append_assoc, map-append}
-use Rattle.level_meaning.specs.declared.source.Source.{Source}
-use Rattle.level_meaning.specs.declared.source.Source.TheVariants.{Own, Of}
-use Rattle.level_meaning.specs.declared.source.Guard.{Guard}
-use Rattle.level_meaning.specs.declared.part.Part.TheVariants.{Numbered}
-use Rattle.level_meaning.specs.Level.{Vector, Path}
+use Rattle.algo_tree.specs.declared.Source.{Source}
+use Rattle.algo_tree.specs.declared.Source.TheVariants.{Own, Of}
+use Rattle.algo_tree.specs.declared.Guard.{Guard}
+use Rattle.algo_tree.specs.declared.Part.TheVariants.{Numbered}
+use Rattle.algo_tree.specs.Level.{Path}
 use Rattle.algo_tree.specs.Tree.{Label, Kind, sensor, actuator, constant, delay, function, explode, implode, merge, graph, switch, repeat, Vertex, vertex, Vertices, no_vertices, and_vertex}
 use Rattle.algo_tree.specs.Counted.{operations as count}
 use Rattle.algo_tree.specs.Meaning.{asked_by, nodes}
@@ -25,6 +25,7 @@ use Rattle.flat_laws.proofs.Following.{given}
 use Rattle.flat_laws.proofs.Rows.{unit_of, vertex_rows}
 use Rattle.flat_laws.proofs.Shifted.{each-same}
 use Rattle.flat_laws.proofs.GuardedRows.{conditions, inside_by}
+use Rattle.syn_base.specs.Vectors.{Vector}
 
 -- where a source of the flat list leads, where the operations have these names
 abbrev pub origin_of : List (List ℕ) → Source → Origin

@@ -1,8 +1,8 @@
 -- Unrolling and guarding keep the lengths of sensors and actuators.
 use Rattle.std.proofs.Common.{◌≡◌, ℕ, ℤ, List, [], ◌∷◌, ◌++◌, map, refl, sym, ap, ap₂, ◌∙◌, subst, zero-add}
-use Rattle.level_meaning.specs.declared.source.Source.{Source}
-use Rattle.level_meaning.specs.declared.source.Source.TheVariants.{Own, Of}
-use Rattle.level_meaning.specs.declared.source.Guard.{Guard}
+use Rattle.algo_tree.specs.declared.Source.{Source}
+use Rattle.algo_tree.specs.declared.Source.TheVariants.{Own, Of}
+use Rattle.algo_tree.specs.declared.Guard.{Guard}
 use Rattle.algo_tree.specs.Tree.{Label, Kind, sensor, actuator, constant, delay, function, explode, implode, merge, graph, switch, repeat, Vertex, vertex, Vertices, no_vertices, and_vertex}
 use Rattle.algo_tree.specs.Ends.{sensor_length, actuator_length, sensor_lengths_in, actuator_lengths_in, sensor_lengths, actuator_lengths}
 use Rattle.algo_tree.specs.Meaning.{vertices_in}

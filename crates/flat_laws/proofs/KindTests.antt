@@ -4,10 +4,10 @@ use Rattle.std.specs.List.{list_all}
 use Rattle.std.proofs.lemmas.Bool.{and_from}
 use Rattle.std.proofs.lemmas.List.{length-replicate}
 use Rattle.std.proofs.lemmas.List.Sums.{sum_by-cons}
-use Rattle.body_lang.specs.Expr.{Expr, literal, index, element, sum_over, negation, apply, select, PortsBelow}
-use Rattle.level_meaning.specs.declared.source.Source as of_level
-use Rattle.level_meaning.specs.declared.source.Source.TheVariants.{Own, Of}
+use Rattle.algo_tree.specs.declared.Source as of_level
+use Rattle.algo_tree.specs.declared.Source.TheVariants.{Own, Of}
 use Rattle.algo_tree.specs.Typed.{AreLengths, AreGuardsTyped, AllPortsBelow}
+use Rattle.flat_graph.specs.Expr.{Expr, literal, index, element, sum_over, negation, apply, select, PortsBelow}
 use Rattle.flat_graph.specs.declared.vertex.Source.{Source}
 use Rattle.flat_graph.specs.declared.vertex.Guard.{Guard}
 use Rattle.flat_graph.specs.declared.vertex.Kind.{Kind}

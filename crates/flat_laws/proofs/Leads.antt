@@ -1,21 +1,22 @@
 -- The flat list has no cycle, since no level has one.
 use Rattle.std.proofs.Common.{◌≡◌, ℕ, zero, suc, ◌+◌, ◌<◌, ◌≤◌, ◌⊎◌, inl, inr, List, [], ◌∷◌, ◌++◌, length, map, slice_index_or, Bool, true, false, Some, slice_get, sym, subst, arith}
 use Rattle.std.proofs.lemmas.Bool.{cases_lt, false≢true}
-use Rattle.level_meaning.specs.declared.source.Source.{Source}
-use Rattle.level_meaning.specs.declared.source.Source.TheVariants.{Own, Of}
+use Rattle.algo_tree.specs.declared.Source.{Source}
+use Rattle.algo_tree.specs.declared.Source.TheVariants.{Own, Of}
+use Rattle.algo_tree.specs.declared.Guard.{Guard}
+use Rattle.algo_tree.specs.Level.{Path, Node, with_node}
+use Rattle.algo_tree.specs.Order.{source_ready, sources_ready, guards_ready, is_ready, settled, IsAcyclic}
+use Rattle.algo_tree.specs.Cycles.{IsOf, IsAmong, IsGuarding, Asks, Reaches, asks, goes}
+use Rattle.algo_tree.proofs.Fuel.{in_range, and-left, and-right}
+use Rattle.algo_tree.proofs.CyclesLemmas.{further, acyclic-from_reaching}
 use Rattle.algo_tree.specs.Tree.{Label, Kind, sensor, actuator, constant, delay, function, explode, implode, merge, graph, switch, repeat, Vertex, vertex, Vertices, no_vertices, and_vertex}
-use Rattle.level_meaning.specs.declared.source.Guard.{Guard}
-use Rattle.level_meaning.specs.Level.{Vector, Path, Node, with_node}
-use Rattle.level_meaning.specs.Order.{source_ready, sources_ready, guards_ready, is_ready, settled, IsAcyclic}
-use Rattle.level_meaning.specs.Cycles.{IsOf, IsAmong, IsGuarding, Asks, Reaches, asks, goes}
 use Rattle.algo_tree.specs.Meaning.{asked_by, node, nodes}
 use Rattle.flat_laws.specs.Flat.{Operation, Stages, runs, gets, sets, node_of}
 use Rattle.flat_laws.specs.Inlined.{nowhere, with_wiring, wire, gives_by, wiring, wirings, wire_guard, operation_of, stage_input, stages, inlined_by, inlined, inlined_all, inlined_level}
 use Rattle.algo_tree.specs.Counted.{operations as count}
 use Rattle.flat_laws.proofs.Inlinable.{IsKindInlinable, CanInline, AllCanInline}
-use Rattle.level_meaning.proofs.Fuel.{in_range, and-left, and-right}
-use Rattle.level_meaning.proofs.CyclesLemmas.{further, acyclic-from_reaching}
 use Rattle.flat_laws.proofs.Wires.{matched, wire_fix, long-inlined}
+use Rattle.syn_base.specs.Vectors.{Vector}
 
 -- all that vertex r asks for, however far, is in range and comes to an end
 pub data Ends (cs : List Node) : ℕ → Type 0 where

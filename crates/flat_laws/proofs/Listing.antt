@@ -1,12 +1,12 @@
 -- The flat graph of a flat list has its operations.
 use Rattle.std.proofs.Common.{◌≡◌, ℕ, suc, ◌+◌, List, [], ◌∷◌, ◌++◌, length, map, get_or, length-append, refl, sym, ap, ap₂, ◌∙◌, add-zero}
 use Rattle.std.proofs.lemmas.List.{append_assoc}
-use Rattle.body_lang.specs.Expr.{Expr}
-use Rattle.level_meaning.specs.declared.source.Source.{Source}
-use Rattle.level_meaning.specs.declared.source.Source.TheVariants.{Own, Of}
-use Rattle.level_meaning.specs.declared.source.Guard.{Guard}
+use Rattle.algo_tree.specs.declared.Source.{Source}
+use Rattle.algo_tree.specs.declared.Source.TheVariants.{Own, Of}
+use Rattle.algo_tree.specs.declared.Guard.{Guard}
 use Rattle.algo_tree.specs.Tree as tree
 use Rattle.algo_tree.specs.Valid.{IsTree}
+use Rattle.flat_graph.specs.Expr.{Expr}
 use Rattle.flat_laws.specs.Unrolled.{unroll}
 use Rattle.algo_tree.proofs.Lists.{append_right}
 use Rattle.flat_laws.proofs.Unrepeated.{no-unroll}

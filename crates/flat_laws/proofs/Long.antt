@@ -1,13 +1,14 @@
 -- Each delay of a tree keeps as many values as it looks back.
 use Rattle.std.proofs.Common.{◌≡◌, ◌+◌, ◌≤◌, List, [], ◌∷◌, ◌++◌, length, map, drop, Bool, true, false, cond, Some, refl, sym, ap, ◌∙◌, subst, arith, length-append}
 use mathlib.Core.Path.{fun_ext}
-use Rattle.level_meaning.specs.declared.source.Source.{Source}
-use Rattle.level_meaning.specs.Level.{Vector, Values, State, Node, below, with_node, find_node, all_hold, node_next, level_value, graph_next, graph_initial, delay_next}
-use Rattle.level_meaning.specs.Parts.{IsApart, HasDistinctParts}
+use Rattle.algo_tree.specs.declared.Source.{Source}
+use Rattle.algo_tree.specs.Level.{State, Node, below, with_node, find_node, all_hold, node_next, level_value, graph_next, graph_initial, delay_next}
+use Rattle.algo_tree.specs.Parts.{IsApart, HasDistinctParts}
 use Rattle.algo_tree.specs.Tree.{Label, Kind, sensor, actuator, constant, delay, function, explode, implode, merge, graph, switch, repeat, Vertex, vertex, Vertices, no_vertices, and_vertex}
 use Rattle.algo_tree.specs.Meaning.{node, nodes, kind_next, kind_initial}
 use Rattle.algo_tree.proofs.SameParts.{same_itself}
 use Rattle.flat_laws.proofs.Inlinable.{IsKindInlinable, CanInline, AllCanInline}
+use Rattle.syn_base.specs.Vectors.{Vector, Values}
 
 -- what is kept below a vertex
 abbrev pub IsKindLong : Kind → State → Type 0 → Type 0

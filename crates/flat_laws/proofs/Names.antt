@@ -5,10 +5,10 @@ use Rattle.std.specs.List.{list_all}
 use Rattle.std.proofs.lemmas.Bool.{false≢true, and_parts, and_from, or_left}
 use Rattle.std.proofs.lemmas.List.Folds.{list_all-append}
 use Rattle.syn_base.specs.Name.{is_name_byte}
-use Rattle.level_meaning.specs.declared.source.Source.{Source}
-use Rattle.level_meaning.specs.declared.part.Part.{Part}
-use Rattle.level_meaning.specs.declared.part.Part.TheVariants.{Named, Numbered, Port}
-use Rattle.level_meaning.specs.Level.{Vector, Path}
+use Rattle.algo_tree.specs.declared.Source.{Source}
+use Rattle.algo_tree.specs.declared.Part.{Part}
+use Rattle.algo_tree.specs.declared.Part.TheVariants.{Named, Numbered, Port}
+use Rattle.algo_tree.specs.Level.{Path}
 use Rattle.algo_tree.specs.Tree.{Label, Kind, sensor, actuator, constant, delay, function, explode, implode, merge, graph, switch, repeat, Vertex, vertex, Vertices, no_vertices, and_vertex}
 use Rattle.algo_tree.specs.Counted.{operations as count, operations_by, operations_in}
 use Rattle.algo_tree.specs.Valid.{IsTree}
@@ -21,6 +21,7 @@ use Rattle.algo_tree.specs.Named.{is_word, IsPathNamed, IsNamed, AllNamed, HasNa
 use Rattle.algo_tree.specs.Bounded.{IsPathBounded, IsBounded, AllBounded, HasBounds}
 use Rattle.algo_tree.proofs.Texts.{AreNameBytes, word_bytes, number_bytes}
 use Rattle.flat_laws.specs.Names.{stage_text, half_text, name_of}
+use Rattle.syn_base.specs.Vectors.{Vector}
 
 abbrev pub stage_part : ℕ → Path
 stage_part zero = []

@@ -4,17 +4,17 @@ use Rattle.std.proofs.Common.{◌≡◌, ℕ, zero, suc, ◌+◌, ◌<◌, ◌&&
 use Rattle.std.specs.List.{list_any}
 use Rattle.std.proofs.lemmas.Bool.{false≢true, and_from, or_from, not_from_false, false_from_ne_true}
 use Rattle.std.proofs.lemmas.Slice.Eq.{bytes_eq-Decides}
-use Rattle.body_lang.specs.Expr.{Expr}
-use Rattle.level_meaning.specs.declared.source.Source.{Source}
-use Rattle.level_meaning.specs.declared.part.Part.{Part}
-use Rattle.level_meaning.specs.Level.{Vector, Path, Node}
-use Rattle.level_meaning.specs.Parts.{IsApart, HasDistinctParts}
+use Rattle.algo_tree.specs.declared.Source.{Source}
+use Rattle.algo_tree.specs.declared.Part.{Part}
+use Rattle.algo_tree.specs.Level.{Path, Node}
+use Rattle.algo_tree.specs.Parts.{IsApart, HasDistinctParts}
 use Rattle.algo_tree.specs.Tree as tree
 use Rattle.algo_tree.specs.Tree.{Label, Kind, sensor, actuator, constant, delay, function, explode, implode, merge, graph, switch, repeat, vertex, Vertices, no_vertices, and_vertex}
 use Rattle.algo_tree.specs.Counted.{operations as count}
 use Rattle.algo_tree.specs.Meaning.{node, nodes}
 use Rattle.algo_tree.specs.Valid.{IsTree}
 use Rattle.algo_tree.proofs.SameParts.{same_itself}
+use Rattle.flat_graph.specs.Expr.{Expr}
 use Rattle.flat_graph.specs.declared.vertex.Vertex.{Vertex}
 use Rattle.flat_graph.specs.Valid.{are_named_apart}
 use Rattle.flat_laws.specs.Flat.{Operation, Task, runs, gets, sets, same_path}
@@ -31,6 +31,7 @@ use Rattle.algo_tree.proofs.Texts.{path_told}
 use Rattle.flat_laws.specs.Names.{name_of}
 use Rattle.flat_laws.specs.Stands.{AllStand}
 use Rattle.flat_laws.proofs.Names.{stage_part, half, full, full-text, IsNamedOperation, AreNamed, full-named, full-bounded}
+use Rattle.syn_base.specs.Vectors.{Vector}
 
 -- no operation has a name that reads like this path
 abbrev NoFull : Path → List Operation → Type 0

@@ -1,12 +1,14 @@
 -- Cells by number are cells by path and stage.
 use Rattle.std.proofs.Common.{◌≡◌, ℕ, zero, suc, ◌+◌, List, [], ◌∷◌, slice_index_or, Bool, true, false, cond, ◌&&◌, Some, slice_get, refl, sym, ap, ap₂, ◌∙◌, subst, arith, zero-add, eq-eqb}
 use Rattle.std.proofs.lemmas.Bool.{false≢true}
-use Rattle.level_meaning.specs.declared.source.Source.{Source}
-use Rattle.level_meaning.specs.declared.part.Part.TheVariants.{Numbered}
-use Rattle.level_meaning.specs.Level.{Vector, Values, Path, Node, level_value}
+use Rattle.algo_tree.specs.declared.Source.{Source}
+use Rattle.algo_tree.specs.declared.Part.TheVariants.{Numbered}
+use Rattle.algo_tree.specs.Level.{Path, Node, level_value}
 use Rattle.algo_tree.proofs.SameParts.{same_itself}
-use Rattle.flat_laws.specs.Flat.{Operation, Task, runs, gets, sets, flat_level, flat_value, no_state, Stages, stages_of, same_path, is_cell, is_set, is_get, set_value, initial_value, task_outputs, pick, next_cells, flat_past}
+use Rattle.flat_laws.specs.Flat.{Operation, Task, runs, gets, sets, flat_level, flat_value, Stages, stages_of, same_path, is_cell, is_set, is_get, set_value, initial_value, task_outputs, pick, next_cells, flat_past}
 use Rattle.flat_laws.specs.Numbered.{Cells, numbered_node, numbered_level, numbered_value, numbered_set, numbered_past, with_operation, SameCells}
+use Rattle.flat_graph.specs.Meaning.{no_state}
+use Rattle.syn_base.specs.Vectors.{Vector, Values}
 
 pub path_itself : (q : Path) → same_path q q ≡ true
 path_itself [] = refl

@@ -1,12 +1,12 @@
 -- In a flat list each get half is followed by its set half, and no two stages share a cell.
 use Rattle.std.proofs.Common.{◌≡◌, ℕ, suc, ◌+◌, ◌<◌, ◌==◌, List, [], ◌∷◌, ◌++◌, map, Bool, true, false, ◌&&◌, refl, ap, ◌∙◌, subst, arith, ne_eqb}
 use Rattle.std.proofs.lemmas.Bool.{false≢true}
-use Rattle.level_meaning.specs.declared.source.Source.{Source}
+use Rattle.algo_tree.specs.declared.Source.{Source}
+use Rattle.algo_tree.specs.declared.Part.{Part}
+use Rattle.algo_tree.specs.Level.{Path, Node}
+use Rattle.algo_tree.specs.Parts.{IsApart, HasDistinctParts}
 use Rattle.algo_tree.specs.Tree.{Label, Kind, sensor, actuator, constant, delay, function, explode, implode, merge, graph, switch, repeat, Vertex, vertex, Vertices, no_vertices, and_vertex}
-use Rattle.level_meaning.specs.declared.part.Part.{Part}
-use Rattle.level_meaning.specs.Level.{Vector, Path, Node}
 use Rattle.algo_tree.specs.Meaning.{node, nodes}
-use Rattle.level_meaning.specs.Parts.{IsApart, HasDistinctParts}
 use Rattle.flat_laws.specs.Flat.{Operation, Task, runs, gets, sets, same_path, is_cell, is_set, is_get}
 use Rattle.flat_laws.specs.Inlined.{wire, wirings, operation_of, stage_input, stages, inlined_by, inlined, inlined_all, inlined_level, operations}
 use Rattle.algo_tree.specs.Counted.{operations as count}
@@ -16,6 +16,7 @@ use Rattle.flat_laws.proofs.Cells.{Keeps, keeps-below}
 use Rattle.flat_laws.proofs.Numbered.{NoLater, Distinct, PairHead, Paired, same_cells}
 use Rattle.algo_tree.specs.Valid.{IsTree}
 use Rattle.flat_laws.specs.Plain.{IsPlain}
+use Rattle.syn_base.specs.Vectors.{Vector}
 
 abbrev pub AtAll : (Path → Type 0) → List Operation → Type 0
 AtAll P [] = Unit {0}

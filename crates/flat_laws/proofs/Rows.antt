@@ -1,8 +1,8 @@
 -- The units of a level, and their rows, one after another.
 use Rattle.std.proofs.Common.{◌≡◌, List, [], ◌∷◌, ◌++◌, map, refl, sym, ap, ◌∙◌}
 use Rattle.std.proofs.lemmas.List.{append_assoc}
-use Rattle.level_meaning.specs.declared.source.Source.{Source}
-use Rattle.level_meaning.specs.Level.{Path}
+use Rattle.algo_tree.specs.declared.Source.{Source}
+use Rattle.algo_tree.specs.Level.{Path}
 use Rattle.algo_tree.specs.Tree.{Vertex, Vertices, no_vertices, and_vertex}
 use Rattle.algo_tree.specs.Code.{join}
 use Rattle.algo_tree.specs.Typed.{label_of}

@@ -3,13 +3,13 @@ use Rattle.std.proofs.Common.{◌≡◌, ℕ, zero, suc, ◌+◌, ℤ, List, [],
 use Rattle.std.specs.Prelude.{if◌then◌else◌}
 use mathlib.Core.Path.{fun_ext}
 use Rattle.std.proofs.lemmas.Bool.{false≢true}
-use Rattle.body_lang.specs.Expr.{Expr}
-use Rattle.level_meaning.specs.declared.source.Source.{Source}
-use Rattle.level_meaning.specs.declared.part.Part.TheVariants.{Numbered}
-use Rattle.level_meaning.specs.Level.{Vector, Values, Path, vector_at, level_value}
+use Rattle.algo_tree.specs.declared.Source.{Source}
+use Rattle.algo_tree.specs.declared.Part.TheVariants.{Numbered}
+use Rattle.algo_tree.specs.Level.{Path, level_value}
 use Rattle.algo_tree.specs.Tree as tree
 use Rattle.algo_tree.specs.Meaning.{input_value}
 use Rattle.algo_tree.specs.Valid.{IsTree}
+use Rattle.flat_graph.specs.Expr.{Expr}
 use Rattle.flat_graph.specs.declared.vertex.Source as flat_source
 use Rattle.flat_graph.specs.declared.vertex.Kind.{Kind}
 use Rattle.flat_graph.specs.declared.vertex.Kind.TheVariants.{Sensor, Actuator, Function, Constant, Get, Set, Explode, Implode, Merge}
@@ -28,6 +28,7 @@ use Rattle.flat_laws.proofs.Flatten.{flatten-keeps}
 use Rattle.flat_laws.proofs.Numbered.{Paired, pair-at}
 use Rattle.flat_laws.proofs.Pairs.{paired-main, same_cells-main}
 use Rattle.flat_laws.specs.Stands.{task_of, operation_at, IsTwin, StandsFor, AllStand, Stands, KeepsGraph}
+use Rattle.syn_base.specs.Vectors.{Vector, Values, vector_at}
 
 pub kind_get : (k : Kind) → is_get k ≡ true → (z : List ℤ) × (k ≡ Get z)
 kind_get (Get z) h = (z, refl)

@@ -2,19 +2,19 @@
 use Rattle.std.proofs.Common.{◌≡◌, ℕ, zero, suc, ◌+◌, ◌*◌, List, [], ◌∷◌, ◌++◌, length, map, sym, ap, ◌∙◌, subst, arith, zero-mul, suc-mul, replicate}
 use Rattle.std.specs.Prelude.{slice_index_or}
 use Rattle.std.proofs.lemmas.List.{map-append}
-use Rattle.level_meaning.specs.declared.source.Source.{Source}
-use Rattle.level_meaning.specs.declared.frontier.Feed.{Feed}
-use Rattle.level_meaning.specs.declared.frontier.Feed.TheVariants.{Fork, Diffuse, Iterate}
-use Rattle.level_meaning.specs.declared.frontier.Give.{Give}
-use Rattle.level_meaning.specs.declared.frontier.Give.TheVariants.{Last, Join}
-use Rattle.level_meaning.specs.Level.{numbers_below}
-use Rattle.level_meaning.specs.declared.source.Source.TheVariants.{Own, Of}
+use Rattle.algo_tree.specs.declared.Source.{Source}
+use Rattle.algo_tree.specs.declared.Feed.{Feed}
+use Rattle.algo_tree.specs.declared.Feed.TheVariants.{Fork, Diffuse, Iterate}
+use Rattle.algo_tree.specs.declared.Give.{Give}
+use Rattle.algo_tree.specs.declared.Give.TheVariants.{Last, Join}
+use Rattle.algo_tree.specs.declared.Source.TheVariants.{Own, Of}
 use Rattle.algo_tree.specs.Tree.{Label, explode, implode, Vertex, vertex, Vertices, no_vertices, and_vertex}
 use Rattle.algo_tree.specs.View.{vertices_of}
 use Rattle.algo_tree.specs.Well.{fork_names, join_names, IsOne}
 use Rattle.flat_laws.specs.Lines.{in_line_order}
 use Rattle.flat_laws.proofs.Lines.{many-lines}
 use Rattle.flat_laws.specs.Unrolled.{made, explode_of, explodes, copy, implode_of, implodes, begin, unrolled_inside}
+use Rattle.syn_base.specs.Numbers.{numbers_below}
 
 module _ (one : Vertex → ℕ) (all : Vertices → ℕ) (none : all no_vertices ≡ 0) (more : (u : Vertex) (us : Vertices) → all (and_vertex u us) ≡ one u + all us)
     (explode_is : (d name : List ℕ) (ins : List Source) (outs : List ℕ) → one (made d name ins outs explode) ≡ 1) (implode_is : (d name : List ℕ) (ins : List Source) (outs : List ℕ) → one (made d name ins outs implode) ≡ 1)

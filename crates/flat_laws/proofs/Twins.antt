@@ -1,12 +1,12 @@
 -- The two halves of a delay are each other's twins, and have one length.
 use Rattle.std.proofs.Common.{◌≡◌, ℕ, zero, suc, ◌+◌, nat_lt, ℤ, true, false, List, [], ◌∷◌, length, map, Option, Some, None, is_none, slice_get, refl, sym, ap, ◌∙◌, subst, arith, lt-ltb, eq-eqb, zero-add}
 use Rattle.std.proofs.lemmas.Bool.{and_from}
-use Rattle.level_meaning.specs.declared.source.Source.{Source}
+use Rattle.algo_tree.specs.declared.Source.{Source}
 use Rattle.flat_graph.specs.declared.vertex.Kind.{Kind}
 use Rattle.flat_graph.specs.declared.vertex.Kind.TheVariants.{Sensor, Actuator, Function, Constant, Get, Set, Explode, Implode, Merge}
 use Rattle.flat_graph.specs.declared.vertex.Vertex.{Vertex}
 use Rattle.flat_graph.specs.Graph.{Graph, with_vertex, lens_of}
-use Rattle.flat_graph.specs.Valid.{is_only, names, is_set_half_by, is_set_half_of, is_get_half_by, is_get_half_of, has_set_half, has_get_half, has_twin}
+use Rattle.flat_graph.specs.Valid.{is_only, is_set_half_by, is_set_half_of, is_get_half_by, is_get_half_of, has_set_half, has_get_half, has_twin, is_number}
 use Rattle.flat_laws.specs.Flat as list
 use Rattle.flat_laws.specs.Flat.{Operation, gets, sets, is_set}
 use Rattle.flat_laws.proofs.Numbered.{Paired, pair-at}
@@ -79,7 +79,7 @@ module _ (g : Graph) (ops : List Operation) (stands : Stands g ops) (halves : Fo
       ∙ and_from (nat_lt v (suc v)) (with_vertex (slice_get g.vertices (suc v)) false (is_set_half_of g.vertices v n)) (lt-ltb v (suc v) (omega arith))
       (ap (λ y. with_vertex y false (is_set_half_of g.vertices v n)) h.is
       ∙ ap (is_set_half_by g.vertices v n h.vertex) h.kind
-      ∙ and_from (names h.vertex.twin v) (is_only n (lens_of g.vertices h.vertex.ins)) (ap (λ t. names t v) h.twin ∙ eq-eqb v v refl) (only-pass n (lens_of g.vertices h.vertex.ins) (h.lens ∙ outs)))
+      ∙ and_from (is_number h.vertex.twin v) (is_only n (lens_of g.vertices h.vertex.ins)) (ap (λ t. is_number t v) h.twin ∙ eq-eqb v v refl) (only-pass n (lens_of g.vertices h.vertex.ins) (h.lens ∙ outs)))
 
   -- a set half's twin
   get-half : (u : ℕ) (o : Operation) (twin : Option ℕ) → Getting u o → twin ≡ Some u → has_get_half g.vertices (suc u) twin ≡ true
@@ -88,7 +88,7 @@ module _ (g : Graph) (ops : List Operation) (stands : Stands g ops) (halves : Fo
       ∙ and_from (nat_lt u (suc u)) (with_vertex (slice_get g.vertices u) false (is_get_half_of (suc u))) (lt-ltb u (suc u) (omega arith))
       (ap (λ y. with_vertex y false (is_get_half_of (suc u))) h.is
       ∙ ap (is_get_half_by (suc u) h.vertex) h.kind
-      ∙ ap (λ t. names t (suc u)) h.twin ∙ eq-eqb (suc u) (suc u) refl)
+      ∙ ap (λ t. is_number t (suc u)) h.twin ∙ eq-eqb (suc u) (suc u) refl)
 
   twin-by : (v : ℕ) (k : Kind) (twin : Option ℕ) → ((z : List ℤ) → k ≡ Get z → has_set_half g.vertices v (length z) twin ≡ true) → (k ≡ Set → has_get_half g.vertices v twin ≡ true)
       → IsTwin v (task_of g.bodies k) twin → has_twin g.vertices v k twin ≡ true

@@ -2,13 +2,13 @@
 -- not valid where n is 0 or 65, even where the body is there.
 use Rattle.std.proofs.Common.{◌≡◌, ℕ, zero, suc, pos, true, false, List, [], ◌∷◌, replicate, None, refl, sym, ◌∙◌, codes, arith}
 use Rattle.std.proofs.lemmas.List.{length-replicate}
-use Rattle.body_lang.specs.Expr.{Expr, literal}
-use Rattle.level_meaning.specs.declared.part.Part.TheVariants.{Named}
-use Rattle.level_meaning.specs.Order.{IsAcyclic}
+use Rattle.algo_tree.specs.declared.Part.TheVariants.{Named}
+use Rattle.algo_tree.specs.Order.{IsAcyclic}
 use Rattle.algo_tree.specs.Meaning.{nodes}
 use Rattle.algo_tree.specs.Tree as tree
 use Rattle.algo_tree.specs.Typed.{AreLengths, AllPortsBelow}
 use Rattle.algo_tree.specs.Valid.{IsTree}
+use Rattle.flat_graph.specs.Expr.{Expr, literal}
 use Rattle.flat_graph.specs.declared.vertex.Kind.TheVariants.{Function}
 use Rattle.flat_graph.specs.Graph.{Graph}
 use Rattle.flat_graph.specs.Valid.{is_flat}

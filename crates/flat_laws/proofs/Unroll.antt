@@ -1,11 +1,11 @@
 -- A tree without repetitions has the same meaning.
 use Rattle.std.proofs.Common.{◌≡◌, ℕ, ◌<◌, List, [], ◌∷◌, ◌++◌, map, refl, sym, ap, ap₂, ◌∙◌, subst}
 use Rattle.std.proofs.lemmas.List.{map-append}
-use Rattle.level_meaning.specs.declared.source.Source.{Source}
-use Rattle.level_meaning.specs.declared.source.Guard.{Guard}
-use Rattle.level_meaning.specs.declared.frontier.Feed.{Feed}
-use Rattle.level_meaning.specs.declared.frontier.Give.{Give}
-use Rattle.level_meaning.specs.Level.{Vector, Behaviour, numbers_below}
+use Rattle.algo_tree.specs.declared.Source.{Source}
+use Rattle.algo_tree.specs.declared.Guard.{Guard}
+use Rattle.algo_tree.specs.declared.Feed.{Feed}
+use Rattle.algo_tree.specs.declared.Give.{Give}
+use Rattle.algo_tree.specs.Level.{Behaviour}
 use Rattle.algo_tree.specs.Tree.{Label, Kind, sensor, actuator, constant, delay, function, explode, implode, merge, graph, switch, repeat, Vertex, vertex, Vertices, no_vertices, and_vertex}
 use Rattle.algo_tree.specs.Meaning.{asked_by, behaviour_of, node, nodes, actuator_values, actuator_value}
 use Rattle.algo_tree.specs.View.{vertices_of}
@@ -20,6 +20,8 @@ use Rattle.flat_laws.specs.Lines.{in_line_order}
 use Rattle.flat_laws.proofs.Lines.{AreApart, apart-of}
 use Rattle.algo_tree.proofs.Lists.{map_map}
 use Rattle.flat_laws.proofs.Unrolled.{level, level_acyclic, unrolled_outputs, unrolled_next, unrolled_initial}
+use Rattle.syn_base.specs.Vectors.{Vector}
+use Rattle.syn_base.specs.Numbers.{numbers_below}
 
 -- what unrolling asks for: a copy at least, one body, and fork lines of distinct names
 abbrev pub IsRepeatable : Kind → Vertices → Type 0

@@ -7,18 +7,18 @@ use Rattle.std.proofs.lemmas.Bool.Decides.{eqb_tells}
 use Rattle.std.proofs.lemmas.Slice.Eq.{bytes_eq-Decides}
 use Rattle.std.proofs.Math.Dec.{eqb-suc-zero}
 use Rattle.std.specs.Str.{bytes_eq}
-use Rattle.level_meaning.specs.declared.source.Source.{Source}
-use Rattle.level_meaning.specs.declared.source.Source.TheVariants.{Own, Of}
-use Rattle.level_meaning.specs.declared.part.Part.{Part}
-use Rattle.level_meaning.specs.declared.part.Part.TheVariants.{Named, Numbered, Port}
-use Rattle.level_meaning.specs.declared.frontier.Feed.{Feed}
-use Rattle.level_meaning.specs.declared.frontier.Feed.TheVariants.{Fork, Diffuse, Iterate}
-use Rattle.level_meaning.specs.declared.frontier.Give.{Give}
-use Rattle.level_meaning.specs.declared.frontier.Give.TheVariants.{Last, Join}
-use Rattle.level_meaning.specs.Level.{Values, Vector, State, Path, Node, find_node, node_next, graph_next, repeat_next, graph_initial, repeat_initial, Behaviour, below, vector_at, numbers_below, parts_of, all_joined, joined, source_value, with_node, node_outputs, out, level_value, copy_input, copy_outputs, copy_before, give_value, graph_outputs, repeat_outputs}
-use Rattle.level_meaning.specs.Order.{IsBefore, AreBefore, IsAcyclic, MeetsLevel}
-use Rattle.level_meaning.proofs.Fuel.{unique}
-use Rattle.level_meaning.proofs.InOrder.{acyclic-in_order}
+use Rattle.algo_tree.specs.declared.Source.{Source}
+use Rattle.algo_tree.specs.declared.Source.TheVariants.{Own, Of}
+use Rattle.algo_tree.specs.declared.Part.{Part}
+use Rattle.algo_tree.specs.declared.Part.TheVariants.{Named, Numbered, Port}
+use Rattle.algo_tree.specs.declared.Feed.{Feed}
+use Rattle.algo_tree.specs.declared.Feed.TheVariants.{Fork, Diffuse, Iterate}
+use Rattle.algo_tree.specs.declared.Give.{Give}
+use Rattle.algo_tree.specs.declared.Give.TheVariants.{Last, Join}
+use Rattle.algo_tree.specs.Level.{State, Path, Node, find_node, node_next, graph_next, repeat_next, graph_initial, repeat_initial, Behaviour, below, all_joined, joined, source_value, with_node, node_outputs, out, level_value, copy_input, copy_outputs, copy_before, give_value, graph_outputs, repeat_outputs}
+use Rattle.algo_tree.specs.Order.{IsBefore, AreBefore, IsAcyclic, MeetsLevel}
+use Rattle.algo_tree.proofs.Fuel.{unique}
+use Rattle.algo_tree.proofs.InOrder.{acyclic-in_order}
 use Rattle.algo_tree.specs.Tree.{Label, Vertices}
 use Rattle.algo_tree.specs.Meaning.{behaviour_of, node, nodes}
 use Rattle.algo_tree.specs.Well.{fork_names}
@@ -28,6 +28,9 @@ use Rattle.flat_laws.proofs.Lines.{AllLines, AreApart, apart-lines, IsLine, line
 use Rattle.algo_tree.proofs.Segments.{OrderFrom, in_order-from, order-append, before_below, order_below, before-asked}
 use Rattle.flat_laws.specs.Unrolled.{explode_of, explodes, copy_sources, copy as copy_vertex, implode_of, implodes, give_sources, begin}
 use Rattle.algo_tree.proofs.Lists.{append_left, append_right, map_below, long_below, at_below, none_past, map_map, mapped}
+use Rattle.syn_base.specs.Vectors.{Vector, Values, vector_at}
+use Rattle.syn_base.specs.Numbers.{numbers_below}
+use Rattle.syn_base.specs.Rows.{cut}
 
 drop_none : (b : ℕ) → drop {A = ℤ} b [] ≡ []
 drop_none zero = refl
@@ -38,7 +41,7 @@ drop_twice zero b v = rw zero-add
 drop_twice (suc a) b [] = drop_none b ∙ sym (drop_none (suc a + b))
 drop_twice (suc a) b (x ∷ v) = rw suc-add (drop_twice a b v)
 
-part_at : (n len i : ℕ) (v : Vector) → i < n → vector_at (parts_of (replicate n len) v) i ≡ take len (drop (i * len) v)
+part_at : (n len i : ℕ) (v : Vector) → i < n → vector_at (cut (replicate n len) v) i ≡ take len (drop (i * len) v)
 part_at zero len i v h = absurd (omega arith)
 part_at (suc n) len zero v h = rw zero-mul
 part_at (suc n) len (suc i) v h = part_at n len i (drop len v) (omega arith) ∙ ap (take len) (drop_twice len (i * len) v ∙ ap (λ k. drop k v) (omega arith))
@@ -53,7 +56,7 @@ joined_is copy y (suc n) =
     ap all_joined (map-append (λ i. vector_at (copy i) y) (numbers_below n) (n ∷ [])) ∙ joined_snoc (map (λ i. vector_at (copy i) y) (numbers_below n)) (vector_at (copy n) y) ∙ ap (λ v. v ++ vector_at (copy n) y) (joined_is copy y n)
 
 abbrev explode_values : ℕ → Values → List Feed → List Values
-explode_values n ins = forked (λ k len. parts_of (replicate n len) (vector_at ins k))
+explode_values n ins = forked (λ k len. cut (replicate n len) (vector_at ins k))
 
 abbrev implode_values : ℕ → (ℕ → Values) → List Give → List Values
 implode_values n copy [] = []
@@ -139,11 +142,11 @@ module _ (d : List ℕ) (n : ℕ) (feeds : List Feed) (gives : List Give) (lens 
     F k = node_outputs row (below k.part st) look k
 
     long_explodes : c ≡ length EV
-    long_explodes = sym (long-forked (λ k len. parts_of (replicate n len) (vector_at ins k)) S ∙ many-lines feeds)
+    long_explodes = sym (long-forked (λ k len. cut (replicate n len) (vector_at ins k)) S ∙ many-lines feeds)
 
     explodes_meet : (fs : List Feed) → map F (map node (explodes d n fs)) ≡ explode_values n ins fs
     explodes_meet [] = refl
-    explodes_meet (Fork name k len ∷ fs) = ap (λ vs. parts_of (replicate n len) (vector_at ins k) ∷ vs) (explodes_meet fs)
+    explodes_meet (Fork name k len ∷ fs) = ap (λ vs. cut (replicate n len) (vector_at ins k) ∷ vs) (explodes_meet fs)
     explodes_meet (Diffuse k ∷ fs) = explodes_meet fs
     explodes_meet (Iterate k y ∷ fs) = explodes_meet fs
 
@@ -164,13 +167,13 @@ module _ (d : List ℕ) (n : ℕ) (feeds : List Feed) (gives : List Give) (lens 
         rw test (ap (λ vs. vector_at vs y) before)
 
     -- an explode gives the parts of the outer input of its line
-    at_explode : AreApart feeds → (name : List ℕ) (k len : ℕ) → IsLine (Fork name k len) S → expected (fork_place name S) ≡ parts_of (replicate n len) (vector_at ins k)
+    at_explode : AreApart feeds → (name : List ℕ) (k len : ℕ) → IsLine (Fork name k len) S → expected (fork_place name S) ≡ cut (replicate n len) (vector_at ins k)
     at_explode apart name k len line =
         let below = place-below name k len S line in
         let many = many-lines feeds in
         let long = long_explodes in
         append_left EV (CV ++ IV) (fork_place name S) [] (omega (arith, below, many, long))
-        ∙ at-place (λ j m. parts_of (replicate n m) (vector_at ins j)) [] name k len S (apart-lines feeds apart) line
+        ∙ at-place (λ j m. cut (replicate n m) (vector_at ins j)) [] name k len S (apart-lines feeds apart) line
 
     -- the inputs of copy i
     copy_meets : AreApart feeds → (i : ℕ) → i < n → (fs : List Feed) → AllLines (λ f. IsLine f S) fs → map look (copy_sources c i S fs) ≡ map (copy_input ins (copy_before feeds body row st ins i) i) fs

@@ -1,13 +1,13 @@
 -- In an unrolled tree sensors and actuators stand where they stood.
 use Rattle.std.proofs.Common.{◌≡◌, ℕ, List, ◌++◌, length, refl, sym, ap, ◌∙◌, subst}
-use Rattle.level_meaning.specs.declared.frontier.Feed.{Feed}
-use Rattle.level_meaning.specs.declared.frontier.Give.{Give}
-use Rattle.level_meaning.specs.Level.{numbers_below}
+use Rattle.algo_tree.specs.declared.Feed.{Feed}
+use Rattle.algo_tree.specs.declared.Give.{Give}
 use Rattle.algo_tree.specs.Tree.{Label, Kind, sensor, actuator, constant, delay, function, explode, implode, merge, graph, switch, repeat, Vertex, vertex, Vertices, no_vertices, and_vertex}
 use Rattle.algo_tree.specs.View.{vertices_of}
 use Rattle.algo_tree.specs.Ends.{IsNoEnd, HasNoEnds, AllNoEnds, NoneInside, sensor_number, actuator_number, sensor_numbers, actuator_numbers, AreEndsNumbered}
 use Rattle.flat_laws.specs.Unrolled.{unrolled_inside, unrolled_at, unroll, unroll_all}
 use Rattle.flat_laws.proofs.Every.{every-repeat}
+use Rattle.syn_base.specs.Numbers.{numbers_below}
 
 none-repeat : (l : Label) (n : ℕ) (feeds : List Feed) (gives : List Give) (us : Vertices) → AllNoEnds us → AllNoEnds (vertices_of (unrolled_inside l.definition n feeds gives l.outs us))
 none-repeat = every-repeat HasNoEnds AllNoEnds tt (λ u us h k. (h, k)) (λ u us h. h) (λ d name ins outs. (tt, tt)) (λ d name ins outs. (tt, tt)) (λ c feeds lb vs i h. h)

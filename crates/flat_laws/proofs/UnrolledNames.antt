@@ -2,12 +2,11 @@
 use Rattle.std.proofs.Common.{◌≡◌, ℕ, suc, List, [], ◌∷◌, ◌++◌, map, sym, subst}
 use Rattle.std.specs.Prelude.{IsTrue}
 use Rattle.syn_base.specs.Name.{is_name}
-use Rattle.level_meaning.specs.declared.source.Source.{Source}
-use Rattle.level_meaning.specs.declared.frontier.Feed.{Feed}
-use Rattle.level_meaning.specs.declared.frontier.Feed.TheVariants.{Fork, Diffuse, Iterate}
-use Rattle.level_meaning.specs.declared.frontier.Give.{Give}
-use Rattle.level_meaning.specs.declared.frontier.Give.TheVariants.{Last, Join}
-use Rattle.level_meaning.specs.Level.{numbers_below}
+use Rattle.algo_tree.specs.declared.Source.{Source}
+use Rattle.algo_tree.specs.declared.Feed.{Feed}
+use Rattle.algo_tree.specs.declared.Feed.TheVariants.{Fork, Diffuse, Iterate}
+use Rattle.algo_tree.specs.declared.Give.{Give}
+use Rattle.algo_tree.specs.declared.Give.TheVariants.{Last, Join}
 use Rattle.algo_tree.specs.Tree.{Label, Kind, sensor, actuator, constant, delay, function, explode, implode, merge, graph, switch, repeat, Vertex, vertex, Vertices, no_vertices, and_vertex}
 use Rattle.algo_tree.specs.Valid.{IsTree}
 use Rattle.algo_tree.specs.View.{vertices_of}
@@ -17,6 +16,7 @@ use Rattle.flat_laws.specs.Lines.{in_line_order}
 use Rattle.flat_laws.proofs.Lines.{names-lines}
 use Rattle.algo_tree.specs.Relabelled.{with_kind}
 use Rattle.flat_laws.specs.Unrolled.{made, explodes, copy, copies, implodes, begin, unrolled_at, unroll, unroll_all}
+use Rattle.syn_base.specs.Numbers.{numbers_below}
 
 named-append : (xs ys : List Vertex) → AllNamed (vertices_of xs) → AllNamed (vertices_of ys) → AllNamed (vertices_of (xs ++ ys))
 named-append [] ys h g = g

@@ -2,16 +2,16 @@
 use Rattle.std.proofs.Common.{◌≡◌, ℕ, suc, ◌+◌, ◌<◌, ℤ, List, [], ◌∷◌, ◌++◌, map, append-nil, replicate, slice_index_or, refl, sym, ap, ap₂, subst, ◌∙◌}
 use mathlib.Core.Path.{fun_ext}
 use Rattle.std.specs.List.{flat_map}
-use Rattle.level_meaning.specs.declared.source.Source.{Source}
-use Rattle.level_meaning.specs.declared.source.Source.TheVariants.{Own, Of}
-use Rattle.level_meaning.specs.declared.part.Part.TheVariants.{Numbered}
-use Rattle.level_meaning.specs.declared.frontier.Feed.{Feed}
-use Rattle.level_meaning.specs.declared.frontier.Feed.TheVariants.{Fork, Diffuse, Iterate}
-use Rattle.level_meaning.specs.declared.frontier.Give.{Give}
-use Rattle.level_meaning.specs.declared.frontier.Give.TheVariants.{Last, Join}
-use Rattle.level_meaning.specs.Level.{Path, numbers_below}
+use Rattle.algo_tree.specs.declared.Source.{Source}
+use Rattle.algo_tree.specs.declared.Source.TheVariants.{Own, Of}
+use Rattle.algo_tree.specs.declared.Part.TheVariants.{Numbered}
+use Rattle.algo_tree.specs.declared.Feed.{Feed}
+use Rattle.algo_tree.specs.declared.Feed.TheVariants.{Fork, Diffuse, Iterate}
+use Rattle.algo_tree.specs.declared.Give.{Give}
+use Rattle.algo_tree.specs.declared.Give.TheVariants.{Last, Join}
+use Rattle.algo_tree.specs.Level.{Path}
+use Rattle.algo_tree.specs.Order.{IsAcyclic}
 use Rattle.algo_tree.specs.Tree.{Label, Kind, sensor, actuator, constant, delay, function, explode, implode, merge, graph, switch, repeat, Vertex, vertex, Vertices, no_vertices, and_vertex}
-use Rattle.level_meaning.specs.Order.{IsAcyclic}
 use Rattle.algo_tree.specs.Meaning.{asked_by, nodes}
 use Rattle.algo_tree.specs.Typed.{label_of}
 use Rattle.algo_tree.specs.View.{vertices_of}
@@ -28,6 +28,7 @@ use Rattle.flat_laws.specs.Table.{Condition, Row, row, Inside, explode_rows, imp
 use Rattle.flat_laws.proofs.Lists.{flat-below}
 use Rattle.flat_laws.proofs.Rows.{vertex_rows, rows-append}
 use Rattle.flat_laws.proofs.Copies.{body, level, look, inputs-lead, level-leads, outputs-lead, joined-lead}
+use Rattle.syn_base.specs.Numbers.{numbers_below}
 
 -- what is said of a unit of this kind, with these vertices inside
 abbrev outlet_by : Path → Label → Kind → Vertices → Outlet

@@ -4,13 +4,12 @@ use Rattle.std.proofs.Math.Dec.{eqb-suc-zero}
 use Rattle.std.specs.Prelude.{sum}
 use Rattle.std.proofs.lemmas.List.{map-append, get_or-replicate, length-replicate}
 use Rattle.std.proofs.lemmas.List.Folds.{sum_by-replicate}
-use Rattle.level_meaning.specs.declared.source.Source.{Source}
-use Rattle.level_meaning.specs.declared.source.Source.TheVariants.{Own, Of}
-use Rattle.level_meaning.specs.declared.frontier.Feed.{Feed}
-use Rattle.level_meaning.specs.declared.frontier.Feed.TheVariants.{Fork, Diffuse, Iterate}
-use Rattle.level_meaning.specs.declared.frontier.Give.{Give}
-use Rattle.level_meaning.specs.declared.frontier.Give.TheVariants.{Last, Join}
-use Rattle.level_meaning.specs.Level.{numbers_below}
+use Rattle.algo_tree.specs.declared.Source.{Source}
+use Rattle.algo_tree.specs.declared.Source.TheVariants.{Own, Of}
+use Rattle.algo_tree.specs.declared.Feed.{Feed}
+use Rattle.algo_tree.specs.declared.Feed.TheVariants.{Fork, Diffuse, Iterate}
+use Rattle.algo_tree.specs.declared.Give.{Give}
+use Rattle.algo_tree.specs.declared.Give.TheVariants.{Last, Join}
 use Rattle.algo_tree.specs.Tree.{Label, Kind, sensor, actuator, constant, delay, function, explode, implode, merge, graph, switch, repeat, Vertex, vertex, Vertices, no_vertices, and_vertex}
 use Rattle.algo_tree.specs.View.{vertices_of}
 use Rattle.algo_tree.specs.Well.{IsOne, IsWell, AllWell}
@@ -20,10 +19,10 @@ use Rattle.algo_tree.proofs.Appends.{outs-append, typed-append}
 use Rattle.flat_laws.specs.Unrolled.{explodes, copy_sources, copy, implodes, give_sources, begin, unrolled_inside, unrolled_at, unroll, unroll_all}
 use Rattle.flat_laws.specs.Lines.{in_line_order, fork_place}
 use Rattle.flat_laws.proofs.Lines.{AllLines, all-lines, AreApart, apart-lines, IsLine, lines-are, many-lines, forked, long-forked, place-below, at-place}
-use Rattle.algo_tree.proofs.Lists.{append_left, append_right, map_map, map_below}
+use Rattle.algo_tree.proofs.Lists.{append_left, append_right, map_map, map_below, same_below, lengths-replicate}
 use Rattle.flat_laws.proofs.Unroll.{IsRepeatable, can_unroll, repeatable-unrolled}
 use Rattle.flat_laws.proofs.Labels.{label-unroll, outs-unroll}
-use Rattle.algo_tree.proofs.Lists.{same_below, lengths-replicate}
+use Rattle.syn_base.specs.Numbers.{numbers_below}
 
 -- lengths
 length_at : (ns : List ℕ) (k : ℕ) → AreLengths ns → 0 < get_or ns k 0 → IsLength (get_or ns k 0)

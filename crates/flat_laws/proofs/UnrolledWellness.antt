@@ -2,15 +2,15 @@
 use Rattle.std.proofs.Common.{◌≡◌, ℕ, zero, suc, ◌<◌, ◌≤◌, ◌==◌, inl, inr, List, [], ◌∷◌, ◌++◌, length, map, false, refl, sym, ap, ◌∙◌, subst, arith}
 use Rattle.std.proofs.lemmas.List.{map-append}
 use Rattle.std.proofs.lemmas.Bool.Decides.{eqb_tells}
-use Rattle.level_meaning.specs.declared.source.Guard.{Guard}
-use Rattle.level_meaning.specs.declared.part.Part.TheVariants.{Numbered, Port}
-use Rattle.level_meaning.specs.declared.frontier.Feed.{Feed}
-use Rattle.level_meaning.specs.declared.frontier.Feed.TheVariants.{Fork, Diffuse, Iterate}
-use Rattle.level_meaning.specs.declared.frontier.Give.{Give}
-use Rattle.level_meaning.specs.declared.frontier.Give.TheVariants.{Last, Join}
-use Rattle.level_meaning.specs.Level.{Node, numbers_below}
-use Rattle.level_meaning.specs.Order.{IsAcyclic}
-use Rattle.level_meaning.specs.Parts.{IsApart, HasDistinctParts}
+use Rattle.algo_tree.specs.declared.Guard.{Guard}
+use Rattle.algo_tree.specs.declared.Part.TheVariants.{Numbered, Port}
+use Rattle.algo_tree.specs.declared.Feed.{Feed}
+use Rattle.algo_tree.specs.declared.Feed.TheVariants.{Fork, Diffuse, Iterate}
+use Rattle.algo_tree.specs.declared.Give.{Give}
+use Rattle.algo_tree.specs.declared.Give.TheVariants.{Last, Join}
+use Rattle.algo_tree.specs.Level.{Node}
+use Rattle.algo_tree.specs.Order.{IsAcyclic}
+use Rattle.algo_tree.specs.Parts.{IsApart, HasDistinctParts}
 use Rattle.algo_tree.specs.Tree.{Label, Kind, sensor, actuator, constant, delay, function, explode, implode, merge, graph, switch, repeat, Vertex, vertex, Vertices, no_vertices, and_vertex}
 use Rattle.algo_tree.specs.Meaning.{node, nodes}
 use Rattle.algo_tree.specs.View.{vertices_of}
@@ -22,6 +22,7 @@ use Rattle.flat_laws.specs.Unrolled.{explodes, copy, implodes, begin, unrolled_a
 use Rattle.flat_laws.proofs.Unrolled.{level, level_acyclic, kid}
 use Rattle.flat_laws.proofs.Unroll.{nodes-unroll, nodes-unrolled, one-unrolled}
 use Rattle.algo_tree.proofs.Parts.{AllApart, apart-append, distinct-append}
+use Rattle.syn_base.specs.Numbers.{numbers_below}
 
 names-left : (xs ys : List (List ℕ)) → AreDistinctNames (xs ++ ys) → AreDistinctNames xs
 names-left [] ys h = tt

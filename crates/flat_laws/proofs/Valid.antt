@@ -2,7 +2,7 @@
 use Rattle.std.proofs.Common.{◌≡◌, ℕ, zero, suc, ◌+◌, ◌&&◌, nat_le, Bool, true, List, [], ◌∷◌, length, map, slice_index_or, Some, None, slice_get, refl, sym, ap, ◌∙◌, subst, arith, add-zero, zero-add, le-leb}
 use Rattle.std.specs.List.{list_all}
 use Rattle.std.proofs.lemmas.Bool.{and_from}
-use Rattle.level_meaning.specs.declared.source.Source.TheVariants.{Of}
+use Rattle.algo_tree.specs.declared.Source.TheVariants.{Of}
 use Rattle.algo_tree.specs.Tree as tree
 use Rattle.algo_tree.specs.Typed.{AreLengths, AreGuardsTyped}
 use Rattle.algo_tree.specs.Valid.{IsTree}

@@ -1,20 +1,22 @@
 -- Where a source of a level leads in the flat list, and the values that are found there.
 use Rattle.std.proofs.Common.{◌≡◌, ℕ, zero, suc, ◌+◌, ◌*◌, ◌≤◌, ◌==◌, inl, inr, List, [], ◌∷◌, ◌++◌, length, map, slice_index_or, Bool, true, false, cond, ◌&&◌, Option, Some, None, slice_get, refl, sym, ap, ap₂, ◌∙◌, subst, arith, length-append}
 use Rattle.std.proofs.lemmas.Bool.{cases_lt, false≢true}
-use Rattle.level_meaning.specs.declared.source.Source.{Source}
-use Rattle.level_meaning.specs.declared.source.Source.TheVariants.{Own, Of}
+use Rattle.algo_tree.specs.declared.Source.{Source}
+use Rattle.algo_tree.specs.declared.Source.TheVariants.{Own, Of}
+use Rattle.algo_tree.specs.declared.Guard.{Guard}
+use Rattle.algo_tree.specs.Level.{State, Path, Node, below, selected, source_value, all_hold, with_node, node_outputs, out, level_value, graph_outputs}
+use Rattle.algo_tree.specs.Order.{sources_ready, guards_ready, is_ready, settled, IsAcyclic}
+use Rattle.algo_tree.proofs.Fuel.{Agree, same_outputs, and-left, and-right}
 use Rattle.algo_tree.specs.Tree.{Label, Kind, sensor, actuator, constant, delay, function, explode, implode, merge, graph, switch, repeat, Vertex, vertex, Vertices, no_vertices, and_vertex}
-use Rattle.level_meaning.specs.declared.source.Guard.{Guard}
-use Rattle.level_meaning.specs.Level.{Values, Vector, State, Path, Node, below, vector_at, zeros, selected, source_value, all_hold, with_node, node_outputs, out, level_value, graph_outputs}
-use Rattle.level_meaning.specs.Order.{sources_ready, guards_ready, is_ready, settled, IsAcyclic}
 use Rattle.algo_tree.specs.Meaning.{asked_by, node, nodes, kind_outputs}
-use Rattle.flat_laws.specs.Flat.{Operation, Task, runs, gets, task_outputs, stages_of, node_of, no_state}
+use Rattle.flat_laws.specs.Flat.{Operation, Task, runs, gets, task_outputs, stages_of, node_of}
 use Rattle.flat_laws.specs.Inlined.{nowhere, Wiring, with_wiring, wire_source, wire_out, wire, gives_by, wiring, wirings, wire_guard, operation_of, stages, inlined_by, inlined, inlined_all, inlined_level}
 use Rattle.algo_tree.specs.Counted.{operations as count, operations_in as count_all, operations_by as count_by}
 use Rattle.flat_laws.specs.Plain.{IsKindPlain, IsPlain, AllPlain}
 use Rattle.flat_laws.proofs.Inlinable.{with_kind, IsKindInlinable, CanInline, AllCanInline, is_plain}
-use Rattle.level_meaning.proofs.Fuel.{Agree, same_outputs, and-left, and-right}
 use Rattle.algo_tree.proofs.Lists.{map_map, none_past}
+use Rattle.flat_graph.specs.Meaning.{no_state}
+use Rattle.syn_base.specs.Vectors.{Vector, Values, vector_at, zeros}
 
 -- the equation of each vertex, port by port, has one solution
 module _ (cs : List Node) (row : Values) (st : State) (ins : Values) (look : Source → Vector) (own : (k : ℕ) → look (Own k) ≡ vector_at ins k)

@@ -2,8 +2,7 @@
 use Rattle.std.proofs.Common.{◌≡◌, ℕ, pos, true, List, [], ◌∷◌, ◌++◌, Option, Some, None, refl, codes}
 use Rattle.std.specs.Fmt.{decimal}
 use Rattle.syn_base.specs.declared.arithmetic.Op.TheVariants.{Add}
-use Rattle.body_lang.specs.Expr.{index, element, apply}
-use Rattle.level_meaning.specs.declared.part.Part.TheVariants.{Named, Numbered, Port}
+use Rattle.flat_graph.specs.Expr.{index, element, apply}
 use Rattle.flat_graph.specs.declared.vertex.Source.{Source}
 use Rattle.flat_graph.specs.declared.vertex.Guard.{Guard}
 use Rattle.flat_graph.specs.declared.vertex.Kind.{Kind}
@@ -14,6 +13,7 @@ use Rattle.flat_graph.specs.Valid.{is_flat}
 use Rattle.flat_graph.specs.Meaning.{initial_cells, cells_after, flat_act_row}
 use Rattle.flat_laws.specs.Inlined.{operations}
 use Rattle.flat_laws.proofs.WorkedInlining.{main, rows}
+use Rattle.algo_tree.specs.declared.Part.TheVariants.{Named, Numbered, Port}
 use Rattle.algo_tree.specs.Texts.{path_text}
 use Rattle.flat_laws.specs.Stands.{Stands}
 

@@ -1,17 +1,17 @@
 -- Worked algorithms, guarded: cases with a delay inside, whose values were worked by hand, and a case in a case.
 use Rattle.std.proofs.Common.{◌≡◌, ℕ, ℤ, pos, negsuc, List, [], ◌∷◌, refl, codes}
-use Rattle.level_meaning.specs.declared.source.Source.{Source}
-use Rattle.level_meaning.specs.declared.source.Source.TheVariants.{Own, Of}
-use Rattle.level_meaning.specs.declared.source.Guard.{Guard}
-use Rattle.level_meaning.specs.declared.part.Part.{Part}
-use Rattle.level_meaning.specs.declared.part.Part.TheVariants.{Named, Numbered, Port}
-use Rattle.level_meaning.specs.Level.{Values}
 use Rattle.syn_base.specs.declared.arithmetic.Op.TheVariants.{Add}
-use Rattle.body_lang.specs.Expr.{literal, index, element, negation, apply}
+use Rattle.algo_tree.specs.declared.Source.{Source}
+use Rattle.algo_tree.specs.declared.Source.TheVariants.{Own, Of}
+use Rattle.algo_tree.specs.declared.Guard.{Guard}
+use Rattle.algo_tree.specs.declared.Part.{Part}
+use Rattle.algo_tree.specs.declared.Part.TheVariants.{Named, Numbered, Port}
 use Rattle.algo_tree.specs.Tree.{Kind, sensor, actuator, delay, function, merge, graph, switch, Vertex, vertex, Vertices, no_vertices, and_vertex}
 use Rattle.algo_tree.specs.Meaning.{past, act_row}
 use Rattle.algo_tree.specs.Counted.{operations}
+use Rattle.flat_graph.specs.Expr.{literal, index, element, negation, apply}
 use Rattle.flat_laws.specs.Guarded.{guard}
+use Rattle.syn_base.specs.Vectors.{Values}
 
 abbrev of : Part → List ℕ → List Source → List Guard → List ℕ → Kind → Vertices → Vertex
 of p d ins gs outs k us = vertex (record { part = p; definition = d; ins = ins; guards = gs; outs = outs; names = []; kind = k }) us

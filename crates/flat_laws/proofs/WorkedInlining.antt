@@ -1,17 +1,19 @@
 -- A worked algorithm, inlined: a graph that passes an input to an output, sources that stand after their readers, and a delay in
 -- it that goes on while a condition holds. Numbers, order, sources and values were worked by hand.
 use Rattle.std.proofs.Common.{◌≡◌, ℕ, pos, List, [], ◌∷◌, map, refl, codes}
-use Rattle.level_meaning.specs.declared.source.Source.{Source}
-use Rattle.level_meaning.specs.declared.source.Source.TheVariants.{Own, Of}
-use Rattle.level_meaning.specs.declared.source.Guard.{Guard}
-use Rattle.level_meaning.specs.declared.part.Part.TheVariants.{Named}
-use Rattle.level_meaning.specs.Level.{Vector, Values, Path, numbers_below}
 use Rattle.syn_base.specs.declared.arithmetic.Op.TheVariants.{Add}
-use Rattle.body_lang.specs.Expr.{index, element, apply}
+use Rattle.algo_tree.specs.declared.Source.{Source}
+use Rattle.algo_tree.specs.declared.Source.TheVariants.{Own, Of}
+use Rattle.algo_tree.specs.declared.Guard.{Guard}
+use Rattle.algo_tree.specs.declared.Part.TheVariants.{Named}
+use Rattle.algo_tree.specs.Level.{Path}
 use Rattle.algo_tree.specs.Tree.{Kind, sensor, actuator, constant, delay, function, graph, Vertex, vertex, Vertices, no_vertices, and_vertex}
 use Rattle.algo_tree.specs.Meaning.{act_row}
+use Rattle.flat_graph.specs.Expr.{index, element, apply}
 use Rattle.flat_laws.specs.Flat.{Operation, Task, runs, gets, sets, flat_act_row, flat_past}
 use Rattle.flat_laws.specs.Inlined.{operations}
+use Rattle.syn_base.specs.Vectors.{Vector, Values}
+use Rattle.syn_base.specs.Numbers.{numbers_below}
 
 abbrev of : List ℕ → List ℕ → List Source → List Guard → List ℕ → Kind → Vertices → Vertex
 of name d ins gs outs k us = vertex (record { part = Named name; definition = d; ins = ins; guards = gs; outs = outs; names = []; kind = k }) us

@@ -1,11 +1,11 @@
 -- A worked repetition whose fork lines stand in another order than the inputs of the body: the lines are `fork q w`, `diffuse k u`,
 -- `fork p v`, `join z z`, and the body takes v, w and u.
 use Rattle.std.proofs.Common.{◌≡◌, List, [], ◌∷◌, refl, codes}
-use Rattle.level_meaning.specs.declared.source.Source.TheVariants.{Own, Of}
-use Rattle.level_meaning.specs.declared.part.Part.TheVariants.{Named, Numbered}
-use Rattle.level_meaning.specs.declared.frontier.Feed.{Feed}
-use Rattle.level_meaning.specs.declared.frontier.Feed.TheVariants.{Fork, Diffuse}
-use Rattle.level_meaning.specs.declared.frontier.Give.TheVariants.{Join}
+use Rattle.algo_tree.specs.declared.Source.TheVariants.{Own, Of}
+use Rattle.algo_tree.specs.declared.Part.TheVariants.{Named, Numbered}
+use Rattle.algo_tree.specs.declared.Feed.{Feed}
+use Rattle.algo_tree.specs.declared.Feed.TheVariants.{Fork, Diffuse}
+use Rattle.algo_tree.specs.declared.Give.TheVariants.{Join}
 use Rattle.algo_tree.specs.Tree.{function, explode, implode, graph, repeat, Vertex, vertex, no_vertices, and_vertex}
 use Rattle.flat_laws.specs.Lines.{in_line_order, fork_place}
 use Rattle.flat_laws.specs.Unrolled.{made, unroll}

@@ -1,15 +1,15 @@
 -- A worked algorithm, row by row: a switch with a repetition in its first case, whose fork lines stand in another order than the inputs
 -- of the body, a delay in its second and a switch in its last; and after it a repetition in a repetition, of a switch with a delay in a case.
 use Rattle.std.proofs.Common.{◌≡◌, ℕ, ℤ, pos, List, [], ◌∷◌, ◌++◌, decimal, map, refl, codes}
-use Rattle.level_meaning.specs.declared.source.Source.{Source}
-use Rattle.level_meaning.specs.declared.source.Source.TheVariants.{Own, Of}
-use Rattle.level_meaning.specs.declared.part.Part.{Part}
-use Rattle.level_meaning.specs.declared.part.Part.TheVariants.{Named, Numbered, Port}
-use Rattle.level_meaning.specs.declared.frontier.Feed.TheVariants.{Fork, Diffuse}
-use Rattle.level_meaning.specs.declared.frontier.Give.TheVariants.{Join}
-use Rattle.level_meaning.specs.Level.{Path}
-use Rattle.body_lang.specs.Expr.{index}
+use Rattle.algo_tree.specs.declared.Source.{Source}
+use Rattle.algo_tree.specs.declared.Source.TheVariants.{Own, Of}
+use Rattle.algo_tree.specs.declared.Part.{Part}
+use Rattle.algo_tree.specs.declared.Part.TheVariants.{Named, Numbered, Port}
+use Rattle.algo_tree.specs.declared.Feed.TheVariants.{Fork, Diffuse}
+use Rattle.algo_tree.specs.declared.Give.TheVariants.{Join}
+use Rattle.algo_tree.specs.Level.{Path}
 use Rattle.algo_tree.specs.Tree.{Kind, sensor, actuator, delay, function, explode, implode, merge, graph, switch, repeat, Vertex, Vertices, no_vertices, and_vertex}
+use Rattle.flat_graph.specs.Expr.{index}
 use Rattle.flat_laws.proofs.WorkedUnrolling.{of, alone}
 use Rattle.flat_laws.specs.Flat.{runs, gets, sets}
 use Rattle.flat_laws.specs.FlatOf.{flat_of}

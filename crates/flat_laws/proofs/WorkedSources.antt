@@ -3,13 +3,13 @@
 -- and join, and in its other case a graph whose outputs are two of its own inputs, crossed. The first output of g is one of its inputs. A
 -- delay that looks back two reactions takes the second.
 use Rattle.std.proofs.Common.{◌≡◌, ℕ, ℤ, pos, List, [], ◌∷◌, ◌++◌, refl, codes}
-use Rattle.level_meaning.specs.declared.source.Source.TheVariants.{Own, Of}
-use Rattle.level_meaning.specs.declared.part.Part.TheVariants.{Named, Numbered, Port}
-use Rattle.level_meaning.specs.declared.frontier.Feed.TheVariants.{Fork, Diffuse, Iterate}
-use Rattle.level_meaning.specs.declared.frontier.Give.TheVariants.{Last, Join}
-use Rattle.level_meaning.specs.Level.{Path}
-use Rattle.body_lang.specs.Expr.{index}
+use Rattle.algo_tree.specs.declared.Source.TheVariants.{Own, Of}
+use Rattle.algo_tree.specs.declared.Part.TheVariants.{Named, Numbered, Port}
+use Rattle.algo_tree.specs.declared.Feed.TheVariants.{Fork, Diffuse, Iterate}
+use Rattle.algo_tree.specs.declared.Give.TheVariants.{Last, Join}
+use Rattle.algo_tree.specs.Level.{Path}
 use Rattle.algo_tree.specs.Tree.{Kind, sensor, actuator, delay, function, explode, implode, merge, graph, switch, repeat, Vertex, Vertices, no_vertices, and_vertex}
+use Rattle.flat_graph.specs.Expr.{index}
 use Rattle.flat_laws.proofs.WorkedUnrolling.{of, alone}
 use Rattle.flat_laws.specs.Flat.{runs, gets, sets}
 use Rattle.flat_laws.specs.FlatOf.{flat_of}

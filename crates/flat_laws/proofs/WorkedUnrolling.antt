@@ -1,19 +1,19 @@
 -- Two worked algorithms, unrolled: an accumulation whose values were worked by hand, and a repetition in a repetition.
 use Rattle.std.proofs.Common.{◌≡◌, ℕ, pos, List, [], ◌∷◌, refl, codes}
-use Rattle.level_meaning.specs.declared.source.Source.{Source}
-use Rattle.level_meaning.specs.declared.source.Source.TheVariants.{Own, Of}
-use Rattle.level_meaning.specs.declared.part.Part.{Part}
-use Rattle.level_meaning.specs.declared.part.Part.TheVariants.{Named, Numbered, Port}
-use Rattle.level_meaning.specs.declared.frontier.Feed.TheVariants.{Fork, Diffuse, Iterate}
-use Rattle.level_meaning.specs.declared.frontier.Give.TheVariants.{Last, Join}
-use Rattle.level_meaning.specs.Level.{Values}
 use Rattle.syn_base.specs.declared.arithmetic.Op.{Op}
 use Rattle.syn_base.specs.declared.arithmetic.Op.TheVariants.{Add, Mul}
-use Rattle.body_lang.specs.Expr.{index, element, apply}
+use Rattle.algo_tree.specs.declared.Source.{Source}
+use Rattle.algo_tree.specs.declared.Source.TheVariants.{Own, Of}
+use Rattle.algo_tree.specs.declared.Part.{Part}
+use Rattle.algo_tree.specs.declared.Part.TheVariants.{Named, Numbered, Port}
+use Rattle.algo_tree.specs.declared.Feed.TheVariants.{Fork, Diffuse, Iterate}
+use Rattle.algo_tree.specs.declared.Give.TheVariants.{Last, Join}
 use Rattle.algo_tree.specs.Tree.{Kind, sensor, actuator, constant, delay, function, explode, implode, graph, repeat, Vertex, vertex, Vertices, no_vertices, and_vertex}
 use Rattle.algo_tree.specs.Meaning.{past, act_row}
 use Rattle.algo_tree.specs.Counted.{operations}
+use Rattle.flat_graph.specs.Expr.{index, element, apply}
 use Rattle.flat_laws.specs.Unrolled.{unroll}
+use Rattle.syn_base.specs.Vectors.{Values}
 
 abbrev pub of : Part → List ℕ → List Source → List ℕ → Kind → Vertices → Vertex
 of p d ins outs k us = vertex (record { part = p; definition = d; ins = ins; guards = []; outs = outs; names = []; kind = k }) us

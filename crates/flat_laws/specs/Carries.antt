@@ -1,6 +1,6 @@
 -- Every operation and merge carries the guards of the cases around it, outer first.
 use Rattle.std.specs.Prelude.{◌≡◌, List, ◌++◌}
-use Rattle.level_meaning.specs.declared.source.Guard.{Guard}
+use Rattle.algo_tree.specs.declared.Guard.{Guard}
 use Rattle.algo_tree.specs.Tree.{Label, Kind, graph, Vertex, vertex, Vertices, no_vertices, and_vertex}
 use Rattle.flat_laws.specs.Guarded.{guard_sources, own_guards}
 

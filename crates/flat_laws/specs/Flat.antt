@@ -18,12 +18,14 @@ use Rattle.std.specs.Prelude.{
   if◌then◌else◌,
   slice_index_or,
 }
-use Rattle.level_meaning.specs.declared.source.Source.{Source}
-use Rattle.level_meaning.specs.declared.source.Guard.{Guard}
-use Rattle.level_meaning.specs.declared.part.Part.TheVariants.{Numbered}
-use Rattle.level_meaning.specs.Level.{Vector, Values, Path, State, Node, same_part, vector_at, all_hold, level_value}
+use Rattle.algo_tree.specs.declared.Source.{Source}
+use Rattle.algo_tree.specs.declared.Guard.{Guard}
+use Rattle.algo_tree.specs.declared.Part.TheVariants.{Numbered}
+use Rattle.algo_tree.specs.Level.{Path, State, Node, same_part, all_hold, level_value}
 use Rattle.algo_tree.specs.Tree.{Kind, actuator}
 use Rattle.algo_tree.specs.Meaning.{kind_outputs, input_value}
+use Rattle.flat_graph.specs.Meaning.{no_state}
+use Rattle.syn_base.specs.Vectors.{Vector, Values, vector_at}
 
 -- What an operation does: what a vertex of this kind does, or it gives the value of a stage of a delay, or takes its
 -- next one.
@@ -51,10 +53,6 @@ Stages = Path → ℕ → Vector
 -- What is kept at each path, stage by stage.
 abbrev pub stages_of : State → Stages
 stages_of st q i = vector_at (st q) i
-
--- A level keeps nothing for operations: each stage has its cell beside it.
-abbrev pub no_state : State
-no_state q = []
 
 -- The outputs of an active operation, by what its stage keeps.
 abbrev pub task_outputs : Task → List ℕ → Vector → Values → Values → Values

@@ -1,10 +1,10 @@
 -- The flat graph of an algorithm, as a function of its tree. Each function operation has a body of its own, in order.
 use Rattle.std.specs.Prelude.{ℕ, suc, ◌-◌, ◌+◌, List, [], ◌∷◌, ◌++◌, map, length, Option, Some, None}
-use Rattle.body_lang.specs.Expr.{Expr}
-use Rattle.level_meaning.specs.declared.source.Source as of_level
-use Rattle.level_meaning.specs.declared.source.Source.TheVariants.{Own, Of}
-use Rattle.level_meaning.specs.declared.source.Guard as guard_of_level
+use Rattle.algo_tree.specs.declared.Source as of_level
+use Rattle.algo_tree.specs.declared.Source.TheVariants.{Own, Of}
+use Rattle.algo_tree.specs.declared.Guard as guard_of_level
 use Rattle.algo_tree.specs.Tree as tree
+use Rattle.flat_graph.specs.Expr.{Expr}
 use Rattle.flat_graph.specs.declared.vertex.Source.{Source}
 use Rattle.flat_graph.specs.declared.vertex.Guard.{Guard}
 use Rattle.flat_graph.specs.declared.vertex.Kind.{Kind}
@@ -53,7 +53,8 @@ flat_kind body (runs k) = kind_of body k
 flat_kind body (gets v) = Get v
 flat_kind body sets = Set
 
--- A set half stands right after its get half.
+-- The other half of the delay, if operation v has the task of a half, and none otherwise. A set
+-- half comes right after its get half.
 abbrev pub twin_of : ℕ → Task → Option ℕ
 twin_of v (runs k) = None
 twin_of v (gets z) = Some (suc v)

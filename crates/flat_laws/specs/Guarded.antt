@@ -3,13 +3,13 @@
 -- further inputs of the graphs between: they stand before a graph's own inputs, so that these are shifted, and
 -- nothing has to be known of their number.
 use Rattle.std.specs.Prelude.{ℕ, suc, ◌+◌, ℤ, List, [], ◌∷◌, ◌++◌, length, map, slice_index_or}
-use Rattle.level_meaning.specs.declared.source.Source.{Source}
-use Rattle.level_meaning.specs.declared.source.Source.TheVariants.{Own, Of}
-use Rattle.level_meaning.specs.declared.source.Guard.{Guard}
-use Rattle.level_meaning.specs.declared.part.Part.TheVariants.{Port}
-use Rattle.level_meaning.specs.Level.{numbers_below}
+use Rattle.algo_tree.specs.declared.Source.{Source}
+use Rattle.algo_tree.specs.declared.Source.TheVariants.{Own, Of}
+use Rattle.algo_tree.specs.declared.Guard.{Guard}
+use Rattle.algo_tree.specs.declared.Part.TheVariants.{Port}
 use Rattle.algo_tree.specs.Tree.{Label, Kind, merge, graph, switch, Vertex, vertex, Vertices, no_vertices, and_vertex}
 use Rattle.algo_tree.specs.Code.{count_of, join}
+use Rattle.syn_base.specs.Numbers.{numbers_below}
 
 -- A source of a level, where n further inputs stand before the level's own.
 abbrev pub shift : ℕ → Source → Source
@@ -120,6 +120,7 @@ abbrev mutual
       (guarded (gs ++ guard_for condition values case ∷ []) condition u)
       (guarded_cases gs condition values (suc case) us)
 
--- The main graph, which no case is around.
+-- The tree of this main graph, which no case is around, with each switch in it made a graph whose
+-- operations have guards.
 abbrev pub guard : Vertex → Vertex
 guard main = guarded [] 0 main

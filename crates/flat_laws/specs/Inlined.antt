@@ -18,14 +18,15 @@ use Rattle.std.specs.Prelude.{
   Some,
   None,
 }
-use Rattle.level_meaning.specs.declared.source.Source.{Source}
-use Rattle.level_meaning.specs.declared.source.Source.TheVariants.{Own, Of}
-use Rattle.level_meaning.specs.declared.source.Guard.{Guard}
-use Rattle.level_meaning.specs.Level.{Vector, Path}
+use Rattle.algo_tree.specs.declared.Source.{Source}
+use Rattle.algo_tree.specs.declared.Source.TheVariants.{Own, Of}
+use Rattle.algo_tree.specs.declared.Guard.{Guard}
+use Rattle.algo_tree.specs.Level.{Path}
 use Rattle.algo_tree.specs.Tree.{Label, Kind, delay, graph, Vertex, vertex, Vertices, no_vertices, and_vertex}
 use Rattle.algo_tree.specs.Meaning.{asked_by}
 use Rattle.algo_tree.specs.Counted.{operations as count}
 use Rattle.flat_laws.specs.Flat.{Operation, Task, runs, gets, sets}
+use Rattle.syn_base.specs.Vectors.{Vector}
 
 -- A source that is not there. A level without own inputs gives the empty vector for it, as for any port out of range.
 abbrev pub nowhere : Source

@@ -3,8 +3,8 @@
 -- input.
 use Rattle.std.specs.Prelude.{ℕ, suc, nat_le, List, [], ◌∷◌, if◌then◌else◌}
 use Rattle.std.specs.Str.{bytes_eq}
-use Rattle.level_meaning.specs.declared.frontier.Feed.{Feed}
-use Rattle.level_meaning.specs.declared.frontier.Feed.TheVariants.{Fork, Diffuse, Iterate}
+use Rattle.algo_tree.specs.declared.Feed.{Feed}
+use Rattle.algo_tree.specs.declared.Feed.TheVariants.{Fork, Diffuse, Iterate}
 
 -- The outer input that a line names.
 abbrev pub outer_of : Feed → ℕ

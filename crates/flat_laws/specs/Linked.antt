@@ -1,8 +1,8 @@
 -- Operations whose sources lead to operations. In the flat list of a tree all do, since the lengths of a tree fit.
 use Rattle.std.specs.Prelude.{List, [], ◌∷◌}
-use Rattle.level_meaning.specs.declared.source.Source.{Source}
-use Rattle.level_meaning.specs.declared.source.Source.TheVariants.{Own, Of}
-use Rattle.level_meaning.specs.declared.source.Guard.{Guard}
+use Rattle.algo_tree.specs.declared.Source.{Source}
+use Rattle.algo_tree.specs.declared.Source.TheVariants.{Own, Of}
+use Rattle.algo_tree.specs.declared.Guard.{Guard}
 use Rattle.flat_laws.specs.Flat.{Operation}
 
 -- The source is an output of an operation.

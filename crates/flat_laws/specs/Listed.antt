@@ -1,7 +1,7 @@
 -- A flat graph as a table of its operations.
 use Rattle.std.specs.Prelude.{◌≡◌, ℕ, List, [], map, slice_index_or}
-use Rattle.body_lang.specs.Expr.{Expr}
 use Rattle.algo_tree.specs.Tree as tree
+use Rattle.flat_graph.specs.Expr.{Expr}
 use Rattle.flat_graph.specs.declared.vertex.Source.{Source}
 use Rattle.flat_graph.specs.declared.vertex.Guard.{Guard}
 use Rattle.flat_graph.specs.declared.vertex.Vertex.{Vertex}

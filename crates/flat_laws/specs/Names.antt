@@ -9,7 +9,9 @@ abbrev pub stage_text : ℕ → List ℕ
 stage_text zero = []
 stage_text (suc i) = codes "." ++ decimal (suc i)
 
--- The halves of the stages of a delay have one path.
+-- What the name of an operation with this task has after its path: which half of a delay it is and
+-- of which stage, since the halves of all stages of a delay have one path; and nothing if it is no
+-- half.
 abbrev pub half_text : Task → ℕ → List ℕ
 half_text (runs k) i = []
 half_text (gets v) i = codes ":get" ++ stage_text i

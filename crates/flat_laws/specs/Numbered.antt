@@ -17,10 +17,12 @@ use Rattle.std.specs.Prelude.{
   None,
   true,
 }
-use Rattle.level_meaning.specs.declared.source.Source.{Source}
-use Rattle.level_meaning.specs.declared.part.Part.TheVariants.{Numbered}
-use Rattle.level_meaning.specs.Level.{Vector, Values, Node, vector_at, all_hold, level_value}
-use Rattle.flat_laws.specs.Flat.{Operation, task_outputs, no_state, is_get, initial_value, flat_value, flat_past}
+use Rattle.algo_tree.specs.declared.Source.{Source}
+use Rattle.algo_tree.specs.declared.Part.TheVariants.{Numbered}
+use Rattle.algo_tree.specs.Level.{Node, all_hold, level_value}
+use Rattle.flat_laws.specs.Flat.{Operation, task_outputs, is_get, initial_value, flat_value, flat_past}
+use Rattle.flat_graph.specs.Meaning.{no_state}
+use Rattle.syn_base.specs.Vectors.{Vector, Values, vector_at}
 
 -- What is kept, by the number of the get half.
 abbrev pub Cells : Type 0

@@ -11,14 +11,14 @@ IsNumbered body (Function number) = number ≡ body
 IsNumbered body _ = Unit {0}
 
 -- How many bodies an operation of this kind has: 1 if it is a function, else 0.
-abbrev pub bodies_in : Kind → ℕ
-bodies_in (Function number) = 1
-bodies_in _ = 0
+abbrev pub body_count : Kind → ℕ
+body_count (Function number) = 1
+body_count _ = 0
 
 -- The functions have the bodies from `body` on, up to but without body `count`.
 abbrev pub AreNumbered : ℕ → ℕ → List Vertex → Type 0
 AreNumbered body count [] = body ≡ count
-AreNumbered body count (x ∷ xs) = IsNumbered body x.kind × AreNumbered (body + bodies_in x.kind) count xs
+AreNumbered body count (x ∷ xs) = IsNumbered body x.kind × AreNumbered (body + body_count x.kind) count xs
 
 -- The functions of the graph, in order, have the bodies 0, 1 and so on, and there are
 -- no other bodies.

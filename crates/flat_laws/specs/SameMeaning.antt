@@ -1,10 +1,11 @@
 -- A flat list of the same meaning as a tree.
 use Rattle.std.specs.Prelude.{◌≡◌, ℕ, List}
-use Rattle.level_meaning.specs.Level.{Values, Path, vector_at}
-use Rattle.level_meaning.specs.Order.{IsAcyclic}
+use Rattle.algo_tree.specs.Level.{Path}
+use Rattle.algo_tree.specs.Order.{IsAcyclic}
 use Rattle.algo_tree.specs.Tree.{Vertex}
 use Rattle.algo_tree.specs.Meaning.{past, act_row}
 use Rattle.flat_laws.specs.Flat.{Operation, Stages, flat_level, flat_past, flat_act_row}
+use Rattle.syn_base.specs.Vectors.{Values, vector_at}
 
 -- No operation asks for itself. Over any rows of the sensors: in each reaction the actuators take the same values in
 -- the same order, and after any number of reactions the cells of the stages of each delay are what is kept at its

@@ -1,10 +1,10 @@
 -- The flat graph that stands for a flat list: the same operations by the same numbers, whose functions are bodies of
 -- the graph.
 use Rattle.std.specs.Prelude.{◌≡◌, ℕ, suc, List, [], ◌∷◌, map, Option, Some, None, true, slice_get, slice_index_or}
-use Rattle.body_lang.specs.Expr.{Expr}
-use Rattle.level_meaning.specs.Level.{Values, Path, vector_at}
+use Rattle.algo_tree.specs.Level.{Path}
 use Rattle.algo_tree.specs.Tree as tree
 use Rattle.algo_tree.specs.Meaning.{past, act_row}
+use Rattle.flat_graph.specs.Expr.{Expr}
 use Rattle.flat_graph.specs.declared.vertex.Kind.{Kind}
 use Rattle.flat_graph.specs.declared.vertex.Kind.TheVariants.{
   Sensor,
@@ -22,6 +22,7 @@ use Rattle.flat_graph.specs.Graph.{Graph}
 use Rattle.flat_graph.specs.Meaning.{level_source, level_guard, cell_of, initial_cells, cells_after, flat_act_row}
 use Rattle.flat_laws.specs.Flat.{Operation, Task, runs, gets, sets, is_get}
 use Rattle.flat_laws.specs.Names.{name_of}
+use Rattle.syn_base.specs.Vectors.{Values, vector_at}
 
 -- What an operation of this kind does, by the bodies of functions.
 abbrev pub task_of : List (List Expr) → Kind → Task

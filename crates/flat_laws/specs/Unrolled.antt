@@ -18,14 +18,13 @@ use Rattle.std.specs.Prelude.{
   slice_index_or,
   if◌then◌else◌,
 }
-use Rattle.level_meaning.specs.declared.source.Source.{Source}
-use Rattle.level_meaning.specs.declared.source.Source.TheVariants.{Own, Of}
-use Rattle.level_meaning.specs.declared.part.Part.TheVariants.{Numbered, Port}
-use Rattle.level_meaning.specs.declared.frontier.Feed.{Feed}
-use Rattle.level_meaning.specs.declared.frontier.Feed.TheVariants.{Fork, Diffuse, Iterate}
-use Rattle.level_meaning.specs.declared.frontier.Give.{Give}
-use Rattle.level_meaning.specs.declared.frontier.Give.TheVariants.{Last, Join}
-use Rattle.level_meaning.specs.Level.{numbers_below}
+use Rattle.algo_tree.specs.declared.Source.{Source}
+use Rattle.algo_tree.specs.declared.Source.TheVariants.{Own, Of}
+use Rattle.algo_tree.specs.declared.Part.TheVariants.{Numbered, Port}
+use Rattle.algo_tree.specs.declared.Feed.{Feed}
+use Rattle.algo_tree.specs.declared.Feed.TheVariants.{Fork, Diffuse, Iterate}
+use Rattle.algo_tree.specs.declared.Give.{Give}
+use Rattle.algo_tree.specs.declared.Give.TheVariants.{Last, Join}
 use Rattle.algo_tree.specs.Tree.{
   Label,
   Kind,
@@ -43,6 +42,7 @@ use Rattle.algo_tree.specs.View.{vertices_of}
 use Rattle.algo_tree.specs.Well.{fork_names}
 use Rattle.algo_tree.specs.Relabelled.{with_kind}
 use Rattle.flat_laws.specs.Lines.{in_line_order, fork_place}
+use Rattle.syn_base.specs.Numbers.{numbers_below}
 
 -- A vertex that flattening makes for a port of a repetition. It has the repetition's definition, no guard, no name of
 -- an output, and nothing inside.
@@ -139,7 +139,8 @@ unrolled_at l (repeat count feeds gives) us =
 unrolled_at l k us = vertex (with_kind l k) us
 
 abbrev mutual
-  -- From the inside out.
+  -- The vertex with each repetition in it, also itself if it is one, made a graph of its copies,
+  -- from the inside out.
   pub unroll : Vertex → Vertex
   unroll (vertex l us) = unrolled_at l l.kind (unroll_all us)
 

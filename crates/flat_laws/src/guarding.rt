@@ -1,7 +1,7 @@
 //! The laws of guarding, each the contract of a function that does nothing and is not called: the crates above
 //! take the lemmas in `proofs/`.
 ghost use Rattle.std.specs.Prelude.{◌≡◌, ℕ, List};
-ghost use Rattle.level_meaning.specs.declared.source.Guard.{Guard};
+ghost use Rattle.algo_tree.specs.declared.Guard.{Guard};
 ghost use Rattle.algo_tree.specs.Tree.{Vertex};
 ghost use Rattle.algo_tree.specs.Valid.{IsTree};
 ghost use Rattle.algo_tree.specs.Counted.{operations};

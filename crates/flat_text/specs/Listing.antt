@@ -1,7 +1,7 @@
 -- The listing of a flat graph.
 use Rattle.std.specs.Prelude.{ℕ, suc, List, [], ◌∷◌, ◌++◌, map, codes}
 use Rattle.std.specs.Fmt.{decimal}
-use Rattle.syn_base.specs.Bytes.{Bytes}
+use Rattle.syn_base.specs.Bytes.{Bytes, each_after_comma}
 use Rattle.flat_graph.specs.declared.vertex.Source.{Source}
 use Rattle.flat_graph.specs.declared.vertex.Guard.{Guard}
 use Rattle.flat_graph.specs.declared.vertex.Kind.{Kind}
@@ -38,11 +38,6 @@ source_text s = decimal s.vertex ++ (codes "." ++ decimal s.port)
 -- The source of a condition, and the case that it has to select: `v.p?c`.
 abbrev pub guard_text : Guard → Bytes
 guard_text g = source_text g.source ++ (codes "?" ++ decimal g.case)
-
--- A comma before each.
-abbrev pub each_after_comma : List Bytes → Bytes
-each_after_comma [] = []
-each_after_comma (w ∷ ws) = (codes "," ++ w) ++ each_after_comma ws
 
 -- Joined by commas, and `-` for none.
 abbrev pub comma_list : List Bytes → Bytes

@@ -1,7 +1,8 @@
 //! The lists in a line, joined by commas. `line` calls it.
 ghost use Rattle.std.specs.Prelude.{◌≡◌, ◌++◌, ℕ, List, OnOk, map};
 ghost use Rattle.std.specs.Fmt.{decimal};
-ghost use Rattle.flat_text.specs.Listing.{comma_list, each_after_comma, guard_text, source_text};
+ghost use Rattle.flat_text.specs.Listing.{comma_list, guard_text, source_text};
+ghost use Rattle.syn_base.specs.Bytes.{each_after_comma};
 
 use flat_graph::{Guard, Source};
 use syn_base::{OutOfMemory, append, append_count};

@@ -1,10 +1,11 @@
 -- The medium over which a value comes, decision by decision.
 use Rattle.std.proofs.Common.{◌≡◌, ℕ, suc, ◌+◌, ◌<◌, List, [], ◌∷◌, length, drop, get_or, Option, Some, None, sym, ap, arith, ◌∙◌, drop-cons}
 use Rattle.std.specs.List.{find}
-use Rattle.flat_graph.specs.declared.vertex.Source.{Source}
+use Rattle.schedule.specs.declared.Source.{Source}
 use Rattle.schedule.specs.declared.decision.Transfer.{Transfer}
 use Rattle.schedule.specs.declared.decision.Decision.{Decision}
-use Rattle.graph_drawing.specs.FlatDrawing.{brings, medium_or, medium_to}
+use Rattle.graph_drawing.specs.FlatDrawing.{medium_or, medium_to}
+use Rattle.schedule.specs.Acts.{brings}
 
 module _ (ds : List Decision) (s : Source) (o : ℕ) where
   step : (i : ℕ) (d : Decision) (f : Option Transfer) → i < length ds → d ≡ get_or ds i d → f ≡ find (brings o s) d.transfers

@@ -2,11 +2,11 @@
 use Rattle.std.proofs.Common.{◌≡◌, ℕ, zero, suc, ◌+◌, ◌<◌, ◌≤◌, List, [], ◌∷◌, ◌++◌, length, Option, Some, None, refl, sym, ap, subst, inl, inr, arith, ◌∙◌}
 use Rattle.std.specs.Prelude.{◌↔◌, ◌⊎◌, slice_get}
 use Rattle.std.proofs.lemmas.Option.{same_Some}
-use Rattle.flat_graph.specs.declared.vertex.Source.{Source}
-use Rattle.flat_graph.specs.declared.vertex.Guard.{Guard}
-use Rattle.flat_graph.specs.declared.vertex.Kind.{Kind}
-use Rattle.flat_graph.specs.declared.vertex.Kind.TheVariants.{Sensor, Actuator, Function, Constant, Get, Set, Explode, Implode, Merge}
-use Rattle.flat_graph.specs.declared.vertex.Vertex.{Vertex}
+use Rattle.schedule.specs.declared.Source.{Source}
+use Rattle.schedule.specs.declared.Guard.{Guard}
+use Rattle.schedule.specs.declared.Kind.{Kind}
+use Rattle.schedule.specs.declared.Kind.TheVariants.{Sensor, Actuator, Function, Constant, Get, Set, Explode, Implode, Merge}
+use Rattle.schedule.specs.declared.Vertex.{Vertex}
 use Rattle.graph_drawing.specs.Statements.{Statement, operation, input, condition, keeps, inputs_from, conditions_from, keeping, statements_of, statements_from}
 use Rattle.graph_drawing.specs.Drawn.{At, Holds, IsMade, DrawsExactly, DrawsOnce}
 use Rattle.graph_drawing.proofs.Places.{side, at_front, at_back, Once, Apart, once_both, once_one}

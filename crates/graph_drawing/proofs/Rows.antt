@@ -1,7 +1,7 @@
 -- The statements of worked graphs.
 use Rattle.std.proofs.Common.{◌≡◌, [], ◌∷◌, Some, None, refl}
 use Rattle.std.specs.Prelude.{codes}
-use Rattle.flat_graph.specs.declared.vertex.Kind.TheVariants.{Sensor, Actuator, Get, Set}
+use Rattle.schedule.specs.declared.Kind.TheVariants.{Sensor, Actuator, Get, Set}
 use Rattle.schedule.proofs.Examples.{source, vertex, operation as worked, plain_graph, speed_schedule, relay_schedule}
 use Rattle.graph_drawing.specs.Colours.{fill_of, stroke_of}
 use Rattle.graph_drawing.specs.FlatDrawing.{operator_of, medium_for}

@@ -18,7 +18,7 @@ strokes =
 abbrev pub colour_at : Bytes → ℕ → Bytes
 colour_at colours n = slice_range colours (n % 16 * 7) (n % 16 * 7 + 7)
 
--- The colour of an operator, and of a medium.
+-- The colour with which operations on operator o are filled, one of sixteen in turn.
 unfoldable pub fill_of : ℕ → Bytes
 fill_of o = colour_at fills o
 

@@ -1,7 +1,7 @@
 -- A drawing shows exactly what is in its flat graph.
 use Rattle.std.specs.Prelude.{◌≡◌, ◌↔◌, ℕ, List, Some, slice_get}
-use Rattle.flat_graph.specs.declared.vertex.Kind.TheVariants.{Set}
-use Rattle.flat_graph.specs.declared.vertex.Vertex.{Vertex}
+use Rattle.schedule.specs.declared.Kind.TheVariants.{Set}
+use Rattle.schedule.specs.declared.Vertex.{Vertex}
 use Rattle.graph_drawing.specs.Statements.{
   Statement,
   operation,

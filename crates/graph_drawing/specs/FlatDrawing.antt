@@ -1,27 +1,12 @@
 -- The drawing of a flat graph in the DOT language.
-use Rattle.std.specs.Prelude.{
-  ℕ,
-  suc,
-  Bool,
-  ◌&&◌,
-  nat_eq,
-  List,
-  [],
-  ◌∷◌,
-  ◌++◌,
-  Option,
-  Some,
-  None,
-  option_map,
-  codes,
-}
+use Rattle.std.specs.Prelude.{ℕ, suc, nat_eq, List, [], ◌∷◌, ◌++◌, Option, Some, None, option_map, codes}
 use Rattle.std.specs.Fmt.{decimal}
 use Rattle.std.specs.List.{find, flat_map}
 use Rattle.syn_base.specs.Bytes.{Bytes}
-use Rattle.flat_graph.specs.declared.vertex.Source.{Source}
-use Rattle.flat_graph.specs.declared.vertex.Guard.{Guard}
-use Rattle.flat_graph.specs.declared.vertex.Kind.{Kind}
-use Rattle.flat_graph.specs.declared.vertex.Kind.TheVariants.{
+use Rattle.schedule.specs.declared.Source.{Source}
+use Rattle.schedule.specs.declared.Guard.{Guard}
+use Rattle.schedule.specs.declared.Kind.{Kind}
+use Rattle.schedule.specs.declared.Kind.TheVariants.{
   Sensor,
   Actuator,
   Function,
@@ -32,10 +17,10 @@ use Rattle.flat_graph.specs.declared.vertex.Kind.TheVariants.{
   Implode,
   Merge,
 }
-use Rattle.flat_graph.specs.declared.vertex.Vertex.{Vertex}
-use Rattle.flat_graph.specs.Graph.{Graph}
-use Rattle.archi_graph.specs.declared.medium.Medium.{Medium}
-use Rattle.archi_graph.specs.Archi.{Architecture}
+use Rattle.schedule.specs.declared.Vertex.{Vertex}
+use Rattle.schedule.specs.Graph.{Graph}
+use Rattle.schedule.specs.declared.Medium.{Medium}
+use Rattle.schedule.specs.Archi.{Architecture}
 use Rattle.schedule.specs.declared.decision.Transfer.{Transfer}
 use Rattle.schedule.specs.declared.decision.Decision.{Decision}
 use Rattle.schedule.specs.declared.decision.Schedule.{Schedule}
@@ -50,14 +35,11 @@ use Rattle.graph_drawing.specs.Statements.{
   keeps,
   statements_from,
 }
+use Rattle.schedule.specs.Acts.{brings}
 
 -- the operator on which an operation runs
 abbrev pub operator_of : List Decision → ℕ → Option ℕ
 operator_of ds v = option_map (λ d. d.operator) (find (λ d. nat_eq d.op v) ds)
-
--- the transfer brings the value of the source to the operator
-abbrev pub brings : ℕ → Source → Transfer → Bool
-brings o s t = nat_eq t.to o && nat_eq t.source.vertex s.vertex && nat_eq t.source.port s.port
 
 -- The medium of the transfer if there is one, and otherwise the other medium, if there is one.
 abbrev pub medium_or : Option Transfer → Option ℕ → Option ℕ
@@ -161,7 +143,7 @@ statements_text ds xs = flat_map (statement_text ds) xs
 unfoldable pub named : Bytes → ℕ → Bytes → Bytes
 named kind n name = kind ++ (decimal n ++ (word_text word.Label ++ name))
 
--- the name of an operator in its colour, and that of a medium
+-- The name of operator o in the legend, in a box that is filled with its colour.
 abbrev pub operator_key : ℕ → Bytes → Bytes
 operator_key o name =
     named (word_text word.Operator) o name ++
@@ -173,7 +155,7 @@ medium_key m name =
     named (word_text word.Medium) m name ++
     (word_text word.MediumColour ++ (stroke_of m ++ word_text word.QuoteFinish))
 
--- the same of operators and media, of which the first has this number
+-- The names of these operators in the legend, of which the first has number o.
 abbrev pub operator_keys : ℕ → List Bytes → Bytes
 operator_keys o [] = []
 operator_keys o (name ∷ names) =

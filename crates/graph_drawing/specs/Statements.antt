@@ -1,10 +1,10 @@
 -- What a drawing of a flat graph shows, statement by statement.
 use Rattle.std.specs.Prelude.{ℕ, suc, List, [], ◌∷◌, ◌++◌, Option, Some, None}
-use Rattle.flat_graph.specs.declared.vertex.Source.{Source}
-use Rattle.flat_graph.specs.declared.vertex.Guard.{Guard}
-use Rattle.flat_graph.specs.declared.vertex.Kind.{Kind}
-use Rattle.flat_graph.specs.declared.vertex.Kind.TheVariants.{Set}
-use Rattle.flat_graph.specs.declared.vertex.Vertex.{Vertex}
+use Rattle.schedule.specs.declared.Source.{Source}
+use Rattle.schedule.specs.declared.Guard.{Guard}
+use Rattle.schedule.specs.declared.Kind.{Kind}
+use Rattle.schedule.specs.declared.Kind.TheVariants.{Set}
+use Rattle.schedule.specs.declared.Vertex.{Vertex}
 
 -- Operation v; its input i, with its source; its guard i; and where it is the set half of a delay,
 -- that operation u,
@@ -15,7 +15,7 @@ pub data Statement : Type 0 where
   condition : ℕ → ℕ → Guard → Statement
   keeps : ℕ → ℕ → Statement
 
--- inputs of operation v from number i on, and guards
+-- The statements of these inputs of operation v, of which the first has number i.
 abbrev pub inputs_from : ℕ → ℕ → List Source → List Statement
 inputs_from v i [] = []
 inputs_from v i (s ∷ ss) = input v i s ∷ inputs_from v (suc i) ss

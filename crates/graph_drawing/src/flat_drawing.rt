@@ -5,9 +5,7 @@ ghost use Rattle.graph_drawing.specs.Statements.{statements_from};
 
 use crate::legend::append_legend;
 use crate::statement::append_statements;
-use archi_graph::Archi;
-use flat_graph::{Flat, Vertex};
-use schedule::{Decision, Schedule};
+use schedule::{Archi, Decision, Flat, Schedule, Vertex};
 use std::alloc::Global;
 use syn_base::{OutOfMemory, append};
 

@@ -5,7 +5,7 @@ ghost use Rattle.graph_drawing.specs.FlatDrawing.{legend, medium_key, medium_key
 
 use crate::colour::{fill_of, stroke_of};
 use crate::word::{Word, append_word};
-use archi_graph::{Archi, Medium};
+use schedule::{Archi, Medium};
 use syn_base::{Name, OutOfMemory, append, append_count};
 
 /// Appends the legend of an architecture.

@@ -2,10 +2,10 @@
 //! it.
 ghost use Rattle.std.specs.Prelude.{◌≡◌};
 ghost use Rattle.std.specs.List.{find};
-ghost use Rattle.graph_drawing.specs.FlatDrawing.{brings, medium_for, medium_to, operator_of};
+ghost use Rattle.graph_drawing.specs.FlatDrawing.{medium_for, medium_to, operator_of};
+ghost use Rattle.schedule.specs.Acts.{brings};
 
-use flat_graph::Source;
-use schedule::{Decision, Transfer};
+use schedule::{Decision, Source, Transfer};
 
 /// The operator on which an operation runs.
 pub fn operator_of(decisions: &[Decision], op: usize) -> Option<u32>

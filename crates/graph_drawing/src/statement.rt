@@ -6,8 +6,7 @@ ghost use Rattle.graph_drawing.specs.Statements.{conditions_from, inputs_from, k
 use crate::colour::{fill_of, stroke_of};
 use crate::placing::{medium_for, operator_of};
 use crate::word::{Word, append_word};
-use flat_graph::{Guard, Kind, Source, Vertex};
-use schedule::Decision;
+use schedule::{Decision, Guard, Kind, Source, Vertex};
 use syn_base::{OutOfMemory, append, append_count};
 
 /// Appends operation `number` and its edges.

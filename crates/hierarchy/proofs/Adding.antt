@@ -2,9 +2,9 @@
 use Rattle.std.proofs.Common.{◌≡◌, ◌≢◌, ◌==◌, ◌⊎◌, inl, inr, true, false, min, ℕ, zero, suc, ◌+◌, ◌-◌, ◌*◌, ◌^◌, ◌<◌, List, [], ◌∷◌, ◌++◌, length, get_or, map, drop, drop-cons, append-nil, refl, sym, ap, ap₂, ◌∙◌, subst, arith}
 use Rattle.std.proofs.lemmas.Bool.{eq-eqb, ne_eqb}
 use Rattle.std.proofs.lemmas.Bool.Decides.{eqb_tells}
-use Rattle.level_meaning.specs.declared.source.Source.{Source}
-use Rattle.level_meaning.specs.Level.{Vector, Path}
-use Rattle.level_meaning.specs.Order.{IsAcyclic}
+use Rattle.algo_tree.specs.declared.Source.{Source}
+use Rattle.algo_tree.specs.Level.{Path}
+use Rattle.algo_tree.specs.Order.{IsAcyclic}
 use Rattle.algo_tree.specs.Counted.{operations as count, operations_in as count_all, operations_by}
 use Rattle.algo_tree.specs.Tree.{graph, Label, Vertices}
 use Rattle.algo_tree.specs.Typed.{label_of}
@@ -27,6 +27,7 @@ use Rattle.flat_laws.specs.Linked.{AreFound, GuardsFound, AllLinked}
 use Rattle.hierarchy.proofs.Linking.{linked_anywhere}
 use Rattle.flat_laws.proofs.Linking.{linked_main}
 use Rattle.hierarchy.specs.Built.{IsRun, Built, Adds}
+use Rattle.syn_base.specs.Vectors.{Vector}
 
 abbrev pub inner_of : Declared → List Declared
 inner_of u = (out-Vertex u).inner.items

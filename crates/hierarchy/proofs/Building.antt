@@ -2,13 +2,13 @@
 use Rattle.std.proofs.Common.{◌≡◌, ℕ, zero, suc, ◌+◌, ◌<◌, ◌==◌, Bool, true, false, cond, ℤ, List, [], ◌∷◌, ◌++◌, length, map, get_or, drop, drop-cons, codes, Some, None, refl, sym, ap, ◌∙◌, subst, arith, length-append, append-nil, eq-eqb, ne_eqb}
 use Rattle.std.proofs.lemmas.Bool.{false≢true, eqb-true}
 use Rattle.std.proofs.lemmas.List.{append_assoc, get_or_append_left}
-use Rattle.body_lang.specs.Expr.{Expr}
-use Rattle.level_meaning.specs.declared.source.Source.{Source}
-use Rattle.level_meaning.specs.declared.source.Source.TheVariants.{Of}
-use Rattle.level_meaning.specs.Level.{Vector, Path}
+use Rattle.algo_tree.specs.declared.Source.{Source}
+use Rattle.algo_tree.specs.declared.Source.TheVariants.{Of}
+use Rattle.algo_tree.specs.Level.{Path}
 use Rattle.algo_tree.specs.Tree as tree
 use Rattle.algo_tree.specs.Tree.{Label, Vertices, and_vertex}
 use Rattle.algo_tree.specs.Counted.{operations as count}
+use Rattle.flat_graph.specs.Expr.{Expr}
 use Rattle.flat_graph.specs.declared.vertex.Kind.{Kind}
 use Rattle.flat_graph.specs.declared.vertex.Kind.TheVariants.{Sensor, Actuator, Function, Constant, Get, Set, Explode, Implode, Merge}
 use Rattle.flat_graph.specs.declared.vertex.Vertex.{Vertex}
@@ -21,8 +21,14 @@ use Rattle.flat_laws.proofs.Wires.{long-plain}
 use Rattle.algo_tree.specs.Texts.{path_text}
 use Rattle.flat_laws.specs.Names.{stage_text, half_text}
 use Rattle.flat_laws.specs.Stands.{task_of, IsTwin, StandsFor, AllStand}
-use Rattle.flat_laws.specs.Numbering.{IsNumbered, bodies_in, AreNumbered}
-use Rattle.hierarchy.specs.Built.{IsBodyThere, AreBodiesThere, Brings, Built, Adds, IsOperation, stage_pair}
+use Rattle.flat_laws.specs.Numbering.{IsNumbered, AreNumbered, body_count}
+use Rattle.hierarchy.specs.Built.{IsBodyThere, AreBodiesThere, Built, Adds, IsOperation, stage_pair}
+use Rattle.syn_base.specs.Vectors.{Vector}
+
+-- After n bodies an operation of this kind brings m more: a function has the one that it brings.
+pub record Brings (n m : ℕ) (k : Kind) : Type 0 where
+  pub numbered : IsNumbered n k
+  pub many : m ≡ body_count k
 
 -- more bodies change nothing for the operations that are there
 task_more : (bodies more : List (List Expr)) (k : Kind) → IsBodyThere (length bodies) k → task_of bodies k ≡ task_of (bodies ++ more) k
@@ -89,8 +95,8 @@ brought_there n m Implode h = tt
 brought_there n m (Merge values) h = tt
 
 all_numbered : (b n m : ℕ) (xs : List Vertex) (x : Vertex) → AreNumbered b n xs → Brings n m x.kind → AreNumbered b (n + m) (xs ++ x ∷ [])
-all_numbered b n m [] x h here = (subst (λ k. IsNumbered k x.kind) (sym h) here.numbered, ap (λ k. k + bodies_in x.kind) h ∙ ap (λ k. n + k) (sym here.many))
-all_numbered b n m (y ∷ xs) x h here = (h.0, all_numbered (b + bodies_in y.kind) n m xs x h.1 here)
+all_numbered b n m [] x h here = (subst (λ k. IsNumbered k x.kind) (sym h) here.numbered, ap (λ k. k + body_count x.kind) h ∙ ap (λ k. n + k) (sym here.many))
+all_numbered b n m (y ∷ xs) x h here = (h.0, all_numbered (b + body_count y.kind) n m xs x h.1 here)
 
 stand_length : (bodies : List (List Expr)) (v : ℕ) (xs : List Vertex) (ops : List Operation) → AllStand bodies v xs ops → length xs ≡ length ops
 stand_length bodies v [] [] h = refl

@@ -2,11 +2,11 @@
 use Rattle.std.proofs.Common.{◌≡◌, ℕ, zero, suc, ◌+◌, ◌<◌, ◌≤◌, inl, inr, List, [], ◌∷◌, ◌++◌, length, get_or, set, map, take, Bool, true, false, Option, Some, None, slice_get, slice_index_or, refl, sym, ap, ap₂, ◌∙◌, subst, arith}
 use mathlib.Core.Path.{fun_ext}
 use Rattle.std.proofs.lemmas.Bool.{cases_lt, false≢true}
-use Rattle.level_meaning.specs.declared.source.Source.{Source}
-use Rattle.level_meaning.specs.declared.source.Source.TheVariants.{Own, Of}
-use Rattle.level_meaning.specs.Level.{Node, with_node}
-use Rattle.level_meaning.specs.Order.{sources_ready, guards_ready, is_ready, IsAcyclic}
-use Rattle.level_meaning.proofs.Fuel.{and-left, and-right}
+use Rattle.algo_tree.specs.declared.Source.{Source}
+use Rattle.algo_tree.specs.declared.Source.TheVariants.{Own, Of}
+use Rattle.algo_tree.specs.Level.{Node, with_node}
+use Rattle.algo_tree.specs.Order.{sources_ready, guards_ready, is_ready, IsAcyclic}
+use Rattle.algo_tree.proofs.Fuel.{and-left, and-right}
 use Rattle.algo_tree.specs.Counted.{operations as count}
 use Rattle.algo_tree.specs.Tree.{Vertex, vertex}
 use Rattle.algo_tree.specs.Meaning.{node, nodes, asked_by}

@@ -1,13 +1,14 @@
 -- That the sources of several operations lead to operations, of some of these, and wherever they stand.
 use Rattle.std.proofs.Common.{ℕ, zero, suc, ◌+◌, ◌<◌, List, [], ◌∷◌, ◌++◌, map, length, get_or, arith}
-use Rattle.level_meaning.specs.declared.source.Source.{Source}
-use Rattle.level_meaning.specs.declared.source.Guard.{Guard}
-use Rattle.level_meaning.specs.Level.{Vector, Path}
+use Rattle.algo_tree.specs.declared.Source.{Source}
+use Rattle.algo_tree.specs.declared.Guard.{Guard}
+use Rattle.algo_tree.specs.Level.{Path}
 use Rattle.algo_tree.specs.Tree.{Label, Kind, graph, delay, Vertex, vertex, Vertices, no_vertices, and_vertex}
 use Rattle.algo_tree.specs.Counted.{operations as count}
 use Rattle.flat_laws.specs.Flat.{Operation}
 use Rattle.flat_laws.specs.Inlined.{wire, wirings, wire_guard, stages, inlined_by, inlined, inlined_all}
 use Rattle.flat_laws.specs.Linked.{IsFound, AreFound, GuardsFound, AllLinked}
+use Rattle.syn_base.specs.Vectors.{Vector}
 
 -- the operations of several vertices
 pub linked_left : (xs ys : List Operation) → AllLinked (xs ++ ys) → AllLinked xs

@@ -3,12 +3,12 @@ use Rattle.std.proofs.Common.{◌≡◌, ℕ, zero, suc, ◌+◌, ◌<◌, inl, 
 use mathlib.Core.Path.{fun_ext}
 use Rattle.std.proofs.lemmas.Bool.{cases_lt, false≢true}
 use Rattle.std.proofs.lemmas.List.{take-append-le, get_or_append_left, length-replicate}
-use Rattle.level_meaning.specs.declared.source.Source.{Source}
-use Rattle.level_meaning.specs.declared.source.Source.TheVariants.{Own, Of}
-use Rattle.level_meaning.specs.declared.source.Guard.{Guard}
-use Rattle.level_meaning.specs.Level.{Node, with_node}
-use Rattle.level_meaning.specs.Order.{source_ready, sources_ready, guards_ready, is_ready, settled}
-use Rattle.level_meaning.proofs.Fuel.{and-left, and-right}
+use Rattle.algo_tree.specs.declared.Source.{Source}
+use Rattle.algo_tree.specs.declared.Source.TheVariants.{Own, Of}
+use Rattle.algo_tree.specs.declared.Guard.{Guard}
+use Rattle.algo_tree.specs.Level.{Node, with_node}
+use Rattle.algo_tree.specs.Order.{source_ready, sources_ready, guards_ready, is_ready, settled}
+use Rattle.algo_tree.proofs.Fuel.{and-left, and-right}
 use Rattle.hierarchy.specs.Order.{is_among, MayRun, IsOrder, is_done}
 use Rattle.hierarchy.specs.declared.order.Begun.{Begun}
 use Rattle.hierarchy.specs.Begun.{AllMayRun, IsBegun, HasTried, HasRound, is_ready_at}

@@ -1,8 +1,8 @@
 -- What is not repeated stays as it is where repetitions are unrolled, and what is no case and has no guard where cases are put under guards.
 use Rattle.std.proofs.Common.{◌≡◌, ℕ, suc, ◌+◌, ◌<◌, List, [], ◌∷◌, length, get_or, map, drop, refl, sym, ap, ap₂, ◌∙◌, subst, arith, zero-add, drop-cons}
-use Rattle.level_meaning.specs.declared.source.Guard.{Guard}
-use Rattle.level_meaning.specs.declared.source.Source.{Source}
-use Rattle.level_meaning.specs.declared.source.Source.TheVariants.{Own, Of}
+use Rattle.algo_tree.specs.declared.Guard.{Guard}
+use Rattle.algo_tree.specs.declared.Source.{Source}
+use Rattle.algo_tree.specs.declared.Source.TheVariants.{Own, Of}
 use Rattle.algo_tree.specs.Tree as tree
 use Rattle.algo_tree.specs.Tree.{Label, Vertices, vertex, and_vertex, sensor, actuator, constant, delay, function, explode, implode, merge, graph, switch, repeat}
 use Rattle.algo_tree.specs.View.{kind_view, label_view, view, vertices_view}

@@ -1,7 +1,7 @@
 -- A level of which some vertices have run.
 use Rattle.std.specs.Prelude.{◌≡◌, ℕ, ◌<◌, Bool, true, false, List, length, take, slice_get, slice_index_or}
-use Rattle.level_meaning.specs.Level.{Node, with_node}
-use Rattle.level_meaning.specs.Order.{is_ready}
+use Rattle.algo_tree.specs.Level.{Node, with_node}
+use Rattle.algo_tree.specs.Order.{is_ready}
 use Rattle.hierarchy.specs.Order.{is_done, is_among, MayRun}
 use Rattle.hierarchy.specs.declared.order.Begun.{Begun}
 

@@ -1,7 +1,7 @@
 -- Operations that are added one by one.
 use Rattle.std.specs.Prelude.{◌≡◌, ℕ, ◌<◌, List, [], ◌∷◌, ◌++◌, length, map}
-use Rattle.level_meaning.specs.declared.source.Source.{Source}
-use Rattle.body_lang.specs.Expr.{Expr}
+use Rattle.algo_tree.specs.declared.Source.{Source}
+use Rattle.algo_tree.specs.Level.{Path}
 use Rattle.algo_tree.specs.Tree as tree
 use Rattle.algo_tree.specs.Tree.{Label}
 use Rattle.flat_graph.specs.declared.vertex.Kind.{Kind}
@@ -9,12 +9,12 @@ use Rattle.flat_graph.specs.declared.vertex.Kind.TheVariants.{Function}
 use Rattle.flat_graph.specs.declared.vertex.Vertex.{Vertex}
 use Rattle.flat_graph.specs.Graph.{Graph}
 use Rattle.flat_graph.specs.Meaning.{level_source, level_guard}
-use Rattle.level_meaning.specs.Level.{Vector, Path}
 use Rattle.flat_laws.specs.Flat.{Operation, gets, sets}
 use Rattle.flat_laws.specs.Inlined.{wire_guard, operation_of}
-use Rattle.flat_laws.specs.Numbering.{IsNumbered, bodies_in, HasBodiesInOrder}
+use Rattle.flat_laws.specs.Numbering.{HasBodiesInOrder}
 use Rattle.flat_laws.specs.Stands.{Stands}
 use Rattle.hierarchy.specs.declared.operation.Inlined.{Inlined}
+use Rattle.syn_base.specs.Vectors.{Vector}
 
 -- The flat graph that has been built so far.
 abbrev pub graph_of : Inlined → Graph
@@ -28,11 +28,6 @@ IsBodyThere n _ = Unit {0}
 abbrev pub AreBodiesThere : ℕ → List Vertex → Type 0
 AreBodiesThere n [] = Unit {0}
 AreBodiesThere n (x ∷ xs) = IsBodyThere n x.kind × AreBodiesThere n xs
-
--- After n bodies an operation of this kind brings m more: a function has the one that it brings.
-pub record Brings (n m : ℕ) (k : Kind) : Type 0 where
-  pub numbered : IsNumbered n k
-  pub many : m ≡ bodies_in k
 
 -- A graph, whether valid or not yet, that stands for these operations.
 pub record Built (g : Graph) (ops : List Operation) : Type 0 where
@@ -59,11 +54,6 @@ IsRun (tree.graph outs) = ⊥
 IsRun (tree.switch values names) = ⊥
 IsRun (tree.repeat n feeds gives) = ⊥
 IsRun _ = Unit {0}
-
--- A function's operation adds a body.
-abbrev pub body_added : tree.Kind → List (List Expr)
-body_added (tree.function es) = es ∷ []
-body_added _ = []
 
 -- The halves of stage i of a delay, which takes what these sources give.
 abbrev pub stage_pair : (Source → Source) → Path → ℕ → Label → Vector → List Source → List Operation

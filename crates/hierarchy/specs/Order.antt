@@ -17,8 +17,8 @@ use Rattle.std.specs.Prelude.{
   slice_get,
   slice_index_or,
 }
-use Rattle.level_meaning.specs.Level.{Node, with_node}
-use Rattle.level_meaning.specs.Order.{is_ready}
+use Rattle.algo_tree.specs.Level.{Node, with_node}
+use Rattle.algo_tree.specs.Order.{is_ready}
 use Rattle.algo_tree.specs.Meaning.{node}
 use Rattle.algo_tree.specs.View.{view}
 use Rattle.algo_tree.specs.declared.vertex.Vertex.{Vertex as Declared}

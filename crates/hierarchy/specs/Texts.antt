@@ -1,8 +1,8 @@
 -- Paths as texts that grow part by part.
 use Rattle.std.specs.Prelude.{◌≡◌, ℕ, List, [], ◌∷◌, ◌++◌}
-use Rattle.level_meaning.specs.declared.part.Part.{Part}
-use Rattle.level_meaning.specs.declared.part.Part.TheVariants.{Named, Numbered, Port}
-use Rattle.level_meaning.specs.Level.{Path}
+use Rattle.algo_tree.specs.declared.Part.{Part}
+use Rattle.algo_tree.specs.declared.Part.TheVariants.{Named, Numbered, Port}
+use Rattle.algo_tree.specs.Level.{Path}
 use Rattle.algo_tree.specs.Texts.{part_text, parts_text, path_text}
 
 -- The text of a path with one more part: nothing stands before a reference of the main graph.

@@ -1,7 +1,7 @@
 -- Where sources lead, by a table of a level.
 use Rattle.std.specs.Prelude.{◌≡◌, ℕ, List, map, Option, Some, None, slice_get, slice_index_or}
-use Rattle.level_meaning.specs.declared.source.Source.{Source}
-use Rattle.level_meaning.specs.declared.source.Source.TheVariants.{Of}
+use Rattle.algo_tree.specs.declared.Source.{Source}
+use Rattle.algo_tree.specs.declared.Source.TheVariants.{Of}
 use Rattle.algo_tree.specs.Tree.{Vertex}
 use Rattle.flat_laws.specs.Inlined.{nowhere, wire_source, wiring}
 use Rattle.hierarchy.specs.declared.wires.Led.{Led}

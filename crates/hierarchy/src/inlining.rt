@@ -1,7 +1,7 @@
 //! The inlining of graphs: from a tree without repetitions and cases to its operations. `pass` calls it.
 ghost use Rattle.std.specs.Prelude.{◌≡◌, ◌==◌, ◌+◌, [], ◌∷◌, IfOk, OnOk, length};
-ghost use Rattle.level_meaning.specs.Level.{Path};
-ghost use Rattle.level_meaning.specs.Order.{IsAcyclic};
+ghost use Rattle.algo_tree.specs.Level.{Path};
+ghost use Rattle.algo_tree.specs.Order.{IsAcyclic};
 ghost use Rattle.algo_tree.specs.declared.vertex.Vertex.{out-Vertex};
 ghost use Rattle.algo_tree.specs.Counted.{operations as count, operations_in as count_all};
 ghost use Rattle.algo_tree.specs.Valid.{IsTree};
@@ -23,8 +23,7 @@ use crate::names::joined;
 pub use crate::operation::Inlined;
 use crate::operation::{add_delay, add_operation};
 use crate::wires::{Level, follow_all};
-use algo_tree::{Kind, Tree, Vertex, count_operations};
-use level_meaning::Source;
+use algo_tree::{Kind, Source, Tree, Vertex, count_operations};
 use std::alloc::Global;
 use syn_base::{OutOfMemory, to_u32};
 

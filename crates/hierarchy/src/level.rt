@@ -1,18 +1,17 @@
 //! The table of a level: where the outputs of each of its vertices lead. `inlining` makes it, from the inside out.
 ghost use Rattle.std.specs.Prelude.{◌≡◌, IfOk, length};
+ghost use Rattle.algo_tree.specs.Order.{IsAcyclic};
 ghost use Rattle.algo_tree.specs.declared.vertex.Vertex.{out-Vertex};
 ghost use Rattle.algo_tree.specs.View.{view, vertices_view};
 ghost use Rattle.algo_tree.specs.Well.{AllWell, IsWell};
 ghost use Rattle.flat_laws.specs.Inlined.{wire, wirings};
-ghost use Rattle.level_meaning.specs.Order.{IsAcyclic};
 ghost use Rattle.hierarchy.specs.Order.{nodes_of};
 ghost use Rattle.hierarchy.specs.Wires.{led, Leads};
 
 use crate::numbers::first_numbers;
 use crate::order::find_order;
 use crate::wires::{Led, Level, follow_all};
-use algo_tree::{Kind, Vertex};
-use level_meaning::Source;
+use algo_tree::{Kind, Source, Vertex};
 use std::alloc::Global;
 use syn_base::{Items, OutOfMemory};
 

@@ -3,8 +3,8 @@ ghost use Rattle.std.specs.Prelude.{◌≡◌, ◌++◌, IfOk};
 ghost use Rattle.flat_laws.specs.Names.{stage_text as text_of_stage};
 ghost use Rattle.hierarchy.specs.Texts.{joined as text_joined};
 
+use algo_tree::Part;
 use itoa::Buffer;
-use level_meaning::Part;
 use std::alloc::Global;
 use syn_base::OutOfMemory;
 

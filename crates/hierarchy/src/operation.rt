@@ -1,11 +1,11 @@
 //! The operations of a vertex, one by one. `inlining` adds them.
 ghost use Rattle.std.specs.Prelude.{◌≡◌, ◌+◌, ◌*◌, ◌++◌, ◌∷◌, [], true, if◌then◌else◌, IsTrue, IfOk, OnOk, Some, codes, length, map};
 ghost use Rattle.syn_base.specs.Name.{is_name};
-ghost use Rattle.level_meaning.specs.Level.{Path};
+ghost use Rattle.algo_tree.specs.Level.{Path};
+ghost use Rattle.algo_tree.specs.declared.Source.TheVariants.{Of};
 ghost use Rattle.algo_tree.specs.declared.vertex.Vertex.{out-Vertex};
 ghost use Rattle.algo_tree.specs.View.{kind_view, label_view};
 ghost use Rattle.flat_graph.specs.Meaning.{level_guard, level_source};
-ghost use Rattle.level_meaning.specs.declared.source.Source.TheVariants.{Of};
 ghost use Rattle.flat_laws.specs.Flat.{runs};
 ghost use Rattle.flat_laws.specs.Inlined.{operation_of, stages, wire_guard};
 ghost use Rattle.flat_laws.specs.Names.{stage_text as text_of_stage};
@@ -13,15 +13,14 @@ ghost use Rattle.flat_laws.specs.Stands.{task_of};
 ghost use Rattle.algo_tree.specs.Texts.{path_text};
 ghost use Rattle.hierarchy.specs.Wires.{led};
 ghost use Rattle.flat_laws.specs.Linked.{AllLinked, AreFound, GuardsFound, IsFound};
-ghost use Rattle.flat_laws.specs.Numbering.{IsNumbered, bodies_in};
-ghost use Rattle.hierarchy.specs.Built.{Adds, IsOperation, IsRun, body_added, graph_of, stage_pair};
+ghost use Rattle.flat_laws.specs.Numbering.{IsNumbered, body_count};
+ghost use Rattle.hierarchy.specs.Built.{Adds, IsOperation, IsRun, graph_of, stage_pair};
+ghost use Rattle.flat_laws.specs.FlatOf.{kind_body};
 
 use crate::names::{glued, stage_text};
 use crate::wires::{Level, follow};
-use algo_tree::{Kind, Vertex, copy_lens, copy_numbers};
-use body_lang::Body;
-use flat_graph::{Guard as Condition, Kind as Task, Source as Output, Vertex as Operation};
-use level_meaning::{Guard, Source};
+use algo_tree::{Guard, Kind, Source, Vertex, copy_lens, copy_numbers};
+use flat_graph::{Body, Guard as Condition, Kind as Task, Source as Output, Vertex as Operation};
 use std::alloc::Global;
 use syn_base::{Items, Name, NameFault, OutOfMemory, to_u32};
 
@@ -315,8 +314,8 @@ fn task(alloc: Global, kind: &Kind, bodies: &mut Vec<Body>) -> Result<Task, OutO
     requires { IsRun (kind_view kind.now) }
     ensures task { IfOk result (λ t. task_of bodies.new.items t ≡ runs (kind_view kind.now)) }
     ensures numbered { IfOk result (λ t. IsNumbered (length bodies.old.items) t) }
-    ensures many { IfOk result (λ t. length (body_added (kind_view kind.now)) ≡ bodies_in t) }
-    ensures added { OnOk result (bodies.new.items ≡ bodies.old.items ++ body_added (kind_view kind.now)) }
+    ensures many { IfOk result (λ t. length (kind_body (kind_view kind.now)) ≡ body_count t) }
+    ensures added { OnOk result (bodies.new.items ≡ bodies.old.items ++ kind_body (kind_view kind.now)) }
 {
     Ok(match kind {
         Kind::Sensor(number) => Task::Sensor(*number),

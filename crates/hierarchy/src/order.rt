@@ -1,14 +1,13 @@
 //! The order in which the vertices of a level run: `find_order`, by what was proposed and by rounds.
 ghost use Rattle.std.specs.Prelude.{◌≡◌, ◌<◌, ◌&&◌, ℕ, [], IfOk, OnOk, IsTrue, length, not, true, false, replicate};
+ghost use Rattle.algo_tree.specs.Order.{source_ready, sources_ready, guards_ready, is_ready, IsAcyclic};
 ghost use Rattle.algo_tree.specs.View.{view};
 ghost use Rattle.algo_tree.specs.Meaning.{node};
-ghost use Rattle.level_meaning.specs.Order.{source_ready, sources_ready, guards_ready, is_ready, IsAcyclic};
 ghost use Rattle.hierarchy.specs.Order.{IsOrder, nodes_of, is_done};
 ghost use Rattle.hierarchy.specs.Begun.{IsBegun, HasTried, HasRound};
 
 use crate::proposal::proposed_order;
-use algo_tree::{Kind, Vertex};
-use level_meaning::{Guard, Source};
+use algo_tree::{Guard, Kind, Source, Vertex};
 use std::alloc::Global;
 use syn_base::OutOfMemory;
 

@@ -15,7 +15,7 @@ ghost use Rattle.hierarchy.specs.Built.{graph_of};
 ghost use Rattle.algo_tree.specs.NoRepeat.{HasNoRepeat};
 
 use crate::inlining::{Inlined, inline};
-use crate::unchanged::{is_guarded, is_unrolled};
+use crate::unchanged::{has_no_case, has_no_repeat};
 use algo_tree::Tree;
 use conditioning::guard;
 use factorisation::unroll;
@@ -52,7 +52,7 @@ fn inline_unrolled(alloc: Global, tree: &Tree) -> Result<Inlined, OutOfMemory>
     ensures order { IfOk result (λ all. HasBodiesInOrder (graph_of all)) }
     ensures names { IfOk result (λ _. HasNames (guarded (unrolled tree.now))) }
 {
-    if is_unrolled(tree.main()) {
+    if has_no_repeat(tree.main()) {
         return inline_guarded(alloc, tree);
     }
     let Ok(unrolled) = unroll(alloc, tree) else {
@@ -70,7 +70,7 @@ fn inline_guarded(alloc: Global, tree: &Tree) -> Result<Inlined, OutOfMemory>
     ensures order { IfOk result (λ all. HasBodiesInOrder (graph_of all)) }
     ensures names { IfOk result (λ _. HasNames (guarded tree.now)) }
 {
-    if is_guarded(tree.main()) {
+    if has_no_case(tree.main()) {
         return inline(alloc, tree);
     }
     let guarded = guard(alloc, tree)?;

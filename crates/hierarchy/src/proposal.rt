@@ -1,6 +1,5 @@
 //! Proposed orders of the vertices of a level, which `order` tries.
-use algo_tree::{Kind, Vertex};
-use level_meaning::Source;
+use algo_tree::{Kind, Source, Vertex};
 use std::alloc::Global;
 use syn_base::OutOfMemory;
 

@@ -10,14 +10,14 @@ ghost use Rattle.algo_tree.specs.declared.vertex.Vertex.{out-Vertex};
 use algo_tree::{Kind, Vertex};
 
 /// Whether nothing is to be unrolled: there is no repetition.
-pub fn is_unrolled(vertex: &Vertex) -> bool
+pub fn has_no_repeat(vertex: &Vertex) -> bool
     ensures { result ≡ true → unrolled (view vertex.now) ≡ view vertex.now }
 {
     if is_repetition(&vertex.kind) {
         return false;
     }
     for inner in &vertex.inner {
-        if !is_unrolled(inner) {
+        if !has_no_repeat(inner) {
             return false;
         }
     }
@@ -32,14 +32,14 @@ fn is_repetition(kind: &Kind) -> bool
 }
 
 /// Whether nothing is to be put under guards: there is no case and no guard.
-pub fn is_guarded(vertex: &Vertex) -> bool
+pub fn has_no_case(vertex: &Vertex) -> bool
     ensures { result ≡ true → guarded (view vertex.now) ≡ view vertex.now }
 {
     if !is_unguarded(vertex) {
         return false;
     }
     for inner in &vertex.inner {
-        if !is_guarded(inner) {
+        if !has_no_case(inner) {
             return false;
         }
     }

@@ -3,7 +3,7 @@ ghost use Rattle.std.specs.Prelude.{◌≡◌, IfOk, map, slice_index_or};
 ghost use Rattle.flat_laws.specs.Inlined.{nowhere};
 ghost use Rattle.hierarchy.specs.Wires.{led, output_led};
 
-use level_meaning::Source;
+use algo_tree::Source;
 use std::alloc::Global;
 use syn_base::{Items, OutOfMemory};
 

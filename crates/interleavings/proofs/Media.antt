@@ -11,8 +11,8 @@ use Rattle.interleavings.proofs.Numbers.{reaction_number, place_number}
 use Rattle.interleavings.specs.System.{System, await, total, advances, stores, half_number, full}
 use Rattle.interleavings.specs.Owners.{Owner, nth_of, nth_in}
 use Rattle.interleavings.specs.Media.{Half, owner_of, advances_half, stores_access, writer_of, needed, needed_turn, precedence, IsMedium, IsOwnWait, IsWire, IsWireLoad}
-use Rattle.interleavings.specs.Sound.{IsSoundAt}
 use Rattle.interleavings.proofs.Families.{in_order, earlier, nth_at}
+use Rattle.interleavings.proofs.Told.{IsSoundAt}
 
 module _ {A : Type 0} (c : Code A) where
   pub step_there : (k l : ℕ) → l < length c.turn → step_at c (number_of c k l) ≡ slice_get c.turn l

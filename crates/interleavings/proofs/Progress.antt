@@ -5,9 +5,8 @@ use Rattle.std.proofs.lemmas.Option.{none-some}
 use Rattle.interleavings.specs.Sites.{step_at}
 use Rattle.interleavings.specs.Precedence.{Precedence, IsReady}
 use Rattle.interleavings.specs.System.{System, Micro, take, see, sub, signal, await, advance, load, store, stores, total, told, enabled_by, next, full, round_number}
-use Rattle.interleavings.specs.Sound.{IsSoundAt}
 use Rattle.interleavings.specs.Laws.{Finds}
-use Rattle.interleavings.proofs.Told.{latest_is}
+use Rattle.interleavings.proofs.Told.{latest_is, IsSoundAt}
 
 module _ {P : Type 0} (w : System P) (p : Precedence) (stored : ℕ → ℕ → Rattle.std.specs.Prelude.ℤ) (owned : ℕ → ℕ → P) (c : ℕ → ℕ) (s : ℕ) where
   pub enabled_at : (m : Micro) → IsSoundAt w p c s m → IsReady p c s → enabled_by w (told w stored owned c) s (Some m) ≡ true

@@ -1,6 +1,6 @@
 -- The precedence of joined sequences is serial.
 use Rattle.std.proofs.Common.{◌≡◌, ℕ, zero, suc, ◌+◌, ◌-◌, ◌*◌, ◌<◌, ◌≤◌, ◌⊎◌, Bool, true, false, length, Option, Some, None, refl, sym, ap, subst, inl, inr, ⊎_elim, arith, ◌∙◌, add-one}
-use Rattle.std.specs.Prelude.{slice_get}
+use Rattle.std.specs.Prelude.{slice_get, cond, nat_lt}
 use Rattle.std.proofs.lemmas.Option.{same_Some}
 use Rattle.std.proofs.lemmas.Bool.{lt-ltb, le-ltb, cases_lt, cases_eq}
 use Rattle.std.proofs.lemmas.Nat.{mod_below}
@@ -13,11 +13,18 @@ use Rattle.interleavings.specs.System.{System, Micro, take, see, sub, signal, aw
 use Rattle.interleavings.specs.Owners.{Owner, nth_of, nth_in}
 use Rattle.interleavings.specs.Media.{Half, IsMedium, needed, needed_turn, precedence, owner_of, advances_half}
 use Rattle.interleavings.specs.Pairs.{IsSemaphore}
-use Rattle.interleavings.specs.Order.{IsJoined, IsOrdered, rank_by}
+use Rattle.interleavings.specs.Order.{IsJoined, IsOrdered}
 use Rattle.interleavings.specs.System as Woven
 use Rattle.interleavings.proofs.Media.{step_there, nth_late}
 use Rattle.interleavings.proofs.Pairs.{passes_at}
 use Rattle.interleavings.proofs.Families.{nth_at}
+
+-- The rank of an event: the micro-steps of prologues come before all reactions, and those of a reaction
+-- in the order of their spots.
+abbrev pub rank_by : {P : Type 0} → System P → (ℕ → ℕ → ℕ) → ℕ → ℕ → Event → ℕ
+rank_by w spot steps front e = cond (nat_lt e.number (length (w.codes e.sequence).prologue)) e.number
+    (front + (reaction_at (w.codes e.sequence) e.number * steps +
+    spot e.sequence (place_at (w.codes e.sequence) e.number)))
 
 module _ {P : Type 0} (w : System P) (signaller : ℕ → Owner) (half : ℕ → ℕ → Half) (spot : ℕ → ℕ → ℕ) (steps front : ℕ) (o : IsOrdered w signaller half spot steps front) where
   -- a step of the turn: the turn is not empty, and its place is inside
@@ -30,7 +37,7 @@ module _ {P : Type 0} (w : System P) (signaller : ℕ → Owner) (half : ℕ →
           let g : w.reactions * length (w.codes s).turn ≡ w.reactions * 0 = ap (λ (y : ℕ). w.reactions * y) e in absurd (omega arith)
 
   abbrev rank : Event → ℕ
-  rank = rank_by w signaller half spot steps front
+  rank = rank_by w spot steps front
 
   rank_front : (s n : ℕ) → n < length (w.codes s).prologue → rank (event s n) ≡ n
   rank_front s n h = rw (lt-ltb n (length (w.codes s).prologue) h) refl

@@ -12,19 +12,19 @@ use Rattle.interleavings.specs.System.{System, State, Micro, take, see, sub, sig
 use Rattle.interleavings.specs.Owners.{Owner, nth_of}
 use Rattle.interleavings.specs.Media.{Half, needed, precedence}
 use Rattle.interleavings.specs.Pairs.{IsSemaphore, late}
-use Rattle.interleavings.specs.Order.{rank_by, IsOrdered}
+use Rattle.interleavings.specs.Order.{IsOrdered}
 use Rattle.interleavings.specs.Fresh.{IsFresh}
-use Rattle.interleavings.specs.Sound.{IsSoundAt, IsSound, AreValues}
+use Rattle.interleavings.specs.Sound.{AreValues}
 use Rattle.interleavings.specs.Synchronized.{IsBinary, IsOwnLoad, IsPairLoad, IsFromWire, IsBufferStore, IsToWire, IsSynchronized}
 use Rattle.interleavings.specs.Laws.{Discipline, IsDisciplined, HasLaws, Finds, RunsAreTold, RunsAreFresh, RunsProgress, RunsGoOn, ReachedFind}
 use Rattle.interleavings.proofs.Totals.{total_nth, total_owned}
-use Rattle.interleavings.proofs.Told.{told_always}
+use Rattle.interleavings.proofs.Told.{told_always, IsSoundAt, IsSound}
 use Rattle.interleavings.proofs.Media.{sync_sound, own_sound, wire_load, wire_store}
 use Rattle.interleavings.proofs.Pairs.{passes_at, takes_le, at_most, buffer_load, seen}
 use Rattle.interleavings.proofs.Progress.{enabled_at, finds_at, next_is}
 use Rattle.interleavings.proofs.Fresh.{fresh}
 use Rattle.interleavings.proofs.OneMore.{goes_on}
-use Rattle.interleavings.proofs.Serial.{serial, turn_inside}
+use Rattle.interleavings.proofs.Serial.{serial, turn_inside, rank_by}
 
 module _ {P : Type 0} (w : System P) (signaller : ℕ → Owner) (half : ℕ → ℕ → Half) (rank : Event → ℕ) (d : IsSynchronized w signaller half) where
   abbrev Precedence' : Precedence
@@ -149,23 +149,23 @@ pub laws : {P : Type 0} (w : System P) (signaller : ℕ → Owner) (half : ℕ �
     → IsSynchronized w signaller half → IsOrdered w signaller half spot steps front → AreValues w stored owned → HasLaws w stored owned
 laws {P} w signaller half spot steps front stored owned d o v = record {
   tells = λ list. (told' list).0;
-  fresh = λ list. fresh w signaller half (rank_by w signaller half spot steps front) d (run w list).counts (told' list).1;
+  fresh = λ list. fresh w signaller half (rank_by w spot steps front) d (run w list).counts (told' list).1;
   goes_on = goes_on w stored owned (λ list. (told' list).0);
   finds = λ c s m r n. subst (λ (u : ℕ → ℕ). next w u s ≡ Some m → Finds w stored owned u s m) r.1 (found_in (run w r.0).counts (told' r.0).1 s m) n;
-  reached_fresh = λ c r. subst (λ (u : ℕ → ℕ). IsFresh w u) r.1 (fresh w signaller half (rank_by w signaller half spot steps front) d (run w r.0).counts (told' r.0).1);
+  reached_fresh = λ c r. subst (λ (u : ℕ → ℕ). IsFresh w u) r.1 (fresh w signaller half (rank_by w spot steps front) d (run w r.0).counts (told' r.0).1);
   progress = λ list s h l.
       let r = progress p (run w list).counts (serial w signaller half spot steps front o d.joined) (told' list).1 s h l in
       (r.0, r.1, subst (λ (z : State P). enabled w z r.0 ≡ true) (sym (told' list).0) (ready_enabled (run w list).counts r.0 (told' list).1 r.1 r.2));
 }
   where
     p : Precedence
-    p = precedence w signaller half (rank_by w signaller half spot steps front)
+    p = precedence w signaller half (rank_by w spot steps front)
 
-    told' : (list : List ℕ) → (run w list ≡ told w stored owned (run w list).counts) × IsConsistent (precedence w signaller half (rank_by w signaller half spot steps front)) (run w list).counts
-    told' list = told_always w (precedence w signaller half (rank_by w signaller half spot steps front)) stored owned (λ s. refl) (sound w signaller half (rank_by w signaller half spot steps front) d) v list
+    told' : (list : List ℕ) → (run w list ≡ told w stored owned (run w list).counts) × IsConsistent (precedence w signaller half (rank_by w spot steps front)) (run w list).counts
+    told' list = told_always w (precedence w signaller half (rank_by w spot steps front)) stored owned (λ s. refl) (sound w signaller half (rank_by w spot steps front) d) v list
 
-    found_in : (c : ℕ → ℕ) → IsConsistent (precedence w signaller half (rank_by w signaller half spot steps front)) c → (s : ℕ) (m : Micro) → next w c s ≡ Some m → Finds w stored owned c s m
-    found_in c k s m n = let a = next_is w c s m n in finds_at w (precedence w signaller half (rank_by w signaller half spot steps front)) stored owned c s m (sound w signaller half (rank_by w signaller half spot steps front) d c s m k a.0 a.1 a.2)
+    found_in : (c : ℕ → ℕ) → IsConsistent (precedence w signaller half (rank_by w spot steps front)) c → (s : ℕ) (m : Micro) → next w c s ≡ Some m → Finds w stored owned c s m
+    found_in c k s m n = let a = next_is w c s m n in finds_at w (precedence w signaller half (rank_by w spot steps front)) stored owned c s m (sound w signaller half (rank_by w spot steps front) d c s m k a.0 a.1 a.2)
 
     step_is : (c : ℕ → ℕ) (s : ℕ) → c s < full w s → (m : Micro) × (step_at (w.codes s) (c s) ≡ Some m)
     step_is c s l = ⊎_elim
@@ -173,13 +173,13 @@ laws {P} w signaller half spot steps front stored owned d o v = record {
         (λ h. let a = is_some (w.codes s).turn (place_at (w.codes s) (c s)) (turn_inside w signaller half spot steps front o s (c s) h l) in (a.0, rw (le-ltb (c s) (length (w.codes s).prologue) h) a.1))
         (cases_lt (c s) (length (w.codes s).prologue))
 
-    ready_enabled : (c : ℕ → ℕ) (s : ℕ) → IsConsistent (precedence w signaller half (rank_by w signaller half spot steps front)) c → s < w.sequences
-        → IsReady (precedence w signaller half (rank_by w signaller half spot steps front)) c s → enabled w (told w stored owned c) s ≡ true
+    ready_enabled : (c : ℕ → ℕ) (s : ℕ) → IsConsistent (precedence w signaller half (rank_by w spot steps front)) c → s < w.sequences
+        → IsReady (precedence w signaller half (rank_by w spot steps front)) c s → enabled w (told w stored owned c) s ≡ true
     ready_enabled c s k h r = let m = step_is c s r.pending in
         let n : next w c s ≡ Some m.0 = rw (lt-ltb s w.sequences h, lt-ltb (c s) (full w s) r.pending) m.1 in
         ap (enabled_by w (told w stored owned c) s) n
-        ∙ enabled_at w (precedence w signaller half (rank_by w signaller half spot steps front)) stored owned c s m.0
-        (sound w signaller half (rank_by w signaller half spot steps front) d c s m.0 k h r.pending m.1) r
+        ∙ enabled_at w (precedence w signaller half (rank_by w spot steps front)) stored owned c s m.0
+        (sound w signaller half (rank_by w spot steps front) d c s m.0 k h r.pending m.1) r
 
 pub have_laws : {P : Type 0} (w : System P) (d : Discipline) (stored : ℕ → ℕ → ℤ) (owned : ℕ → ℕ → P) → IsDisciplined w d stored owned → HasLaws w stored owned
 have_laws w d stored owned h = laws w d.signaller d.half d.spot d.steps d.front stored owned h.synchronized h.ordered h.values

@@ -5,9 +5,37 @@ use Rattle.interleavings.proofs.Rounds.{one_turn}
 use Rattle.interleavings.specs.Precedence.{Precedence, one_more, IsConsistent, IsReady}
 use Rattle.interleavings.specs.Sites.{step_at, hit}
 use Rattle.interleavings.proofs.Cuts.{one_more-same, one_more-other, IsConsistent-zero, IsConsistent-more}
-use Rattle.interleavings.specs.System.{run, System, State, Micro, take, see, sub, signal, await, advance, load, store, is_take, is_signal, advances, stores, total, total_to, full, next, enabled_by, step, done_by, told, latest, run_from, opening, put, place_number, round_number}
-use Rattle.interleavings.specs.Sound.{IsSoundAt, IsSound, IsRightAt, AreValues}
+use Rattle.interleavings.specs.System.{run, System, State, Micro, take, see, sub, signal, await, advance, load, store, is_take, is_signal, advances, stores, total, total_to, full, next, enabled_by, step, done_by, told, latest, run_from, opening, put, place_number, round_number, half_number, turn_reached}
+use Rattle.interleavings.specs.Sound.{IsRightAt, AreValues}
 use Rattle.interleavings.proofs.Totals.{total_more}
+
+-- The precedence holds the next step ready if and only if the test of the words says so.
+abbrev pub AgreesWith : Type 0 → Type 0 → Type 0
+AgreesWith ready test = (test → ready) × (ready → test)
+
+module _ {P : Type 0} (w : System P) (p : Precedence) where
+  -- What sequence s finds for this micro-step after the counts c: the word of a take, a see or a wait
+  -- says whether the precedence holds the step ready, and any other step is ready and finds its word as
+  -- it needs it.
+  abbrev pub IsSoundAt : (ℕ → ℕ) → ℕ → Micro → Type 0
+  IsSoundAt c s (take x) = AgreesWith (IsReady p c s) (total w (is_signal x) c - total w (is_take x) c ≡ 1)
+  IsSoundAt c s (see x) = AgreesWith (IsReady p c s) (1 ≤ total w (is_signal x) c - total w (is_take x) c)
+  -- what was seen is still there
+  IsSoundAt c s (sub x) = IsReady p c s × (1 ≤ total w (is_signal x) c - total w (is_take x) c)
+  IsSoundAt c s (signal x) = IsReady p c s × (total w (is_take x) c ≤ total w (is_signal x) c)
+  IsSoundAt c s (await m i e) = AgreesWith (IsReady p c s)
+      (turn_reached e (total w (advances m) c) (half_number w s (c s) m i) ≡ true)
+  IsSoundAt c s (advance m i) = IsReady p c s
+  -- a load finds its own round: that was stored, and the next one in the same place was not
+  IsSoundAt c s (load y i) = IsReady p c s × (round_number w s (c s) y i < total w (stores y) c) ×
+      (total w (stores y) c ≤ round_number w s (c s) y i + w.depth y)
+  -- the rounds of an element are stored in order
+  IsSoundAt c s (store y i) = IsReady p c s × (total w (stores y) c ≡ round_number w s (c s) y i)
+
+  -- Each sequence finds this for its next micro-step after any consistent counts.
+  abbrev pub IsSound : Type 0
+  IsSound = (c : ℕ → ℕ) (s : ℕ) (m : Micro) → IsConsistent p c → s < w.sequences → c s < full w s →
+      step_at (w.codes s) (c s) ≡ Some m → IsSoundAt c s m
 
 pub one_at : (x y : ℕ) → x ≡ y → let one : ℕ = cond (eqb x y) 1 0 in one ≡ 1
 one_at x y e = rw (eq-eqb x y e) refl

@@ -1,7 +1,5 @@
 -- One serial order of all micro-steps of a reaction, in which each need stands earlier.
-use Rattle.std.specs.Prelude.{◌≡◌, ℕ, ◌+◌, ◌*◌, ◌<◌, ◌≤◌, ◌⊎◌, Bool, true, false, cond, nat_lt, Some, slice_get, length}
-use Rattle.interleavings.specs.Precedence.{Event}
-use Rattle.interleavings.specs.Sites.{reaction_at, place_at}
+use Rattle.std.specs.Prelude.{◌≡◌, ℕ, ◌+◌, ◌<◌, ◌≤◌, ◌⊎◌, Bool, true, false, Some, slice_get, length}
 use Rattle.interleavings.specs.System.{System, Micro, take, see, sub, signal, await}
 use Rattle.interleavings.specs.Owners.{Owner}
 use Rattle.interleavings.specs.Media.{Half, IsMedium, IsOwnWait}
@@ -31,9 +29,3 @@ module _ {P : Type 0} (w : System P) (signaller : ℕ → Owner) (half : ℕ →
     -- the half before advances first
     pub half_first : (s l m i : ℕ) (e : Bool) → slice_get (w.codes s).turn l ≡ Some (await m (i + 1) e) →
         IsMedium w signaller half m → spot (half m i).sequence (half m i).advances < spot s l
-
-  -- prologues stand before all reactions
-  abbrev pub rank_by : (ℕ → ℕ → ℕ) → ℕ → ℕ → Event → ℕ
-  rank_by spot steps front e = cond (nat_lt e.number (length (w.codes e.sequence).prologue)) e.number
-      (front + (reaction_at (w.codes e.sequence) e.number * steps +
-      spot e.sequence (place_at (w.codes e.sequence) e.number)))

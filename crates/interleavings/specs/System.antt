@@ -87,6 +87,12 @@ pub record State (P : Type 0) : Type 0 where
 abbrev pub put : {A : Type 0} → (ℕ → A) → ℕ → A → ℕ → A
 put f i a j = cond (nat_eq j i) a (f j)
 
+-- A turn lets a wait for half a go on if it is a, or, if the wait is not exact, also
+-- if it is above a.
+abbrev pub turn_reached : Bool → ℕ → ℕ → Bool
+turn_reached true turn a = nat_eq turn a
+turn_reached false turn a = nat_le a turn
+
 module _ {P : Type 0} (w : System P) where
   -- Sequence s makes this many micro-steps in all, its prologue once and its turn in each reaction.
   abbrev pub full : ℕ → ℕ
@@ -115,12 +121,6 @@ module _ {P : Type 0} (w : System P) where
   -- use its `depth y` places in turn.
   abbrev pub place_number : ℕ → ℕ → ℕ → ℕ → ℕ
   place_number s n y i = round_number s n y i % w.depth y
-
-  -- A turn lets a wait for half a go on if it is a, or, if the wait is not exact, also
-  -- if it is above a.
-  abbrev pub turn_reached : Bool → ℕ → ℕ → Bool
-  turn_reached true turn a = nat_eq turn a
-  turn_reached false turn a = nat_le a turn
 
   -- only a take, a see and a wait can be not enabled
   abbrev pub enabled_by : State P → ℕ → Option Micro → Bool

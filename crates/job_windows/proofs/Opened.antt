@@ -2,20 +2,20 @@
 use Rattle.std.proofs.Common.{◌≡◌, ℕ, ◌+◌, ◌-◌, ◌<◌, true, Option, None, Some, length, sym, drop, ap, arith, ◌∙◌, length-take}
 use Rattle.syn_base.specs.Rows.{Reactions, AreCut}
 use Rattle.syn_base.specs.declared.limits.LimitFault.{LimitFault}
-use Rattle.level_meaning.specs.Level.{Values}
-use Rattle.archi_graph.specs.Archi.{Architecture}
-use Rattle.flat_graph.specs.Graph.{Graph}
-use Rattle.flat_graph.specs.Meaning.{cells_after}
-use Rattle.flat_graph.specs.Valid.{is_flat}
+use Rattle.executive_program.specs.Archi.{Architecture}
+use Rattle.executive_program.specs.Graph.{Graph}
+use Rattle.executive_program.specs.Meaning.{cells_after}
+use Rattle.executive_program.specs.FlatValid.{is_flat}
 use Rattle.executive_program.specs.declared.program.Program.{Program}
-use Rattle.semaphore_core.specs.Job.{JobData, reactions}
-use Rattle.semaphore_core.specs.IsJob.{FitTogether, job_of, limit_of}
-use Rattle.phase_laws.specs.Ended.{last_cells}
-use Rattle.phase_laws.specs.Values.{IsSupplied}
-use Rattle.phase_laws.specs.Windows.{IsWindow, window, WindowsMakeTheRun}
-use Rattle.phase_laws.proofs.Together.{jobs_are_supplied}
+use Rattle.word_rule.specs.Job.{JobData, reactions}
+use Rattle.word_rule.specs.IsJob.{FitTogether, job_of, limit_of}
+use Rattle.word_rule.specs.Ended.{last_cells}
+use Rattle.word_rule.specs.Values.{IsSupplied}
+use Rattle.word_rule.specs.Windows.{IsWindow, window, WindowsMakeTheRun}
+use Rattle.word_rule.proofs.Together.{jobs_are_supplied}
 use Rattle.run_laws.specs.Windows.{reactions_from}
 use Rattle.job_windows.specs.Windowed.{IsOpen, WindowsData, first_of, next_job, whole_job}
+use Rattle.syn_base.specs.Vectors.{Values}
 
 none_some : (o : Option LimitFault) (fault : LimitFault) → o ≡ None → o ≡ Some fault → ⊥
 none_some o fault e f = let q = sym e ∙ f in cc

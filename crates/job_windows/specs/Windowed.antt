@@ -3,18 +3,18 @@ use Rattle.std.specs.Prelude.{◌≡◌, ℕ, ◌+◌, ◌*◌, ◌<◌, ◌≤�
 use Rattle.std.specs.Coded.{Coded, code_by, coded×, coded_ℕ}
 use Rattle.syn_base.specs.Rows.{Reactions}
 use Rattle.syn_base.specs.declared.memory.OutOfMemory.{OutOfMemory}
-use Rattle.level_meaning.specs.Level.{Values}
-use Rattle.archi_graph.specs.Archi.{Architecture}
-use Rattle.flat_graph.specs.Graph.{Graph}
-use Rattle.flat_graph.specs.Meaning.{initial_cells, cells_after}
+use Rattle.executive_program.specs.Archi.{Architecture}
+use Rattle.executive_program.specs.Graph.{Graph}
+use Rattle.executive_program.specs.Meaning.{initial_cells, cells_after}
 use Rattle.executive_program.specs.declared.program.Program.{Program}
-use Rattle.semaphore_core.specs.Job.{JobData, reactions}
-use Rattle.semaphore_core.specs.IsJob.{FitTogether, job_of, limit_of}
-use Rattle.phase_laws.specs.Ended.{all_acts}
-use Rattle.phase_laws.specs.Windows.{window, window_job}
 use Rattle.run_laws.specs.Windows.{window_bound, reactions_from}
+use Rattle.word_rule.specs.Job.{JobData, reactions}
+use Rattle.word_rule.specs.IsJob.{FitTogether, job_of, limit_of}
+use Rattle.word_rule.specs.Ended.{all_acts}
+use Rattle.word_rule.specs.Windows.{window, window_job}
 use Rattle.word_rule.specs.Driven.{Driven, driven_by}
 use Rattle.word_table.specs.Closed.{ClosedData, IsAtEnd}
+use Rattle.syn_base.specs.Vectors.{Values}
 
 -- the job of these parts over all rows, from the initial values of the delays
 abbrev pub whole_job : Program → Graph → Architecture → Reactions → JobData

@@ -1,22 +1,19 @@
 //! The windows that are still to be run, for the commands that run jobs.
 ghost use Rattle.std.specs.Prelude.{◌≡◌, ◌≤◌, ◌<◌, ◌+◌, IfOk, None};
-ghost use Rattle.semaphore_core.specs.Job.{reactions};
+ghost use Rattle.word_rule.specs.Job.{reactions};
+ghost use Rattle.word_rule.specs.IsJob.{FitTogether, limit_of};
 ghost use Rattle.word_table.specs.Closed.{IsAtEnd};
-ghost use Rattle.semaphore_core.specs.IsJob.{FitTogether, limit_of};
 ghost use Rattle.job_windows.specs.Windowed.{RunsNext, first_of, next_job, whole_job};
 
-use archi_graph::Archi;
-use executive_program::Program;
+use executive_program::{Archi, Flat, Program};
 use executive_run::{prepare, run_ready};
-use flat_graph::Flat;
 use outside::Gate;
-use phase_laws::windows_make_the_run;
-use semaphore_core::{Job, opening_of};
 use std::alloc::{AllocError, Global};
 use std::marker::Model;
 use std::sync::Wait;
 use std::thread::Threads;
 use syn_base::{Items, OutOfMemory, SensorRows};
+use word_rule::{Job, opening_of, windows_make_the_run};
 use word_table::{Closed, Driven};
 
 /// The most reactions of a window.
@@ -52,9 +49,9 @@ pub struct JobWindows<'a> {
 
 impl<'a> Model for JobWindows<'a> {
     ghost use Rattle.std.specs.Coded.{codes};
-    ghost use Rattle.body_lang.specs.Code.{expr_code};
-    ghost use Rattle.flat_graph.specs.Graph.{graph_code};
-    ghost use Rattle.semaphore_core.specs.Job.{job_code};
+    ghost use Rattle.executive_program.specs.BodyCode.{expr_code};
+    ghost use Rattle.executive_program.specs.Graph.{graph_code};
+    ghost use Rattle.word_rule.specs.Job.{job_code};
     ghost use Rattle.job_windows.specs.Windowed.{IsOpen, WindowsData, whole_job, windows_code};
 
     ghost Value = { WindowsData };

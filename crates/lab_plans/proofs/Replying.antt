@@ -2,17 +2,17 @@
 use Rattle.std.proofs.Common.{◌≡◌, Option, Some, None, Result, Ok, Err, inl, inr, refl, sym, ap, subst}
 use Rattle.std.specs.Prelude.{IsOkAnd, IsSomeAnd, false}
 use Rattle.syn_base.specs.Bytes.{Bytes}
-use Rattle.outside.specs.Faults.{Rose}
-use Rattle.outside.specs.Shelf.{Held}
-use Rattle.outside.specs.Sink.{Sunk, Appends, AppendsPrefix, Wrote}
-use Rattle.outside.specs.declared.file.File.{File}
-use Rattle.schedule.specs.declared.decision.Schedule.{Schedule}
-use Rattle.command_plan.specs.Plan.{outcome}
-use Rattle.command_plan.specs.Ending.{Ending, done, refused, unread, unwritten, no_memory}
-use Rattle.command_plan.specs.Answers.{UnnamedStay}
-use Rattle.command_plan.specs.Run.{Makes}
-use Rattle.command_plan.proofs.Made.{Made, thing_made, refusal_made, fault_found, wanting, made_of, unnamed_so}
-use Rattle.command_status.specs.Status.{Refusal, usage}
+use Rattle.self_timed.specs.declared.Schedule.{Schedule}
+use Rattle.top_plans.specs.Faults.{Rose}
+use Rattle.top_plans.specs.Shelf.{Held}
+use Rattle.top_plans.specs.Sink.{Sunk, Appends, AppendsPrefix, Wrote}
+use Rattle.top_plans.specs.declared.File.{File}
+use Rattle.top_plans.specs.Plan.{outcome}
+use Rattle.top_plans.specs.Ending.{Ending, done, refused, unread, unwritten, no_memory}
+use Rattle.top_plans.specs.PlanAnswers.{UnnamedStay}
+use Rattle.top_plans.specs.Run.{Makes}
+use Rattle.top_plans.proofs.Made.{Made, thing_made, refusal_made, fault_found, wanting, made_of, unnamed_so}
+use Rattle.top_plans.specs.Status.{Refusal, usage}
 use Rattle.top_plans.proofs.Usage.{never_made}
 use Rattle.lab_words.specs.Command.{Command}
 use Rattle.lab_plans.specs.Names.{names_of}

@@ -5,53 +5,48 @@ use Rattle.csv.specs.Reading.{default_config, records, strip_bom}
 use Rattle.syn_base.specs.Bytes.{Bytes}
 use Rattle.syn_base.specs.Rows.{Reactions}
 use Rattle.syn_base.specs.declared.limits.LimitFault.{LimitFault}
-use Rattle.outside.specs.declared.file.File.{File}
-use Rattle.outside.specs.declared.file.File.TheVariants.{Algorithm, Architecture, Sensors, Code, Durations}
 use Rattle.algo_text.specs.declared.definition.Defs.{Defs}
 use Rattle.algo_text.specs.Text.{definitions_of}
-use Rattle.elaboration.specs.Elaborated.{elaboration_of}
 use Rattle.algo_tree.specs.Tree.{Vertex}
-use Rattle.archi_defs.specs.Text.{Described, description_of}
-use Rattle.archi_graph.specs.Archi.{Architecture as Archi}
-use Rattle.durations.specs.Table.{Table, durations_of}
-use Rattle.flat_graph.specs.Graph.{Graph}
-use Rattle.flat_laws.specs.FlatOf.{flat_of}
-use Rattle.executive_program.specs.declared.program.Program.{Program}
-use Rattle.macro_code.specs.ReadText.{program_in}
-use Rattle.macro_code.specs.declared.fault.CodeError.{CodeError}
-use Rattle.macro_code.specs.declared.fault.CodeError.TheVariants as macros
-use Rattle.sensor_table.specs.SensorTable.{rows_of}
-use Rattle.schedule.specs.declared.decision.Schedule.{Schedule}
-use Rattle.actual_defs.specs.declared.fault.ActualError.{ActualError}
-use Rattle.actual_durations.specs.Actual.{actual_of}
-use Rattle.command_plan.specs.Plan.{give, refuse, after, ReadsOnly, RefusesOnly}
-use Rattle.command_status.specs.Status.{Refusal, above, of_algorithm, of_architecture, of_code, of_durations, of_sensors, usage, wants_memory}
+use Rattle.self_timed.specs.Text.{Described, description_of}
+use Rattle.self_timed.specs.Archi.{Architecture as Archi}
+use Rattle.self_timed.specs.Table.{Table, durations_of}
+use Rattle.self_timed.specs.Graph.{Graph}
+use Rattle.self_timed.specs.declared.Program.{Program}
+use Rattle.self_timed.specs.declared.Schedule.{Schedule}
+use Rattle.top_plans.specs.declared.File.{File}
+use Rattle.top_plans.specs.declared.File.TheVariants.{Algorithm, Architecture, Sensors, Code, Durations}
+use Rattle.top_plans.specs.Elaborated.{elaboration_of}
+use Rattle.top_plans.specs.FlatOf.{flat_of}
+use Rattle.top_plans.specs.ReadText.{program_in}
+use Rattle.top_plans.specs.SensorTable.{rows_of}
+use Rattle.top_plans.specs.declared.ActualError.{ActualError}
+use Rattle.top_plans.specs.Actual.{actual_of}
+use Rattle.top_plans.specs.Plan.{give, refuse, after, ReadsOnly, RefusesOnly}
+use Rattle.top_plans.specs.Status.{Refusal, above, of_algorithm, of_architecture, of_code, of_durations, of_sensors, usage, wants_memory}
 use Rattle.top_plans.specs.Plans.{read_file, unless, algorithm_in, architecture_in, described_in, table_in, excess}
 use Rattle.top_plans.proofs.Only.{Only}
 use Rattle.top_plans.proofs.TextRefusals as texts
 use Rattle.top_plans.proofs.MarkRefusals.{elaboration_safe}
-use Rattle.top_plans.proofs.ArchitectureRefusals as architectures
 use Rattle.top_plans.proofs.DurationRefusals as durations
 use Rattle.top_plans.proofs.TableRefusals as tables
-use Rattle.top_plans.proofs.Walk.{IsTold, told_above, told_algorithm, told_architecture, told_durations, told_sensors}
+use Rattle.top_plans.proofs.Walk.{IsTold, told_above, told_algorithm, told_architecture, told_code, told_durations, told_sensors}
 use Rattle.lab_words.specs.Command.{Command, Form, help, schedule, graph, table, lint, why, plot, dates, chart, trace, flat, code, report}
-use Rattle.top_plans.proofs.CodeRefusals as codes
 use Rattle.lab_plans.specs.Names.{names_for, names_of}
 use Rattle.lab_plans.specs.Asked.{Asked, Problem, of_text, of_schedule, of_dates}
 use Rattle.lab_plans.specs.Answers.{answer, dates_by, limit, within}
 use Rattle.lab_plans.specs.Plans.{Asks, plan_for, plan_of}
 use Rattle.lab_plans.specs.Refusals.{NoAnswerWantsMemory, NoPlanWantsMemory}
 
-told_code : (e : CodeError) → codes.Stays e → IsTold (of_code e)
-told_code (macros.Refused fault) s = record { no_usage = λ q. cc; no_want = λ q. cc }
-told_code (macros.Limit fault) s = told_above fault
-told_code macros.OutOfMemory s = absurd s
-
 module _ (Q : Asks → Type 0) (refused : (r : Refusal) → IsTold r → Q (refuse r)) where
   after_so : {X E : Type 0} {P : E → Type 0} (refusal : E → Refusal) → ((e : E) → P e → IsTold (refusal e)) → (answer : Result X E) → Only P answer → (next : X → Asks) → ((x : X) → Q (next x))
       → Q (after refusal answer next)
   after_so refusal told (Ok x) only next h = h x
   after_so refusal told (Err e) only next h = refused (refusal e) (told e only.error)
+
+  after_told : {X E : Type 0} (refusal : E → Refusal) → ((e : E) → IsTold (refusal e)) → (answer : Result X E) (next : X → Asks) → ((x : X) → Q (next x)) → Q (after refusal answer next)
+  after_told refusal told (Ok x) next h = h x
+  after_told refusal told (Err e) next h = refused (refusal e) (told e)
 
   unless_within : (o : Option LimitFault) (next : Asks) → Q next → Q (unless o next)
   unless_within (Some f) next h = refused (above f) (told_above f)
@@ -64,14 +59,14 @@ module _ (Q : Asks → Type 0) (refused : (r : Refusal) → IsTold r → Q (refu
 
   architecture_so : (text : Bytes) (main : Vertex) (next : Described → Table → Asks) → ((d : Described) (t : Table) → Q (next d t)) → Q (architecture_in text main next)
   architecture_so text main next h =
-      after_so of_architecture told_architecture (description_of text) (architectures.description_safe text) (λ d. after of_architecture (durations_of (flat_of main) d) (next d))
-      (λ d. after_so of_architecture told_architecture (durations_of (flat_of main) d) (durations.durations_safe (flat_of main) d) (next d) (h d))
+      after_told of_architecture told_architecture (description_of text) (λ d. after of_architecture (durations_of (flat_of main) d) (next d))
+      (λ d. after_told of_architecture told_architecture (durations_of (flat_of main) d) (next d) (h d))
 
   described_so : (text : Bytes) (next : Described → Asks) → ((d : Described) → Q (next d)) → Q (described_in text next)
-  described_so text next h = after_so of_architecture told_architecture (description_of text) (architectures.description_safe text) next h
+  described_so text next h = after_told of_architecture told_architecture (description_of text) next h
 
   program_so : (text : Bytes) (g : Graph) (a : Archi) (next : Program → Asks) → ((p : Program) → Q (next p)) → Q (after of_code (program_in text g a) next)
-  program_so text g a next h = after_so of_code told_code (program_in text g a) (codes.program_safe text g a) next h
+  program_so text g a next h = after_told of_code told_code (program_in text g a) next h
 
   table_so : (main : Vertex) (text : Bytes) (next : Reactions → Asks) → ((rows : Reactions) → Q (next rows)) → Q (table_in main text next)
   table_so main text next h =

@@ -1,14 +1,14 @@
 -- Plans over worked texts, and what is answered of the pressure run.
 use Rattle.std.proofs.Common.{◌≡◌, ℕ, refl, List, [], ◌∷◌, ◌++◌, length, Option, Some, None, Result, Ok, Err, codes}
 use Rattle.std.specs.Fmt.{digits}
-use Rattle.macro_code.specs.Forms.{macro_of}
 use Rattle.csv.specs.Writing.{fields_text, is_blank}
 use Rattle.syn_base.specs.Bytes.{Bytes}
-use Rattle.outside.specs.Bytes.{named}
-use Rattle.archi_defs.specs.declared.fault.ArchiCause.TheVariants as archi_cause
-use Rattle.actual_defs.specs.declared.fault.ActualFault.TheVariants.{Longer}
-use Rattle.command_plan.specs.Plan.{outcome}
-use Rattle.command_status.specs.Status.{Refusal, bad_architecture, bad_durations, usage}
+use Rattle.self_timed.specs.declared.ArchiCause.TheVariants as archi_cause
+use Rattle.top_plans.specs.Forms.{macro_of}
+use Rattle.top_plans.specs.Bytes.{named}
+use Rattle.top_plans.specs.declared.ActualFault.TheVariants.{Longer}
+use Rattle.top_plans.specs.Plan.{outcome}
+use Rattle.top_plans.specs.Status.{Refusal, bad_architecture, bad_durations, usage}
 use Rattle.top_plans.specs.Plans.{schedule_of}
 use Rattle.lab_words.specs.Command.{Command, Effort, for_length, code, report, drawn, traced, help, schedule, table, why, dates}
 use Rattle.lab_words.specs.Help.{help_text}

@@ -15,22 +15,18 @@ use Rattle.std.specs.Prelude.{
 }
 use Rattle.syn_base.specs.Bytes.{Bytes}
 use Rattle.syn_base.specs.declared.limits.LimitFault.{LimitFault}
-use Rattle.archi_graph.specs.Archi.{Architecture as Archi}
-use Rattle.durations.specs.Table.{entry_in}
-use Rattle.flat_graph.specs.Graph.{Graph}
-use Rattle.schedule.specs.declared.decision.Schedule.{Schedule}
-use Rattle.schedule.specs.Acts.{length_of}
-use Rattle.executive_program.specs.declared.program.Program.{Program}
-use Rattle.sequence_build_laws.specs.Built.{program_of}
-use Rattle.sequence_build.specs.Limit.{program_limit}
-use Rattle.macro_code.specs.Text.{macro_code}
-use Rattle.actual_defs.specs.declared.fault.ActualError.{ActualError}
-use Rattle.actual_durations.specs.Actual.{actual_of}
 use Rattle.chart_picture.specs.Picture.{picture}
 use Rattle.chart_picture.specs.DatesPicture.{dates_picture}
 use Rattle.trace_events.specs.DatesTrace.{dates_trace}
 use Rattle.trace_events.specs.Trace.{chart_trace}
 use Rattle.graph_drawing.specs.FlatDrawing.{placed_drawing}
+use Rattle.self_timed.specs.Archi.{Architecture as Archi}
+use Rattle.self_timed.specs.Table.{entry_in}
+use Rattle.self_timed.specs.Graph.{Graph}
+use Rattle.self_timed.specs.declared.Schedule.{Schedule}
+use Rattle.self_timed.specs.Acts.{length_of}
+use Rattle.self_timed.specs.declared.Program.{Program}
+use Rattle.self_timed.specs.Built.{program_of}
 use Rattle.self_timed.specs.declared.period.Period.{Period}
 use Rattle.self_timed.specs.Period.{period_of_schedule}
 use Rattle.self_timed.specs.StatedLatencies.{latencies_of_schedule}
@@ -42,8 +38,12 @@ use Rattle.lower_bound.specs.Chain.{chain_links}
 use Rattle.report_text.specs.Text.{report_text}
 use Rattle.report_text.specs.declared.figures.Figures.{Figures}
 use Rattle.report_text.specs.declared.figures.Pace.{Pace}
+use Rattle.top_plans.specs.Limit.{program_limit}
+use Rattle.top_plans.specs.CodeText.{macro_code}
+use Rattle.top_plans.specs.declared.ActualError.{ActualError}
+use Rattle.top_plans.specs.Actual.{actual_of}
+use Rattle.top_plans.specs.Status.{Refusal, above, of_durations}
 use Rattle.top_plans.specs.Plans.{schedule_of}
-use Rattle.command_status.specs.Status.{Refusal, above, of_durations}
 use Rattle.lab_words.specs.Command.{Subject, chart, trace, flat, code, report, Form, drawn, traced}
 use Rattle.lab_plans.specs.Asked.{Problem, Asked, of_text, of_schedule, of_dates}
 

@@ -1,18 +1,18 @@
 -- What a command asks for once all its files are read and accepted, and which schedules may be found for it.
 use Rattle.std.specs.Prelude.{◌≡◌, ◌≢◌, ℕ, IsTrue}
 use Rattle.syn_base.specs.Bytes.{Bytes}
-use Rattle.archi_graph.specs.Archi.{Architecture as Archi}
-use Rattle.durations.specs.Table.{Table, entry_in}
-use Rattle.flat_graph.specs.Graph.{Graph}
-use Rattle.pressure_heuristic.specs.Adequation.{IsPressureRun}
-use Rattle.schedule.specs.declared.decision.Schedule.{Schedule}
-use Rattle.schedule.specs.Valid.{is_valid}
+use Rattle.self_timed.specs.Archi.{Architecture as Archi}
+use Rattle.self_timed.specs.Table.{Table, entry_in}
+use Rattle.self_timed.specs.Graph.{Graph}
+use Rattle.self_timed.specs.declared.Schedule.{Schedule}
+use Rattle.self_timed.specs.ScheduleValid.{is_valid}
 use Rattle.schedule_search.specs.Found.{
   IsNoLongerThanAlone,
   IsNoLongerThanRun,
   IsNoSlowerThanAlone,
   IsNoSlowerThanRun,
 }
+use Rattle.top_plans.specs.Adequation.{IsPressureRun}
 use Rattle.lab_words.specs.Command.{Effort, Form, Subject, for_length, for_period}
 
 -- What is to be scheduled: the operations, the architecture, how long each operation lasts on each operator, and how a

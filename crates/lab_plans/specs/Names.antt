@@ -1,8 +1,8 @@
 -- The names that each command gives its files.
 use Rattle.std.specs.Prelude.{Option, Some, None}
 use Rattle.syn_base.specs.Bytes.{Bytes}
-use Rattle.outside.specs.declared.file.File.{File}
 use Rattle.lab_words.specs.Command.{Command, help, schedule, graph, table, lint, why, plot, dates}
+use Rattle.top_plans.specs.declared.File.{File}
 use Rattle.top_plans.specs.Names.{named}
 
 -- The name that a command gives a file, and None if the command has no such file.

@@ -2,30 +2,30 @@
 use Rattle.std.specs.Prelude.{◌++◌, ◌*◌, ℕ, length, sum, Option, Some, None}
 use Rattle.syn_base.specs.Bytes.{Bytes}
 use Rattle.syn_base.specs.Rows.{Reactions}
-use Rattle.outside.specs.declared.file.File.TheVariants.{Architecture, Code, Durations}
 use Rattle.algo_text.specs.declared.definition.Defs.{Defs}
 use Rattle.algo_tree.specs.Tree.{Vertex}
 use Rattle.algo_tree.specs.Ends.{actuator_lengths}
-use Rattle.archi_defs.specs.Text.{Described}
-use Rattle.archi_graph.specs.Archi.{Architecture as Archi}
-use Rattle.archi_graph.specs.Sequences.{sequences}
-use Rattle.durations.specs.Table.{Table}
-use Rattle.flat_graph.specs.Graph.{Graph}
-use Rattle.flat_laws.specs.FlatOf.{flat_of}
-use Rattle.executive_program.specs.declared.program.Program.{Program}
-use Rattle.macro_code.specs.ReadText.{program_in}
+use Rattle.self_timed.specs.Text.{Described}
+use Rattle.self_timed.specs.Archi.{Architecture as Archi}
+use Rattle.self_timed.specs.Sequences.{sequences}
+use Rattle.self_timed.specs.Table.{Table}
+use Rattle.self_timed.specs.Graph.{Graph}
+use Rattle.self_timed.specs.declared.Program.{Program}
 use Rattle.check_places.specs.Why.{why as reason}
 use Rattle.why_text.specs.Text.{answer_text, setting}
-use Rattle.act_text.specs.Names.{actuator_names}
 use Rattle.sync_meaning.specs.Simulated.{simulated}
 use Rattle.definition_drawing.specs.Drawing.{drawing}
-use Rattle.sensor_table.specs.Template.{template_text}
 use Rattle.text_lint.specs.Algorithm.{algorithm_findings}
 use Rattle.text_lint.specs.Architecture.{architecture_findings}
 use Rattle.text_lint.specs.Printed.{findings_text}
 use Rattle.svg_text.specs.Plot as signal
-use Rattle.command_plan.specs.Plan.{Plan, after, give, refuse}
-use Rattle.command_status.specs.Status.{Refusal, of_code, usage}
+use Rattle.top_plans.specs.declared.File.TheVariants.{Architecture, Code, Durations}
+use Rattle.top_plans.specs.FlatOf.{flat_of}
+use Rattle.top_plans.specs.ReadText.{program_in}
+use Rattle.top_plans.specs.ActNames.{actuator_names}
+use Rattle.top_plans.specs.Template.{template_text}
+use Rattle.top_plans.specs.Plan.{Plan, after, give, refuse}
+use Rattle.top_plans.specs.Status.{Refusal, of_code, usage}
 use Rattle.top_plans.specs.Plans.{
   algorithm_plan,
   architecture_in,

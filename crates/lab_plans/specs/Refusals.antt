@@ -1,8 +1,8 @@
 -- What no plan refuses for: want of memory is told by what is carried out, and never by what texts and words say.
 use Rattle.std.specs.Prelude.{◌≡◌, Option, Err}
-use Rattle.schedule.specs.declared.decision.Schedule.{Schedule}
-use Rattle.command_plan.specs.Plan.{RefusesOnly}
-use Rattle.command_status.specs.Status.{Refusal, wants_memory}
+use Rattle.self_timed.specs.declared.Schedule.{Schedule}
+use Rattle.top_plans.specs.Plan.{RefusesOnly}
+use Rattle.top_plans.specs.Status.{Refusal, wants_memory}
 use Rattle.lab_words.specs.Command.{Command}
 use Rattle.lab_plans.specs.Asked.{Asked}
 use Rattle.lab_plans.specs.Answers.{answer}

@@ -1,15 +1,15 @@
 -- What the top call answers.
 use Rattle.std.specs.Prelude.{◌≡◌, ◌⊎◌, Option, Some, None, Result, Ok, Err, IsOkAnd, IsSomeAnd}
 use Rattle.syn_base.specs.Bytes.{Bytes}
-use Rattle.outside.specs.Faults.{Rose}
-use Rattle.outside.specs.Shelf.{Held}
-use Rattle.outside.specs.Sink.{Sunk, Appends, AppendsPrefix}
-use Rattle.outside.specs.declared.file.File.{File}
-use Rattle.schedule.specs.declared.decision.Schedule.{Schedule}
-use Rattle.command_plan.specs.Plan.{outcome}
-use Rattle.command_plan.specs.Ending.{Ending, done, refused, unread, unwritten, no_memory}
-use Rattle.command_plan.specs.Answers.{NoFault, UnnamedStay}
-use Rattle.command_status.specs.Status.{Refusal, usage}
+use Rattle.self_timed.specs.declared.Schedule.{Schedule}
+use Rattle.top_plans.specs.Faults.{Rose}
+use Rattle.top_plans.specs.Shelf.{Held}
+use Rattle.top_plans.specs.Sink.{Sunk, Appends, AppendsPrefix}
+use Rattle.top_plans.specs.declared.File.{File}
+use Rattle.top_plans.specs.Plan.{outcome}
+use Rattle.top_plans.specs.Ending.{Ending, done, refused, unread, unwritten, no_memory}
+use Rattle.top_plans.specs.PlanAnswers.{NoFault, UnnamedStay}
+use Rattle.top_plans.specs.Status.{Refusal, usage}
 use Rattle.lab_words.specs.Command.{Command}
 use Rattle.lab_plans.specs.Names.{names_of}
 use Rattle.lab_plans.specs.Asked.{Asked, IsFoundFor}

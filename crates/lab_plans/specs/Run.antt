@@ -1,12 +1,12 @@
 -- What carrying out a plan may do, whether or not the files are told.
 use Rattle.std.specs.Prelude.{◌≡◌, Result, Ok, Err, false}
 use Rattle.syn_base.specs.Bytes.{Bytes}
-use Rattle.outside.specs.Shelf.{Held}
-use Rattle.outside.specs.Sink.{Sunk, Appends, Wrote}
-use Rattle.schedule.specs.declared.decision.Schedule.{Schedule}
-use Rattle.command_plan.specs.Ending.{Ending, done, refused, unwritten}
-use Rattle.command_plan.specs.Run.{Makes}
-use Rattle.command_status.specs.Status.{Refusal}
+use Rattle.self_timed.specs.declared.Schedule.{Schedule}
+use Rattle.top_plans.specs.Shelf.{Held}
+use Rattle.top_plans.specs.Sink.{Sunk, Appends, Wrote}
+use Rattle.top_plans.specs.Ending.{Ending, done, refused, unwritten}
+use Rattle.top_plans.specs.Run.{Makes}
+use Rattle.top_plans.specs.Status.{Refusal}
 use Rattle.lab_plans.specs.Asked.{Asked, IsFoundFor}
 use Rattle.lab_plans.specs.Answers.{answer}
 use Rattle.lab_plans.specs.Plans.{Asks}

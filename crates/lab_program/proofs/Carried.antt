@@ -3,35 +3,35 @@ use Rattle.std.proofs.Common.{◌≡◌, ◌∙◌, ℕ, [], Option, Some, None,
 use Rattle.std.specs.Prelude.{Vec}
 use Rattle.syn_base.specs.Bytes.{Bytes}
 use Rattle.syn_base.specs.Rows.{Reactions}
-use Rattle.outside.specs.Shelf.{Held}
-use Rattle.outside.specs.Sink.{Sunk}
-use Rattle.outside.specs.declared.file.File.{File}
-use Rattle.outside.specs.declared.file.File.TheVariants.{Architecture, Durations}
-use Rattle.algo_text.specs.declared.definition.Defs.{Defs}
-use Rattle.algo_text.specs.Text.{definitions_of}
-use Rattle.elaboration.specs.Elaborated.{elaboration_of}
-use Rattle.algo_tree.specs.Tree.{Vertex}
-use Rattle.archi_defs.specs.Text.{Described, description_of}
-use Rattle.archi_defs.specs.declared.text.ArchiText.{ArchiText}
-use Rattle.archi_graph.specs.Archi.{Architecture as Archi}
-use Rattle.flat_graph.specs.Graph.{Graph}
-use Rattle.macro_code.specs.Given.{Fails}
-use Rattle.macro_code.specs.ReadText.{program_in}
-use Rattle.macro_code.specs.declared.fault.CodeError.{CodeError}
-use Rattle.macro_code.specs.declared.fault.CodeError.TheVariants as code
+use Rattle.text_lines.specs.Refusals.{Refused, Limit, Fails}
+use Rattle.text_lines.specs.declared.fault.TextError.TheVariants as error
 use Rattle.csv.specs.Reading.{default_config, records, strip_bom}
-use Rattle.durations.specs.Table.{Table, durations_of}
-use Rattle.flat_laws.specs.FlatOf.{flat_of}
-use Rattle.sensor_table.specs.SensorTable.{rows_of}
-use Rattle.schedule.specs.declared.decision.Schedule.{Schedule}
-use Rattle.command_plan.specs.Plan.{after, give}
-use Rattle.command_plan.specs.Ending.{Ending, no_memory, refused}
-use Rattle.command_plan.specs.Run.{Makes, WasRead, was_read}
-use Rattle.command_plan.proofs.Makes.{after_err, after_ok, gave, memory}
-use Rattle.command_status.specs.Status.{Refusal, ending_of, of_algorithm, of_architecture, of_code, of_sensors, status_of_code}
-use Rattle.command_status.specs.declared.status.Status.{Status}
+use Rattle.algo_laws.specs.declared.Defs.{Defs}
+use Rattle.algo_laws.specs.Text.{definitions_of}
+use Rattle.algo_laws.specs.Tree.{Vertex}
+use Rattle.self_timed.specs.Text.{Described, description_of, described_by}
+use Rattle.self_timed.specs.declared.ArchiText.{ArchiText}
+use Rattle.self_timed.specs.Archi.{Architecture as Archi}
+use Rattle.self_timed.specs.Graph.{Graph}
+use Rattle.self_timed.specs.Table.{Table, durations_of}
+use Rattle.self_timed.specs.declared.Schedule.{Schedule}
+use Rattle.top_plans.specs.Shelf.{Held}
+use Rattle.top_plans.specs.Sink.{Sunk}
+use Rattle.top_plans.specs.declared.File.{File}
+use Rattle.top_plans.specs.declared.File.TheVariants.{Architecture, Durations}
+use Rattle.top_plans.specs.Elaborated.{elaboration_of}
+use Rattle.top_plans.specs.ReadText.{program_in}
+use Rattle.top_plans.specs.CodeRefusals.{CodeError}
+use Rattle.top_plans.specs.FlatOf.{flat_of}
+use Rattle.top_plans.specs.SensorTable.{rows_of}
+use Rattle.top_plans.specs.Plan.{after, give}
+use Rattle.top_plans.specs.Ending.{Ending, no_memory, refused}
+use Rattle.top_plans.specs.Run.{Makes, WasRead, was_read}
+use Rattle.top_plans.proofs.Makes.{after_err, after_ok, gave, memory}
+use Rattle.top_plans.specs.Status.{Refusal, ending_of, of_algorithm, of_architecture, of_code, of_sensors, status_of_code}
+use Rattle.top_plans.specs.declared.Status.{Status}
 use Rattle.top_plans.specs.Plans.{algorithm_plan, architecture_in, architecture_plan, described_in, read_file, table_plan}
-use Rattle.compiler.specs.Compiles.{IsCompilation, described}
+use Rattle.compiler.specs.Compiles.{IsCompilation}
 use Rattle.compiler.specs.Reads.{ReadsAlgorithm, ReadsCompilation, ReadsDescription, ReadsTable}
 use Rattle.compiler.specs.declared.stages.Algorithm.{Algorithm}
 use Rattle.compiler.specs.declared.stages.Compilation.{Compilation}
@@ -69,9 +69,9 @@ went_on name a b c algorithm next result (text, read, is) (made, m, h) = (
 
 -- a compilation was made of a text, and then the plan went on with it
 pub compiled_in : {A : Type 0} (main : Vertex) (text : Bytes) (held : Held) (compilation : Compilation) (next : Described → Table → Asks) (result : Result (Vec ℕ A) Status)
-    → IsCompilation main text compilation → Carries (next (described compilation.text) compilation.durations) held held result → Carries (architecture_in text main next) held held result
+    → IsCompilation main text compilation → Carries (next (described_by compilation.text) compilation.durations) held held result → Carries (architecture_in text main next) held held result
 compiled_in main text held compilation next result is (made, m, h) =
-    let d = described compilation.text in (
+    let d = described_by compilation.text in (
       made,
       after_ok held held of_architecture (description_of text) (λ d. after of_architecture (durations_of (flat_of main) d) (next d)) made d is.says
           (after_ok held held of_architecture (durations_of (flat_of main) d) (next d) made compilation.durations is.lasts m),
@@ -80,9 +80,9 @@ compiled_in main text held compilation next result is (made, m, h) =
 
 -- a compilation was made from a file, and then the plan went on with it
 pub compiled_on : {A : Type 0} (main : Vertex) (name : Bytes) (a b c : Held) (compilation : Compilation) (next : Described → Table → Asks) (result : Result (Vec ℕ A) Status)
-    → ReadsCompilation main name a b (Ok compilation) → Carries (next (described compilation.text) compilation.durations) b c result → Carries (architecture_plan name main next) a c result
+    → ReadsCompilation main name a b (Ok compilation) → Carries (next (described_by compilation.text) compilation.durations) b c result → Carries (architecture_plan name main next) a c result
 compiled_on main name a b c compilation next result (text, read, is) (made, m, h) =
-    let d = described compilation.text in (
+    let d = described_by compilation.text in (
       made,
       was_read b text read (after_ok b c of_architecture (description_of text) (λ d. after of_architecture (durations_of (flat_of main) d) (next d)) made d is.says
           (after_ok b c of_architecture (durations_of (flat_of main) d) (next d) made compilation.durations is.lasts m)),
@@ -91,15 +91,15 @@ compiled_on main name a b c compilation next result (text, read, is) (made, m, h
 
 -- a description was read, and then the plan went on with it
 pub described_on : {A : Type 0} (name : Bytes) (a b c : Held) (text : ArchiText) (next : Described → Asks) (result : Result (Vec ℕ A) Status)
-    → ReadsDescription name a b (Ok text) → Carries (next (described text)) b c result → Carries (read_file Architecture name (λ bytes. described_in bytes next)) a c result
+    → ReadsDescription name a b (Ok text) → Carries (next (described_by text)) b c result → Carries (read_file Architecture name (λ bytes. described_in bytes next)) a c result
 described_on name a b c text next result (bytes, read, is) (made, m, h) =
-    (made, was_read b bytes read (after_ok b c of_architecture (description_of bytes) next made (described text) is m), h)
+    (made, was_read b bytes read (after_ok b c of_architecture (description_of bytes) next made (described_by text) is m), h)
 
 -- macro-code was refused, or memory ran out
 pub code_refused : {A : Type 0} (g : Graph) (a : Archi) (text : Bytes) (held : Held) (e : CodeError) → Fails e (program_in text g a) → Carries {A = A} (why_of_code g a text) held held (Err (status_of_code e))
-code_refused g a text held (code.Refused fault) is = (Err (refused (of_code (code.Refused fault))), after_err held of_code (program_in text g a) _ (code.Refused fault) is, refl)
-code_refused g a text held (code.Limit fault) is = (Err (refused (of_code (code.Limit fault))), after_err held of_code (program_in text g a) _ (code.Limit fault) is, refl)
-code_refused g a text held code.OutOfMemory is = wanted (why_of_code g a text) held (status_of_code code.OutOfMemory) refl
+code_refused g a text held (error.Refused fault) is = (Err (refused (of_code (Refused fault))), after_err held of_code (program_in text g a) _ (Refused fault) is, refl)
+code_refused g a text held (error.Limit fault) is = (Err (refused (of_code (Limit fault))), after_err held of_code (program_in text g a) _ (Limit fault) is, refl)
+code_refused g a text held error.OutOfMemory is = wanted (why_of_code g a text) held (status_of_code error.OutOfMemory) refl
 
 -- a table was read, and then the plan went on with its rows
 pub rows_on : {A : Type 0} (main : Vertex) (name : Bytes) (a b c : Held) (rows : Reactions) (next : Reactions → Asks) (result : Result (Vec ℕ A) Status)

@@ -38,7 +38,12 @@ use Rattle.lab_words.specs.Command.{
   trace_by,
   values_of,
 }
-use Rattle.lab_program.specs.Counts.{AreCounted, IsCountedOf, IsReactions}
+use Rattle.lab_program.specs.Counts.{IsCountedOf, IsReactions, IsCounted}
+
+-- If there is a command, its numbers are within their bounds.
+abbrev pub AreCounted : Option Command → Type 0
+AreCounted None = Unit {0}
+AreCounted (Some command) = IsCounted command
 
 either : {X : Type 0} (P : X → Type 0) (b : Bool) (x y : X) → P x → P y → P (if b then x else y)
 either P true x y h k = h

@@ -3,12 +3,12 @@ use Rattle.std.proofs.Common.{◌≡◌, ℕ, List, Option, None, Result, Ok, Er
 use Rattle.std.specs.Prelude.{Vec}
 use Rattle.syn_base.specs.Bytes.{Bytes}
 use Rattle.syn_base.specs.declared.limits.LimitFault.{LimitFault}
-use Rattle.schedule.specs.declared.decision.Schedule.{Schedule}
-use Rattle.actual_defs.specs.declared.fault.ActualError.{ActualError}
-use Rattle.actual_defs.specs.declared.fault.ActualError.TheVariants as error
-use Rattle.actual_durations.specs.Answers as durations
-use Rattle.command_status.specs.Status.{ending_of, status_of_durations}
-use Rattle.command_status.specs.declared.status.Status.{Status}
+use Rattle.self_timed.specs.declared.Schedule.{Schedule}
+use Rattle.top_plans.specs.declared.ActualError.{ActualError}
+use Rattle.top_plans.specs.declared.ActualError.TheVariants as error
+use Rattle.top_plans.specs.ActualAnswers as durations
+use Rattle.top_plans.specs.Status.{ending_of, status_of_durations}
+use Rattle.top_plans.specs.declared.Status.{Status}
 use Rattle.lab_words.specs.Command.{Form}
 use Rattle.lab_plans.specs.Asked.{Asked, IsFoundFor, Problem}
 use Rattle.lab_plans.specs.Answers.{answer, dates_by, form_text, limit, within}

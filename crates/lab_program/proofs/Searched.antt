@@ -2,11 +2,11 @@
 use Rattle.std.proofs.Common.{◌≡◌, Result, Ok, Err}
 use Rattle.std.specs.Prelude.{◌≢◌, IfOk, IsTrue}
 use Rattle.syn_base.specs.declared.memory.OutOfMemory.{OutOfMemory}
-use Rattle.durations.specs.Table.{entry_in}
-use Rattle.pressure_heuristic.specs.Adequation.{IsPressureRun}
-use Rattle.schedule.specs.declared.decision.Schedule.{Schedule}
-use Rattle.schedule.specs.Valid.{is_valid}
+use Rattle.self_timed.specs.Table.{entry_in}
+use Rattle.self_timed.specs.declared.Schedule.{Schedule}
+use Rattle.self_timed.specs.ScheduleValid.{is_valid}
 use Rattle.schedule_search.specs.Found.{IsNoLongerThanAlone, IsNoLongerThanRun, IsNoSlowerThanAlone, IsNoSlowerThanRun}
+use Rattle.top_plans.specs.Adequation.{IsPressureRun}
 use Rattle.lab_words.specs.Command.{for_length, for_period}
 use Rattle.lab_plans.specs.Asked.{IsFound, Problem}
 

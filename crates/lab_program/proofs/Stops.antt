@@ -3,21 +3,21 @@ use Rattle.std.proofs.Common.{◌≡◌, ◌∙◌, [], Result, Ok, Err, inl, in
 use Rattle.csv.specs.Reading.{default_config, records, strip_bom}
 use Rattle.syn_base.specs.Bytes.{Bytes}
 use Rattle.syn_base.specs.Rows.{Reactions}
-use Rattle.outside.specs.Shelf.{Held, file_limit}
-use Rattle.outside.specs.declared.file.File.{File}
-use Rattle.outside.specs.declared.file.File.TheVariants.{Algorithm, Architecture, Sensors}
-use Rattle.algo_text.specs.declared.definition.Defs.{Defs}
-use Rattle.algo_text.specs.Text.{definitions_of}
-use Rattle.elaboration.specs.Elaborated.{elaboration_of}
-use Rattle.algo_tree.specs.Tree.{Vertex}
-use Rattle.archi_defs.specs.Text.{Described, description_of}
-use Rattle.durations.specs.Table.{Table, durations_of}
-use Rattle.flat_laws.specs.FlatOf.{flat_of}
-use Rattle.sensor_table.specs.SensorTable.{rows_of}
-use Rattle.command_plan.specs.Plan.{give, refuse, read, after}
-use Rattle.command_plan.specs.Ending.{Ending, refused, no_memory}
-use Rattle.command_plan.specs.Run.{FailsToRead, Makes, SameFaults, gives, refuses, not_read, was_read}
-use Rattle.command_status.specs.Status.{Refusal, above, of_algorithm, of_architecture, of_sensors}
+use Rattle.algo_laws.specs.declared.Defs.{Defs}
+use Rattle.algo_laws.specs.Text.{definitions_of}
+use Rattle.algo_laws.specs.Tree.{Vertex}
+use Rattle.self_timed.specs.Text.{Described, description_of}
+use Rattle.self_timed.specs.Table.{Table, durations_of}
+use Rattle.top_plans.specs.Shelf.{Held, file_limit}
+use Rattle.top_plans.specs.declared.File.{File}
+use Rattle.top_plans.specs.declared.File.TheVariants.{Algorithm, Architecture, Sensors}
+use Rattle.top_plans.specs.Elaborated.{elaboration_of}
+use Rattle.top_plans.specs.FlatOf.{flat_of}
+use Rattle.top_plans.specs.SensorTable.{rows_of}
+use Rattle.top_plans.specs.Plan.{give, refuse, read, after}
+use Rattle.top_plans.specs.Ending.{Ending, refused, no_memory}
+use Rattle.top_plans.specs.Run.{FailsToRead, Makes, SameFaults, gives, refuses, not_read, was_read}
+use Rattle.top_plans.specs.Status.{Refusal, above, of_algorithm, of_architecture, of_sensors}
 use Rattle.top_plans.specs.Given.{Given, written}
 use Rattle.top_plans.specs.Plans.{Made, algorithm_plan, architecture_in, architecture_plan, described_in, read_file, table_plan}
 use Rattle.lab_plans.specs.Asked.{Asked}

@@ -1,5 +1,5 @@
 -- Which numbers words may give.
-use Rattle.std.specs.Prelude.{◌≤◌, ℕ, Option, Some, None}
+use Rattle.std.specs.Prelude.{◌≤◌, ℕ}
 use Rattle.lab_words.specs.Command.{Command, Subject, dates, report, schedule}
 
 -- 1 to 1,000 reactions are dated or counted
@@ -14,7 +14,3 @@ abbrev pub IsCounted : Command → Type 0
 IsCounted (schedule subject a h effort) = IsCountedOf subject
 IsCounted (dates form a h g n effort) = IsReactions n
 IsCounted _ = Unit {0}
-
-abbrev pub AreCounted : Option Command → Type 0
-AreCounted None = Unit {0}
-AreCounted (Some command) = IsCounted command

@@ -1,10 +1,10 @@
 -- What is made of a compilation.
 use Rattle.std.specs.Prelude.{◌≡◌, ◌⊎◌, Some, None, Result, Ok, Err}
 use Rattle.syn_base.specs.declared.limits.LimitFault.{LimitFault}
-use Rattle.schedule.specs.declared.decision.Schedule.{Schedule}
-use Rattle.executive_program.specs.declared.program.Program.{Program}
-use Rattle.command_status.specs.declared.status.Status.{Status}
-use Rattle.command_status.specs.declared.status.Status.TheVariants.{Limit, OutOfMemory}
+use Rattle.self_timed.specs.declared.Schedule.{Schedule}
+use Rattle.self_timed.specs.declared.Program.{Program}
+use Rattle.top_plans.specs.declared.Status.{Status}
+use Rattle.top_plans.specs.declared.Status.TheVariants.{Limit, OutOfMemory}
 use Rattle.compiler.specs.declared.stages.Compilation.{Compilation}
 use Rattle.lab_words.specs.Command.{Effort}
 use Rattle.lab_plans.specs.Asked.{Problem}

@@ -1,13 +1,13 @@
 -- What the commands answer, as texts.
 use Rattle.std.specs.Prelude.{◌≡◌, ◌⊎◌, ℕ, Result, Ok, Err, Vec}
 use Rattle.syn_base.specs.Bytes.{Bytes}
-use Rattle.outside.specs.Shelf.{Held}
-use Rattle.outside.specs.Sink.{Sunk}
-use Rattle.schedule.specs.declared.decision.Schedule.{Schedule}
-use Rattle.command_plan.specs.Ending.{Ending, refused, no_memory}
-use Rattle.command_plan.specs.Run.{Makes}
-use Rattle.command_status.specs.Status.{Refusal, ending_of}
-use Rattle.command_status.specs.declared.status.Status.{Status}
+use Rattle.self_timed.specs.declared.Schedule.{Schedule}
+use Rattle.top_plans.specs.Shelf.{Held}
+use Rattle.top_plans.specs.Sink.{Sunk}
+use Rattle.top_plans.specs.Ending.{Ending, refused, no_memory}
+use Rattle.top_plans.specs.Run.{Makes}
+use Rattle.top_plans.specs.Status.{Refusal, ending_of}
+use Rattle.top_plans.specs.declared.Status.{Status}
 use Rattle.lab_plans.specs.Asked.{Asked, IsFoundFor}
 use Rattle.lab_plans.specs.Answers.{answer}
 use Rattle.lab_plans.specs.Plans.{Asks}

@@ -1,11 +1,11 @@
 //! The commands, one a module, and which function makes the text of which.
 ghost use Rattle.std.specs.Prelude.{Some};
-ghost use Rattle.command_status.specs.Status.{ending_of};
+ghost use Rattle.top_plans.specs.Status.{ending_of};
+ghost use Rattle.top_plans.specs.Shelf.{Stays};
 ghost use Rattle.lab_plans.specs.Plans.{plan_for};
 ghost use Rattle.lab_plans.specs.Replies.{LeavesUnread};
 ghost use Rattle.lab_plans.specs.Run.{Ran, Writes};
 ghost use Rattle.lab_words.specs.View.{view_of};
-ghost use Rattle.outside.specs.Shelf.{Stays};
 ghost use Rattle.lab_program.specs.Counts.{IsCounted};
 ghost use Rattle.lab_program.specs.Texts.{Carries, Written};
 
@@ -27,10 +27,9 @@ use crate::commands::plot::plot_text;
 use crate::commands::scheduled::schedule_text;
 use crate::commands::table::table_text;
 use crate::commands::why::why_text;
-use command_status::Status;
 use lab_words::Command;
-use outside::{Failed, Shelf, Sink, write_whole};
 use std::alloc::Global;
+use top_plans::{Failed, Shelf, Sink, Status, write_whole};
 
 /// Carries out a command, and returns how it ended.
 pub fn carry_out<S: Shelf, K: Sink>(

@@ -1,24 +1,21 @@
 //! What the commands make of a compilation: a schedule that is searched, and its program.
 ghost use Rattle.std.specs.Prelude.{◌≡◌, IfOk, IsTrue};
 ghost use Rattle.compiler.specs.Compiles.{HasDurations};
-ghost use Rattle.durations.specs.Table.{entry_in};
-ghost use Rattle.schedule.specs.Valid.{is_valid};
+ghost use Rattle.self_timed.specs.Table.{entry_in};
+ghost use Rattle.self_timed.specs.ScheduleValid.{is_valid};
 ghost use Rattle.lab_plans.specs.Asked.{IsFound};
 ghost use Rattle.lab_words.specs.Command.{Effort as Tried, for_length, for_period};
 ghost use Rattle.lab_words.specs.View.{effort_view, goal_view};
 ghost use Rattle.plan_costs.specs.declared.site.Goal.TheVariants.{Length, Period};
 ghost use Rattle.lab_program.specs.Found.{Builds, problem_of};
 
-use command_status::Status;
 use compiler::Compilation;
-use durations::durations_fit;
-use executive_program::Program;
 use lab_words::{Effort, Goal};
-use schedule::Schedule;
 use schedule_search::{Goal as Sought, search};
-use sequence_build::{BuildError, build};
+use self_timed::{Program, Schedule, durations_fit};
 use std::alloc::Global;
 use syn_base::OutOfMemory;
+use top_plans::{BuildError, Status, build};
 
 /// A schedule of what was compiled, by a search of this effort.
 pub fn find_schedule(

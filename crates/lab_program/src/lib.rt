@@ -4,23 +4,22 @@
 
 ghost use Rattle.std.specs.Prelude.{◌≡◌, map};
 ghost use Rattle.std.specs.String.{string_bytes};
-ghost use Rattle.command_status.specs.Lines.{line_of, Said};
-ghost use Rattle.command_status.specs.Status.{ending_of};
+ghost use Rattle.top_plans.specs.Lines.{line_of, Said};
+ghost use Rattle.top_plans.specs.Status.{ending_of};
+ghost use Rattle.top_plans.specs.Shelf.{Stays};
 ghost use Rattle.lab_words.specs.Command.{command_of};
 ghost use Rattle.lab_plans.specs.Replies.{LeavesUnread, Replies};
-ghost use Rattle.outside.specs.Shelf.{Stays};
 
 use crate::commands::carry_out;
-use command_status::say;
 use lab_plans::commands_reply;
 use lab_words::command_of;
-use outside::{Shelf, Sink};
 use std::alloc::Global;
+use top_plans::{Shelf, Sink, say};
 
 mod commands;
 mod found;
 
-pub use command_status::Status;
+pub use top_plans::Status;
 
 /// The top call: the command of the words, from the files of the shelf to the output, with its line on `err`; what
 /// happens there changes no status. Nothing is read for words that are no command. It always returns.

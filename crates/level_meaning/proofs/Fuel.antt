@@ -4,8 +4,9 @@ use Rattle.std.proofs.lemmas.Bool.{false≢true}
 use Rattle.level_meaning.specs.declared.source.Source.{Source}
 use Rattle.level_meaning.specs.declared.source.Source.TheVariants.{Own, Of}
 use Rattle.level_meaning.specs.declared.source.Guard.{Guard}
-use Rattle.level_meaning.specs.Level.{Vector, Values, State, Node, vector_at, source_value, all_hold, node_outputs, with_node, out, level_value, below}
+use Rattle.level_meaning.specs.Level.{State, Node, source_value, all_hold, node_outputs, with_node, out, level_value, below}
 use Rattle.level_meaning.specs.Order.{source_ready, sources_ready, guards_ready, is_ready, settled, IsAcyclic, FuelIsEnough}
+use Rattle.syn_base.specs.Vectors.{Vector, Values, vector_at}
 
 -- both looks agree at each source that is ready
 abbrev pub Agree : (ℕ → Bool) → (Source → Vector) → (Source → Vector) → Type 0

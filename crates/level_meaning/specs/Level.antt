@@ -22,7 +22,6 @@ use Rattle.std.specs.Prelude.{
   ◌==◌,
   nat_lt,
   if◌then◌else◌,
-  replicate,
   slice_index_or,
   Option,
   Some,
@@ -40,14 +39,8 @@ use Rattle.level_meaning.specs.declared.frontier.Feed.{Feed}
 use Rattle.level_meaning.specs.declared.frontier.Feed.TheVariants.{Fork, Diffuse, Iterate}
 use Rattle.level_meaning.specs.declared.frontier.Give.{Give}
 use Rattle.level_meaning.specs.declared.frontier.Give.TheVariants.{Last, Join}
-
--- A value of the algorithm.
-abbrev pub Vector : Type 0
-Vector = List ℤ
-
--- The values at several ports, in order.
-abbrev pub Values : Type 0
-Values = List (List ℤ)
+use Rattle.syn_base.specs.Vectors.{Vector, Values, vector_at, zeros}
+use Rattle.syn_base.specs.Numbers.{numbers_below}
 
 -- The parts of the units around a vertex and its own, outer first.
 abbrev pub Path : Type 0
@@ -73,22 +66,9 @@ same_part (Port x) (Named y) = false
 same_part (Port x) (Numbered n) = false
 same_part (Port x) (Port y) = bytes_eq x y
 
--- The vector of number k, empty past the end.
-abbrev pub vector_at : Values → ℕ → Vector
-vector_at vs k = slice_index_or vs k []
-
 -- The element of number j, 0 outside the vector.
 abbrev pub element_at : Vector → ℕ → ℤ
 element_at v j = slice_index_or v j (pos 0)
-
--- A vector of this length, all zeros.
-abbrev pub zeros : ℕ → Vector
-zeros n = replicate n (pos 0)
-
--- The numbers below n, in order.
-abbrev pub numbers_below : ℕ → List ℕ
-numbers_below zero = []
-numbers_below (suc n) = numbers_below n ++ n ∷ []
 
 -- What a node does in a reaction, from this row of the sensors, the kept values below it and its inputs: its outputs,
 -- and what is kept next. Beside these, what its delays keep at the start.
@@ -245,11 +225,6 @@ repeat_initial n body [] = []
 repeat_initial n body (Named x ∷ q) = []
 repeat_initial n body (Port x ∷ q) = []
 repeat_initial n body (Numbered i ∷ q) = if nat_lt i n then body.initial q else []
-
--- The parts of a vector, of these lengths.
-abbrev pub parts_of : List ℕ → Vector → Values
-parts_of [] v = []
-parts_of (len ∷ lens) v = take len v ∷ parts_of lens (drop len v)
 
 -- Several vectors, one after another.
 abbrev pub all_joined : Values → Vector

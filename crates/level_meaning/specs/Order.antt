@@ -20,7 +20,8 @@ use Rattle.std.specs.Prelude.{
 use Rattle.level_meaning.specs.declared.source.Source.{Source}
 use Rattle.level_meaning.specs.declared.source.Source.TheVariants.{Own, Of}
 use Rattle.level_meaning.specs.declared.source.Guard.{Guard}
-use Rattle.level_meaning.specs.Level.{Node, Values, State, with_node, node_outputs, below, source_value, out}
+use Rattle.level_meaning.specs.Level.{Node, State, with_node, node_outputs, below, source_value, out}
+use Rattle.syn_base.specs.Vectors.{Values}
 
 -- The node of which a source is an output is done.
 abbrev pub source_ready : (ℕ → Bool) → Source → Bool

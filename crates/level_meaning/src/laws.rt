@@ -1,8 +1,9 @@
 //! Laws of one level, each the contract of a function that does nothing.
 ghost use Rattle.std.specs.Prelude.{◌≡◌, ◌↔◌, ℕ, ◌<◌, List, length};
-ghost use Rattle.level_meaning.specs.Level.{Values, State, Node, out};
+ghost use Rattle.level_meaning.specs.Level.{State, Node, out};
 ghost use Rattle.level_meaning.specs.Order.{IsAcyclic, IsInOrder, FuelIsEnough, MeetsLevel};
 ghost use Rattle.level_meaning.specs.Cycles.{AllInRange, ReachesNoneItself};
+ghost use Rattle.syn_base.specs.Vectors.{Values};
 
 /// In a level without cycles more fuel changes no value, from as much fuel on as the level has nodes.
 pub fn enough_fuel()

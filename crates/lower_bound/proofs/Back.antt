@@ -4,12 +4,14 @@ use Rattle.std.specs.Prelude.{IsTrue, slice_get, sum_by}
 use Rattle.std.specs.List.{list_all, list_any, range_with_len}
 use Rattle.std.proofs.lemmas.Bool.{false≢true, and_parts, and_from, or_cases, or_left, or_right, eqb-true, eq-eqb, cases_lt}
 use Rattle.std.proofs.lemmas.List.Sums.{sum_by-cons}
-use Rattle.flat_graph.specs.declared.vertex.Vertex.{Vertex}
-use Rattle.flat_graph.specs.Graph.{with_vertex}
-use Rattle.flat_graph.specs.Order.{depends_on, is_acyclic, is_done}
-use Rattle.lower_bound.specs.Bound.{all_operations, chain_to, chain_within, end_after, greatest, least, longest_chain, needs}
+use Rattle.self_timed.specs.declared.Vertex.{Vertex}
+use Rattle.self_timed.specs.Graph.{with_vertex}
+use Rattle.self_timed.specs.FlatOrder.{depends_on, is_acyclic, is_done}
+use Rattle.lower_bound.specs.Bound.{all_operations, chain_to, chain_within, end_after, least, longest_chain}
 use Rattle.lower_bound.specs.Chain.{back_within, chain_back, first_at, goes_back, goes_on, latest_of, ChainLastsLongest}
 use Rattle.lower_bound.proofs.Done.{all_done, done_within, same_where}
+use Rattle.comm_routing.specs.Candidates.{needs_of}
+use Rattle.syn_base.specs.Numbers.{greatest}
 
 -- the first with a date, where there is one
 pub record Found (dates : ℕ → ℕ) (date : ℕ) (vs : List ℕ) : Type 0 where
@@ -68,7 +70,7 @@ holds_among test u (v ∷ vs) all h =
 
 module _ (operators : ℕ) (ticks : ℕ → ℕ → Option ℕ) (vertices : List Vertex) where
   -- what is done after a round needs what was done before it
-  pub needs_done : (rounds v : ℕ) → is_done vertices (suc rounds) v ≡ true → list_all (is_done vertices rounds) (needs operators ticks vertices v) ≡ true
+  pub needs_done : (rounds v : ℕ) → is_done vertices (suc rounds) v ≡ true → list_all (is_done vertices rounds) (needs_of vertices v) ≡ true
   needs_done rounds v h = by (slice_get vertices v) h
     where
       by : (o : Option Vertex) → with_vertex o false (λ x. list_all (is_done vertices rounds) (depends_on x)) ≡ true → list_all (is_done vertices rounds) (with_vertex o [] depends_on) ≡ true
@@ -76,7 +78,7 @@ module _ (operators : ℕ) (ticks : ℕ → ℕ → Option ℕ) (vertices : List
       by (Some x) e = e
 
   end_same : (f g : ℕ → ℕ) (rounds v : ℕ) → ((u : ℕ) → is_done vertices rounds u ≡ true → f u ≡ g u) → is_done vertices (suc rounds) v ≡ true → end_after operators ticks vertices f v ≡ end_after operators ticks vertices g v
-  end_same f g rounds v same h = let e = same_where f g (is_done vertices rounds) same (needs operators ticks vertices v) (needs_done rounds v h) in omega arith
+  end_same f g rounds v same h = let e = same_where f g (is_done vertices rounds) same (needs_of vertices v) (needs_done rounds v h) in omega arith
 
   -- once enough operations are followed, one more changes nothing
   no_longer : (k m v : ℕ) → k ≤ m → is_done vertices k v ≡ true → chain_within operators ticks vertices m v ≡ chain_within operators ticks vertices (suc m) v
@@ -126,7 +128,7 @@ module _ (operators : ℕ) (ticks : ℕ → ℕ → Option ℕ) (vertices : List
     from_lasts : (n v : ℕ) → is_done vertices n v ≡ true → LastsFrom n v
     from_lasts zero v h = absurd (false≢true h)
     from_lasts (suc n) v h =
-        let us = needs operators ticks vertices v in
+        let us = needs_of vertices v in
         let rest = back_within operators ticks vertices n (latest_of (chain_to operators ticks vertices) us) in
         let t = over_lasts n us (needs_done n v h) (λ u e. from_lasts n u e) in
         let c = no_longer (length vertices) (length vertices) v (omega arith) (all_done vertices acyclic v (done_within vertices (suc n) v h)) in
@@ -134,8 +136,8 @@ module _ (operators : ℕ) (ticks : ℕ → ℕ → Option ℕ) (vertices : List
         let z = t.sum in
         record { sum = omega arith; back = and_from (goes_on us rest) (goes_back operators ticks vertices rest) t.on t.back }
 
-    pub all_lasts : LastsOver (length vertices) (all_operations operators ticks (length vertices))
-    all_lasts = over_lasts (length vertices) (all_operations operators ticks (length vertices)) acyclic (λ u e. from_lasts (length vertices) u e)
+    pub all_lasts : LastsOver (length vertices) (all_operations (length vertices))
+    all_lasts = over_lasts (length vertices) (all_operations (length vertices)) acyclic (λ u e. from_lasts (length vertices) u e)
 
 pub chain_lasts_longest : ChainLastsLongest
 chain_lasts_longest operators ticks vertices acyclic = let t = all_lasts operators ticks vertices acyclic in (t.sum, t.back)

@@ -6,16 +6,17 @@ use Rattle.std.specs.Cmp.Derive.{both_true}
 use Rattle.std.proofs.Math.Nat.{div-lt_iff_lt-mul}
 use Rattle.std.proofs.lemmas.Bool.{false≢true, and_parts, or_cases, lt-ltb, ltb-false, eqb-true, eq-eqb, cases_lt, or_left, or_right}
 use Rattle.std.proofs.lemmas.List.Sums.{length-filter, sum_by-cons}
-use Rattle.flat_graph.specs.Graph.{Graph}
-use Rattle.archi_graph.specs.Archi.{Architecture}
-use Rattle.schedule.specs.declared.decision.Schedule.{Schedule}
-use Rattle.schedule.specs.Acts.{Act, acts, end_of, runs, latest, length_of}
-use Rattle.schedule.specs.Valid.{are_right, are_placed, is_valid}
-use Rattle.lower_bound.specs.Bound.{greatest, divided_up, least, carried_to, takes_time_on, stands_only, work_only, may_work, shared_work}
+use Rattle.self_timed.specs.Graph.{Graph}
+use Rattle.self_timed.specs.Archi.{Architecture}
+use Rattle.self_timed.specs.declared.Schedule.{Schedule}
+use Rattle.self_timed.specs.Acts.{Act, acts, end_of, runs, latest, length_of}
+use Rattle.self_timed.specs.ScheduleValid.{are_right, are_placed, is_valid}
+use Rattle.lower_bound.specs.Bound.{divided_up, least, carried_to, takes_time_on, stands_only, work_only, may_work, shared_work}
 use Rattle.lower_bound.specs.Laws.{NoValidScheduleIsShorter}
 use Rattle.lower_bound.proofs.Parts.{Each, one_of, both_of, least_low}
 use Rattle.lower_bound.proofs.Late.{IsLate, all_late}
 use Rattle.lower_bound.proofs.OperatorWork.{total, work_low}
+use Rattle.syn_base.specs.Numbers.{greatest}
 
 ends_low : (xs : List Act) → Each (λ y. end_of y ≤ latest xs) xs
 ends_low [] = tt

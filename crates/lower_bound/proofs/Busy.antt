@@ -3,21 +3,22 @@ use Rattle.std.proofs.Common.{◌≡◌, ℕ, ◌+◌, ◌-◌, ◌≤◌, Bool,
 use Rattle.std.specs.Prelude.{filter, sum_by}
 use Rattle.std.proofs.lemmas.Bool.{false≢true, and_parts, eqb-true}
 use Rattle.std.proofs.lemmas.List.Sums.{sum_by-cons}
-use Rattle.flat_graph.specs.Graph.{Graph}
-use Rattle.archi_graph.specs.Archi.{Architecture}
-use Rattle.schedule.specs.Acts.{Act, carry, run, acts, start_of, end_of, is_on, is_over, latest}
-use Rattle.schedule.specs.Valid.{have_ended, is_right, are_right, are_placed}
 use Rattle.lower_bound.proofs.Parts.{right_run, right_carry}
 use Rattle.lower_bound.proofs.OperatorWork.{ended_more}
-use Rattle.lower_bound.specs.Numbers.{busy, lasting}
+use Rattle.lower_bound.specs.Numbers.{busy}
 use Rattle.lower_bound.specs.LoadLaws.{NoLineIsOverfull}
+use Rattle.self_timed.specs.Graph.{Graph}
+use Rattle.self_timed.specs.Archi.{Architecture}
+use Rattle.self_timed.specs.Acts.{Act, carry, run, acts, start_of, end_of, is_on, is_over, latest}
+use Rattle.self_timed.specs.ScheduleValid.{have_ended, is_right, are_right, are_placed}
+use Rattle.self_timed.specs.Entries.{stated}
 
 -- one act more
-pub busy-cons : (test : Act → Bool) (x : Act) (xs : List Act) → busy test (x ∷ xs) ≡ cond (test x) (lasting x) 0 + busy test xs
+pub busy-cons : (test : Act → Bool) (x : Act) (xs : List Act) → busy test (x ∷ xs) ≡ cond (test x) (stated x) 0 + busy test xs
 busy-cons test x xs = by (test x)
   where
-    by : (b : Bool) → sum_by lasting (cond b (x ∷ filter test xs) (filter test xs)) ≡ cond b (lasting x) 0 + sum_by lasting (filter test xs)
-    by true = sum_by-cons lasting x (filter test xs)
+    by : (b : Bool) → sum_by stated (cond b (x ∷ filter test xs) (filter test xs)) ≡ cond b (stated x) 0 + sum_by stated (filter test xs)
+    by true = sum_by-cons stated x (filter test xs)
     by false = omega arith
 
 module _ (g : Graph) (a : Architecture) (ticks : ℕ → ℕ → Option ℕ) where
@@ -34,11 +35,11 @@ module _ (g : Graph) (a : Architecture) (ticks : ℕ → ℕ → Option ℕ) whe
         let l = forward before x both.0 in
         by (test x) refl e l (free before x both.0) (λ m k. line_low (before ++ x ∷ []) xs m k both.1)
       where
-        by : (b : Bool) → test x ≡ b → busy test (x ∷ xs) ≡ cond b (lasting x) 0 + busy test xs → start_of x ≤ end_of x → (test x ≡ true → have_ended test before (start_of x) ≡ true)
+        by : (b : Bool) → test x ≡ b → busy test (x ∷ xs) ≡ cond b (stated x) 0 + busy test xs → start_of x ≤ end_of x → (test x ≡ true → have_ended test before (start_of x) ≡ true)
             → ((m : ℕ) → ((date : ℕ) → have_ended test (before ++ x ∷ []) date ≡ true → m ≤ date) → m + busy test xs ≤ max m (latest xs)) → n + busy test (x ∷ xs) ≤ max n (max (end_of x) (latest xs))
         by true i e l there later =
             let p = passed (start_of x) (there i) in
-            let r = later (n + lasting x) (λ date k. (let d = (ended_more test before x date k).1 i in omega arith)) in
+            let r = later (n + stated x) (λ date k. (let d = (ended_more test before x date k).1 i in omega arith)) in
             omega arith
         by false i e l there later =
             let r = later n (λ date k. passed date (ended_more test before x date k).0) in

@@ -3,11 +3,11 @@ use Rattle.std.proofs.Common.{◌≡◌, ℕ, zero, suc, ◌<◌, Bool, true, fa
 use Rattle.std.specs.Prelude.{slice_get}
 use Rattle.std.specs.List.{list_all}
 use Rattle.std.proofs.lemmas.Bool.{false≢true, and_parts}
-use Rattle.flat_graph.specs.declared.vertex.Vertex.{Vertex}
-use Rattle.flat_graph.specs.Graph.{with_vertex}
-use Rattle.flat_graph.specs.Order.{depends_on, is_acyclic, is_done}
-use Rattle.lower_bound.specs.Bound.{greatest}
+use Rattle.self_timed.specs.declared.Vertex.{Vertex}
+use Rattle.self_timed.specs.Graph.{with_vertex}
+use Rattle.self_timed.specs.FlatOrder.{depends_on, is_acyclic, is_done}
 use Rattle.lower_bound.proofs.Below.{all_in_range}
+use Rattle.syn_base.specs.Numbers.{greatest}
 
 -- of dates that are the same the greatest is the same
 pub same_where : (f g : ℕ → ℕ) (test : ℕ → Bool) → ((v : ℕ) → test v ≡ true → f v ≡ g v) → (vs : List ℕ) → list_all test vs ≡ true → greatest (map f vs) ≡ greatest (map g vs)

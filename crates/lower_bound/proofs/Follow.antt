@@ -6,16 +6,18 @@ use Rattle.std.specs.Option.{option_or}
 use Rattle.std.proofs.lemmas.Bool.{false≢true, and_parts, and_from, eq-eqb, ne_eqb, lt-ltb, ltb-true}
 use Rattle.std.proofs.lemmas.List.{append_assoc, append-nil}
 use Rattle.std.proofs.lemmas.Option.{slice_get_read}
-use Rattle.flat_graph.specs.declared.vertex.Vertex.{Vertex}
-use Rattle.flat_graph.specs.Graph.{with_vertex}
-use Rattle.flat_graph.specs.Order.{depends_on, get_half, is_acyclic, is_done}
+use Rattle.self_timed.specs.declared.Vertex.{Vertex}
+use Rattle.self_timed.specs.Graph.{with_vertex}
+use Rattle.self_timed.specs.FlatOrder.{depends_on, get_half, is_acyclic, is_done}
 use Rattle.lower_bound.specs.declared.links.Link.{Link}
-use Rattle.lower_bound.specs.Bound.{all_operations, chain_to, greatest, least, needs}
+use Rattle.lower_bound.specs.Bound.{all_operations, chain_to, least}
 use Rattle.lower_bound.specs.Chain.{back_within, first_at, latest_of, link_of}
 use Rattle.lower_bound.specs.Turns.{at}
 use Rattle.lower_bound.proofs.Back.{back_none, needs_done}
 use Rattle.lower_bound.proofs.Done.{all_done, done_within, same_where}
 use Rattle.lower_bound.proofs.Whole.{list_is}
+use Rattle.comm_routing.specs.Candidates.{needs_of}
+use Rattle.syn_base.specs.Numbers.{greatest}
 
 first_append : (dates : ℕ → ℕ) (date : ℕ) (us vs : List ℕ) → first_at dates date (us ++ vs) ≡ option_or (first_at dates date us) (first_at dates date vs)
 first_append dates date [] vs = refl
@@ -93,15 +95,15 @@ module _ (operators : ℕ) (ticks : ℕ → ℕ → Option ℕ) (vertices : List
   abbrev is_within : ℕ → Bool
   is_within v = nat_lt v (length vertices)
 
-  all_within : list_all is_within (all_operations operators ticks (length vertices)) ≡ true
-  all_within = all_imply (is_done vertices (length vertices)) is_within (λ u h. lt-ltb u (length vertices) (done_within vertices (length vertices) u h)) (all_operations operators ticks (length vertices)) acyclic
+  all_within : list_all is_within (all_operations (length vertices)) ≡ true
+  all_within = all_imply (is_done vertices (length vertices)) is_within (λ u h. lt-ltb u (length vertices) (done_within vertices (length vertices) u h)) (all_operations (length vertices)) acyclic
 
-  needs_within : (v : ℕ) → v < length vertices → list_all is_within (needs operators ticks vertices v) ≡ true
+  needs_within : (v : ℕ) → v < length vertices → list_all is_within (needs_of vertices v) ≡ true
   needs_within v l = by (length vertices) (all_done vertices acyclic v l)
     where
-      by : (n : ℕ) → is_done vertices n v ≡ true → list_all is_within (needs operators ticks vertices v) ≡ true
+      by : (n : ℕ) → is_done vertices n v ≡ true → list_all is_within (needs_of vertices v) ≡ true
       by zero h = absurd (false≢true h)
-      by (suc n) h = all_imply (is_done vertices n) is_within (λ u k. lt-ltb u (length vertices) (done_within vertices n u k)) (needs operators ticks vertices v) (needs_done operators ticks vertices n v h)
+      by (suc n) h = all_imply (is_done vertices n) is_within (λ u k. lt-ltb u (length vertices) (done_within vertices n u k)) (needs_of vertices v) (needs_done operators ticks vertices n v h)
 
   latest_within : (dates : ℕ → ℕ) (us : List ℕ) → list_all is_within us ≡ true → Within (latest_of dates us)
   latest_within dates us h = by (latest_of dates us) (first_passes is_within dates (greatest (map dates us)) us h)
@@ -114,15 +116,15 @@ module _ (operators : ℕ) (ticks : ℕ → ℕ → Option ℕ) (vertices : List
     same_where_within : (us : List ℕ) → list_all is_within us ≡ true → latest_of dates us ≡ latest_of (chain_to operators ticks vertices) us
     same_where_within us h = same_latest dates (chain_to operators ticks vertices) is_within (λ v k. chains v (ltb-true v (length vertices) k)) us h
 
-    pub last_is : (n : ℕ) → n ≡ length vertices → latest_of dates (range_with_len 0 n) ≡ latest_of (chain_to operators ticks vertices) (all_operations operators ticks (length vertices))
-    last_is n e = ap (λ (k : ℕ). latest_of dates (range_with_len 0 k)) e ∙ same_where_within (all_operations operators ticks (length vertices)) all_within
+    pub last_is : (n : ℕ) → n ≡ length vertices → latest_of dates (range_with_len 0 n) ≡ latest_of (chain_to operators ticks vertices) (all_operations (length vertices))
+    last_is n e = ap (λ (k : ℕ). latest_of dates (range_with_len 0 k)) e ∙ same_where_within (all_operations (length vertices)) all_within
 
     pub last_within : (n : ℕ) → n ≡ length vertices → Within (latest_of dates (range_with_len 0 n))
-    last_within n e = subst (λ (k : ℕ). Within (latest_of dates (range_with_len 0 k))) (sym e) (latest_within dates (all_operations operators ticks (length vertices)) all_within)
+    last_within n e = subst (λ (k : ℕ). Within (latest_of dates (range_with_len 0 k))) (sym e) (latest_within dates (all_operations (length vertices)) all_within)
 
-    next_is : (v : ℕ) (x : Vertex) → v < length vertices → x ≡ slice_index_or vertices v x → latest_of dates (depends_on x) ≡ latest_of (chain_to operators ticks vertices) (needs operators ticks vertices v)
+    next_is : (v : ℕ) (x : Vertex) → v < length vertices → x ≡ slice_index_or vertices v x → latest_of dates (depends_on x) ≡ latest_of (chain_to operators ticks vertices) (needs_of vertices v)
     next_is v x l o =
-        ap (λ (y : Option Vertex). latest_of dates (with_vertex y [] depends_on)) (sym (slice_get_read vertices (length vertices) v x refl l o)) ∙ same_where_within (needs operators ticks vertices v) (needs_within v l)
+        ap (λ (y : Option Vertex). latest_of dates (with_vertex y [] depends_on)) (sym (slice_get_read vertices (length vertices) v x refl l o)) ∙ same_where_within (needs_of vertices v) (needs_within v l)
 
     abbrev pub on_way : ℕ → Option ℕ → List Link
     on_way i next = map (link_of operators ticks vertices) (back_within operators ticks vertices (length vertices - i) next)
@@ -140,7 +142,7 @@ module _ (operators : ℕ) (ticks : ℕ → ℕ → Option ℕ) (vertices : List
 
     pub next_within : (op : ℕ) (x : Vertex) (next : Option ℕ) → op < length vertices → x ≡ slice_index_or vertices op x → next ≡ latest_of dates (depends_on x) → Within next
     next_within op x next l r is =
-        subst Within (sym (is ∙ next_is op x l r)) (latest_within (chain_to operators ticks vertices) (needs operators ticks vertices op) (needs_within op l))
+        subst Within (sym (is ∙ next_is op x l r)) (latest_within (chain_to operators ticks vertices) (needs_of vertices op) (needs_within op l))
 
     -- the way is at its end
     pub way_none : (links whole : List Link) (i : ℕ) → links ++ on_way i None ≡ whole → links ≡ whole

@@ -4,23 +4,24 @@ use Rattle.std.specs.Prelude.{is_some, nat_le, slice_get, unwrap_or}
 use Rattle.std.specs.List.{list_all, list_any, range_with_len}
 use Rattle.std.proofs.lemmas.Bool.{false≢true, and_parts, or_cases, leb-true, eqb-true}
 use Rattle.std.proofs.lemmas.Option.{same_Some}
-use Rattle.flat_graph.specs.declared.vertex.Kind.{Kind}
-use Rattle.flat_graph.specs.declared.vertex.Kind.TheVariants.{Set}
-use Rattle.flat_graph.specs.declared.vertex.Source.{Source}
-use Rattle.flat_graph.specs.declared.vertex.Vertex.{Vertex}
-use Rattle.flat_graph.specs.Graph.{Graph, len_of, with_vertex}
-use Rattle.flat_graph.specs.Order.{get_half}
-use Rattle.archi_graph.specs.declared.medium.Medium.{Medium}
-use Rattle.archi_graph.specs.Archi.{Architecture, stands_at}
-use Rattle.durations.specs.Table.{least_of, lesser}
-use Rattle.schedule.specs.declared.decision.Decision.{Decision}
-use Rattle.schedule.specs.declared.decision.Transfer.{Transfer}
-use Rattle.schedule.specs.declared.decision.Schedule.{Schedule}
-use Rattle.schedule.specs.Acts.{Act, carry, run, acts, end_of, is_on, is_over, runs, Copy, copy, same_copy, outputs_from, outputs_of, sources_of, made_by, latest, length_of}
-use Rattle.schedule.specs.Valid.{have_ended, is_carried, follows_get, is_held, is_there, is_transfer, is_right, are_right, are_placed}
-use Rattle.schedule.proofs.Copies.{copy_is, made_by_run}
-use Rattle.lower_bound.specs.Bound.{arrival, brought_in, carried_within, end_on, greatest, later_by, least_transfer, start_on}
+use Rattle.self_timed.specs.declared.Kind.{Kind}
+use Rattle.self_timed.specs.declared.Kind.TheVariants.{Set}
+use Rattle.self_timed.specs.declared.Source.{Source}
+use Rattle.self_timed.specs.declared.Vertex.{Vertex}
+use Rattle.self_timed.specs.Graph.{Graph, len_of, with_vertex}
+use Rattle.self_timed.specs.FlatOrder.{get_half}
+use Rattle.self_timed.specs.declared.Medium.{Medium}
+use Rattle.self_timed.specs.Archi.{Architecture, stands_at}
+use Rattle.self_timed.specs.Table.{least_of}
+use Rattle.self_timed.specs.declared.Decision.{Decision}
+use Rattle.self_timed.specs.declared.Transfer.{Transfer}
+use Rattle.self_timed.specs.declared.Schedule.{Schedule}
+use Rattle.self_timed.specs.Acts.{Act, carry, run, acts, end_of, is_on, is_over, runs, Copy, copy, same_copy, outputs_from, outputs_of, sources_of, made_by, latest, length_of}
+use Rattle.self_timed.specs.ScheduleValid.{have_ended, is_carried, follows_get, is_held, is_there, is_transfer, is_right, are_right, are_placed}
+use Rattle.self_timed.proofs.Copies.{copy_is, made_by_run}
+use Rattle.lower_bound.specs.Bound.{arrival, brought_in, carried_within, end_on, later_by, least_transfer, start_on}
 use Rattle.lower_bound.proofs.Parts.{Each, one_of, both_of, all_more, ended, RightRun, right_run, right_carry, least_low}
+use Rattle.syn_base.specs.Numbers.{greatest, lesser}
 
 -- no transfer to an operator takes less time than the least
 transfer_low : (media : List Medium) (k o n : ℕ) (m : Medium) → slice_get media k ≡ Some m → stands_at m o ≡ true → least_transfer media o n ≤ m.fixed + n * m.per

@@ -4,9 +4,10 @@ use Rattle.std.specs.Prelude.{All, IfSome, is_some, slice_index_or, unwrap_or, n
 use Rattle.std.specs.List.{list_any, range_with_len}
 use Rattle.std.proofs.lemmas.Bool.{false≢true, cases_lt}
 use Rattle.std.proofs.lemmas.List.{get_or_past}
-use Rattle.durations.specs.Table.{Table, IsRow, entry_in, least_of, lesser, row_in}
-use Rattle.durations.proofs.Least.{least_bounded}
+use Rattle.self_timed.specs.Table.{Table, IsRow, entry_in, least_of, row_in}
+use Rattle.self_timed.proofs.Least.{least_bounded}
 use Rattle.lower_bound.specs.Bound.{least}
+use Rattle.syn_base.specs.Numbers.{lesser}
 
 least_entry : (f : ℕ → Option ℕ) (a m : ℕ) (xs : List (Option ℕ)) → length xs ≤ m → ((i : ℕ) → f (a + i) ≡ slice_index_or xs i None) → least_of (map f (range_with_len a m)) ≡ least_of xs
 least_entry f a zero [] l h = refl

@@ -4,8 +4,9 @@ use Rattle.std.specs.Prelude.{IfSome}
 use Rattle.std.specs.List.{range_with_len}
 use Rattle.std.proofs.Math.Seq.{drop-cons}
 use Rattle.std.proofs.lemmas.List.{drop_all}
-use Rattle.durations.specs.Table.{least_of, lesser}
+use Rattle.self_timed.specs.Table.{least_of}
 use Rattle.lower_bound.proofs.Sums.{one_more}
+use Rattle.syn_base.specs.Numbers.{lesser}
 
 pub lesser_none : (x : Option ℕ) → lesser x None ≡ x
 lesser_none None = refl

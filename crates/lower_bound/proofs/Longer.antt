@@ -3,16 +3,17 @@ use Rattle.std.proofs.Common.{◌≡◌, ℕ, zero, suc, ◌+◌, ◌<◌, ◌�
 use Rattle.std.specs.Prelude.{is_some, slice_get, unwrap_or}
 use Rattle.std.specs.List.{list_any, range_with_len}
 use Rattle.std.proofs.lemmas.Bool.{false≢true}
-use Rattle.flat_graph.specs.declared.vertex.Source.{Source}
-use Rattle.flat_graph.specs.declared.vertex.Vertex.{Vertex}
-use Rattle.flat_graph.specs.Graph.{len_of, with_vertex}
-use Rattle.flat_graph.specs.Order.{get_half}
-use Rattle.archi_graph.specs.declared.medium.Medium.{Medium}
-use Rattle.durations.specs.Table.{least_of, lesser}
-use Rattle.schedule.specs.Acts.{sources_of}
-use Rattle.lower_bound.specs.Bound.{arrival, carried_within, chain_within, end_on, first_end, greatest, later_by, least_transfer, start_on}
+use Rattle.self_timed.specs.declared.Source.{Source}
+use Rattle.self_timed.specs.declared.Vertex.{Vertex}
+use Rattle.self_timed.specs.Graph.{len_of, with_vertex}
+use Rattle.self_timed.specs.FlatOrder.{get_half}
+use Rattle.self_timed.specs.declared.Medium.{Medium}
+use Rattle.self_timed.specs.Table.{least_of}
+use Rattle.self_timed.specs.Acts.{sources_of}
+use Rattle.lower_bound.specs.Bound.{arrival, carried_within, chain_within, end_on, first_end, later_by, least_transfer, start_on}
 use Rattle.lower_bound.specs.Laws.{TransfersOnlyLengthen}
 use Rattle.lower_bound.proofs.Plain.{plain_chain}
+use Rattle.syn_base.specs.Numbers.{greatest, lesser}
 
 -- both are there or neither, and the first is no greater
 abbrev IsBelow : Option ℕ → Option ℕ → Type 0

@@ -1,35 +1,35 @@
 -- No line is busy for so long that a thousand times as many ticks were too many.
 use Rattle.std.proofs.Common.{◌≡◌, ℕ, zero, suc, ◌+◌, ◌*◌, ◌^◌, ◌<◌, ◌≤◌, Bool, true, false, List, [], ◌∷◌, map, length, Some, refl, ap, arith, if◌then◌else◌, cond}
-use Rattle.std.specs.Prelude.{slice_get, nat_lt}
+use Rattle.std.specs.Prelude.{slice_get, nat_lt, All}
 use Rattle.std.specs.List.{range_with_len}
-use Rattle.std.specs.Prelude.{All}
 use Rattle.std.proofs.lemmas.List.FromFn.{length-map-range_with_len}
 use Rattle.std.proofs.lemmas.Nat.{mul-le}
 use Rattle.std.proofs.lemmas.Option.{same_Some}
-use Rattle.flat_graph.specs.Graph.{Graph}
-use Rattle.flat_graph.specs.Valid.{is_flat}
-use Rattle.archi_graph.specs.Archi.{Architecture, is_archi}
-use Rattle.durations.specs.Table.{Table, IsRow, entry_in}
-use Rattle.schedule.specs.Valid.{is_valid}
-use Rattle.schedule.proofs.Archis.{few_operators, few_media}
+use Rattle.self_timed.specs.Graph.{Graph}
+use Rattle.self_timed.specs.FlatValid.{is_flat}
+use Rattle.self_timed.specs.Archi.{Architecture, is_archi}
+use Rattle.self_timed.specs.Table.{Table, IsRow, entry_in}
+use Rattle.self_timed.specs.ScheduleValid.{is_valid}
+use Rattle.self_timed.proofs.Archis.{few_operators, few_media}
+use Rattle.self_timed.specs.Acts.{Act, acts, is_on, is_over, length_of}
+use Rattle.self_timed.specs.declared.Schedule.{Schedule}
 use Rattle.self_timed.proofs.Low.{few_acts, stated_low}
 use Rattle.lower_bound.specs.declared.report.Report.{Report}
-use Rattle.schedule.specs.Acts.{Act, acts, is_on, is_over, length_of}
-use Rattle.schedule.specs.declared.decision.Schedule.{Schedule}
 use Rattle.lower_bound.specs.declared.loads.Load.{Load}
-use Rattle.lower_bound.specs.Numbers.{busy, lasting, load, loads, report}
+use Rattle.lower_bound.specs.Numbers.{busy, load, loads, report}
 use Rattle.lower_bound.proofs.Busy.{busy-cons}
 use Rattle.lower_bound.specs.declared.busiest.Line.{Line}
 use Rattle.lower_bound.specs.declared.busiest.Line.TheVariants.{Operator, Medium}
 use Rattle.lower_bound.specs.declared.busiest.Busy.{Busy}
 use Rattle.lower_bound.specs.Busiest.{busier, busy_line, longest_busy}
+use Rattle.self_timed.specs.Entries.{stated}
 
 -- the acts of a line last no longer together than all acts do at most
-pub busy_low : (test : Act → Bool) (most : ℕ) (xs : List Act) → ((i : ℕ) (x : Act) → slice_get xs i ≡ Some x → lasting x ≤ most) → busy test xs ≤ length xs * most
+pub busy_low : (test : Act → Bool) (most : ℕ) (xs : List Act) → ((i : ℕ) (x : Act) → slice_get xs i ≡ Some x → stated x ≤ most) → busy test xs ≤ length xs * most
 busy_low test most [] h = omega arith
 busy_low test most (x ∷ xs) h = by (test x) (busy-cons test x xs) (h 0 x refl) (busy_low test most xs (λ i y q. h (suc i) y q))
   where
-    by : (b : Bool) → busy test (x ∷ xs) ≡ cond b (lasting x) 0 + busy test xs → lasting x ≤ most → busy test xs ≤ length xs * most → busy test (x ∷ xs) ≤ suc (length xs) * most
+    by : (b : Bool) → busy test (x ∷ xs) ≡ cond b (stated x) 0 + busy test xs → stated x ≤ most → busy test xs ≤ length xs * most → busy test (x ∷ xs) ≤ suc (length xs) * most
     by true e here rest = omega arith
     by false e here rest = omega arith
 
@@ -49,7 +49,7 @@ loads_low most test s from (suc count) length h zero l e = let z = ap (λ (m : L
 loads_low most test s from (suc count) length h (suc i) l e = loads_low most test s (from + 1) count length h i l e
 
 -- of a schedule with few short acts
-pub longest_low : (s : Schedule) (operators media most : ℕ) → ((i : ℕ) (x : Act) → slice_get (acts s) i ≡ Some x → lasting x ≤ most) → (longest_busy (loads is_on operators s) (loads is_over media s)).ticks ≤ length (acts s) * most
+pub longest_low : (s : Schedule) (operators media most : ℕ) → ((i : ℕ) (x : Act) → slice_get (acts s) i ≡ Some x → stated x ≤ most) → (longest_busy (loads is_on operators s) (loads is_over media s)).ticks ≤ length (acts s) * most
 longest_low s operators media most h =
     busier_low (length (acts s) * most) Medium 0 (loads is_over media s) (busier (busy_line (Operator 0) 0) Operator 0 (loads is_on operators s))
     (busier_low (length (acts s) * most) Operator 0 (loads is_on operators s) (busy_line (Operator 0) 0) (omega arith) (loads_low (length (acts s) * most) is_on s 0 operators (length_of s) (λ n. busy_low (is_on n) most (acts s) h)))

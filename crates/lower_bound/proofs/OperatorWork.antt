@@ -5,11 +5,11 @@ use Rattle.std.specs.List.{list_any, list_all, range_with_len}
 use Rattle.std.specs.Cmp.Derive.{both_true}
 use Rattle.std.proofs.lemmas.Bool.{false≢true, and_parts, or_cases, leb-true, le-leb, eqb-true, eq-eqb}
 use Rattle.std.proofs.lemmas.Option.{slice_get_within}
-use Rattle.flat_graph.specs.Graph.{Graph}
-use Rattle.archi_graph.specs.Archi.{Architecture}
-use Rattle.schedule.specs.declared.decision.Decision.{Decision}
-use Rattle.schedule.specs.Acts.{Act, carry, run, end_of, is_on, runs, latest}
-use Rattle.schedule.specs.Valid.{have_ended, is_right, are_right}
+use Rattle.self_timed.specs.Graph.{Graph}
+use Rattle.self_timed.specs.Archi.{Architecture}
+use Rattle.self_timed.specs.declared.Decision.{Decision}
+use Rattle.self_timed.specs.Acts.{Act, carry, run, end_of, is_on, runs, latest}
+use Rattle.self_timed.specs.ScheduleValid.{have_ended, is_right, are_right}
 use Rattle.lower_bound.proofs.Parts.{Each, RightRun, right_run}
 
 -- the sum of what these give

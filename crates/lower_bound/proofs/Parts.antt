@@ -3,15 +3,16 @@ use Rattle.std.proofs.Common.{◌≡◌, ℕ, zero, suc, ◌+◌, ◌*◌, ◌<�
 use Rattle.std.specs.Prelude.{slice_get, nat_le, nat_lt, unwrap_or}
 use Rattle.std.specs.List.{list_any, list_all, range_with_len}
 use Rattle.std.proofs.lemmas.Bool.{false≢true, and_parts, or_cases, leb-true, ltb-true, eqb-true, cases_lt}
-use Rattle.flat_graph.specs.declared.vertex.Vertex.{Vertex}
-use Rattle.flat_graph.specs.Graph.{Graph, with_vertex, len_of}
-use Rattle.archi_graph.specs.declared.medium.Medium.{Medium}
-use Rattle.archi_graph.specs.Archi.{Architecture, stands_at}
-use Rattle.durations.specs.Table.{least_of, lesser}
-use Rattle.schedule.specs.declared.decision.Transfer.{Transfer}
-use Rattle.schedule.specs.declared.decision.Decision.{Decision}
-use Rattle.schedule.specs.Acts.{Act, carry, run, end_of, is_on, is_over, runs, Copy, copy, sources_of}
-use Rattle.schedule.specs.Valid.{have_ended, lasts, is_carried, follows_get, is_held, is_there, is_transfer, is_placement, is_right}
+use Rattle.syn_base.specs.Numbers.{lesser}
+use Rattle.self_timed.specs.declared.Vertex.{Vertex}
+use Rattle.self_timed.specs.Graph.{Graph, with_vertex, len_of}
+use Rattle.self_timed.specs.declared.Medium.{Medium}
+use Rattle.self_timed.specs.Archi.{Architecture, stands_at}
+use Rattle.self_timed.specs.Table.{least_of}
+use Rattle.self_timed.specs.declared.Transfer.{Transfer}
+use Rattle.self_timed.specs.declared.Decision.{Decision}
+use Rattle.self_timed.specs.Acts.{Act, carry, run, end_of, is_on, is_over, runs, Copy, copy, sources_of}
+use Rattle.self_timed.specs.ScheduleValid.{have_ended, lasts, is_carried, follows_get, is_held, is_there, is_transfer, is_placement, is_right}
 
 -- what holds of each element, one after the other
 abbrev pub Each : {A : Type 0} → (A → Type 0) → List A → Type 0

@@ -4,14 +4,16 @@ use Rattle.std.specs.Prelude.{is_some, slice_get, unwrap_or}
 use Rattle.std.specs.List.{range_with_len}
 use Rattle.std.proofs.lemmas.Bool.{false≢true, cases_lt}
 use Rattle.std.proofs.lemmas.Option.{slice_get_past}
-use Rattle.flat_graph.specs.declared.vertex.Guard.{Guard}
-use Rattle.flat_graph.specs.declared.vertex.Source.{Source}
-use Rattle.flat_graph.specs.declared.vertex.Vertex.{Vertex}
-use Rattle.flat_graph.specs.Graph.{with_vertex}
-use Rattle.flat_graph.specs.Order.{depends_on, get_half}
-use Rattle.durations.specs.Table.{least_of, lesser}
-use Rattle.lower_bound.specs.Bound.{arrival, carried_within, chain_within, end_after, end_on, first_end, greatest, later_by, least, needs, start_on}
+use Rattle.self_timed.specs.declared.Guard.{Guard}
+use Rattle.self_timed.specs.declared.Source.{Source}
+use Rattle.self_timed.specs.declared.Vertex.{Vertex}
+use Rattle.self_timed.specs.Graph.{with_vertex}
+use Rattle.self_timed.specs.FlatOrder.{depends_on, get_half}
+use Rattle.self_timed.specs.Table.{least_of}
+use Rattle.lower_bound.specs.Bound.{arrival, carried_within, chain_within, end_after, end_on, first_end, later_by, least, start_on}
 use Rattle.lower_bound.proofs.Renewed.{greatest-append, map-append}
+use Rattle.comm_routing.specs.Candidates.{needs_of}
+use Rattle.syn_base.specs.Numbers.{greatest, lesser}
 
 none_some : {t : ℕ} → (None ≡ Some t) → ⊥
 none_some e = false≢true (ap (λ (y : Option ℕ). is_some y) e)
@@ -53,14 +55,14 @@ module _ (operators : ℕ) (ticks : ℕ → ℕ → Option ℕ) (vertices : List
   module _ (some : (v : ℕ) → v < length vertices → (t : ℕ) × (least_of (map (ticks v) (range_with_len 0 operators)) ≡ Some t)) where
     end_plain : (f : ℕ → ℕ) (v : ℕ) → first_end operators ticks vertices [] f v ≡ end_after operators ticks vertices f v
     end_plain f v =
-        let n = greatest (map f (needs operators ticks vertices v)) in
+        let n = greatest (map f (needs_of vertices v)) in
         let os = range_with_len 0 operators in
         (λ i. unwrap_or (least_of (map (λ o. later_by (ticks v o) (start_plain f o (slice_get vertices v) i)) os)) 0)
         ∙ ap (λ (y : Option ℕ). unwrap_or y 0) (least_later (ticks v) n os)
         ∙ by (least_of (map (ticks v) os)) refl
       where
         by : (y : Option ℕ) → least_of (map (ticks v) (range_with_len 0 operators)) ≡ y
-            → unwrap_or (later_by y (greatest (map f (needs operators ticks vertices v)))) 0 ≡ unwrap_or y 0 + greatest (map f (needs operators ticks vertices v))
+            → unwrap_or (later_by y (greatest (map f (needs_of vertices v)))) 0 ≡ unwrap_or y 0 + greatest (map f (needs_of vertices v))
         by (Some t) is = refl
         by None is = elim (cases_lt v (length vertices)) [
           | inl l ↦ absurd (let r = (some v l).1 in none_some (sym is ∙ r))

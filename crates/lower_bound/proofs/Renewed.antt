@@ -5,20 +5,20 @@ use Rattle.std.specs.List.{list_all, range_with_len}
 use Rattle.std.proofs.lemmas.Bool.{false≢true, and_parts, cases_eq}
 use Rattle.std.proofs.lemmas.List.{get_or-set_same, get_or-set_other}
 use Rattle.std.proofs.lemmas.List.Folds.{list_all-append}
-use Rattle.flat_graph.specs.declared.vertex.Guard.{Guard}
-use Rattle.flat_graph.specs.declared.vertex.Source.{Source}
-use Rattle.flat_graph.specs.declared.vertex.Vertex.{Vertex}
-use Rattle.flat_graph.specs.Graph.{len_of, with_vertex}
-use Rattle.flat_graph.specs.Order.{depends_on, get_half, is_acyclic, is_done}
-use Rattle.flat_graph.proofs.Rounds.{stays_done}
-use Rattle.archi_graph.specs.declared.medium.Medium.{Medium}
-use Rattle.durations.specs.Table.{least_of, lesser}
-use Rattle.schedule.specs.Acts.{sources_of}
-use Rattle.lower_bound.specs.Bound.{greatest}
+use Rattle.self_timed.specs.declared.Guard.{Guard}
+use Rattle.self_timed.specs.declared.Source.{Source}
+use Rattle.self_timed.specs.declared.Vertex.{Vertex}
+use Rattle.self_timed.specs.Graph.{len_of, with_vertex}
+use Rattle.self_timed.specs.FlatOrder.{depends_on, get_half, is_acyclic, is_done}
+use Rattle.self_timed.proofs.Rounds.{stays_done}
+use Rattle.self_timed.specs.declared.Medium.{Medium}
+use Rattle.self_timed.specs.Table.{least_of}
+use Rattle.self_timed.specs.Acts.{sources_of}
 use Rattle.lower_bound.specs.Bound.{arrival, carried_to, carried_within, end_on, first_end, later_by, least_transfer, start_on}
 use Rattle.lower_bound.specs.Turns.{at, most_date, renewed, AreChains, AreSettled, AreShort}
 use Rattle.lower_bound.proofs.Done.{all_done, done_within, same_where}
 use Rattle.lower_bound.proofs.Lesser.{lesser_low}
+use Rattle.syn_base.specs.Numbers.{greatest, lesser}
 
 pub greatest-append : (xs ys : List ℕ) → greatest (xs ++ ys) ≡ max (greatest xs) (greatest ys)
 greatest-append [] ys = omega arith

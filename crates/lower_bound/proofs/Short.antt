@@ -4,14 +4,14 @@ use Rattle.std.specs.Prelude.{nat_le, nat_lt, slice_get, slice_index_or, unwrap_
 use Rattle.std.specs.List.{list_all}
 use Rattle.std.proofs.lemmas.Bool.{and_parts, leb-true}
 use Rattle.std.proofs.lemmas.Nat.{mul-le}
-use Rattle.flat_graph.specs.declared.vertex.Source.{Source}
-use Rattle.flat_graph.specs.declared.vertex.Vertex.{Vertex}
-use Rattle.flat_graph.specs.Graph.{Graph, len_of, with_vertex}
-use Rattle.flat_graph.specs.Valid.{is_flat, is_len}
-use Rattle.archi_graph.specs.declared.medium.Medium.{Medium}
-use Rattle.archi_graph.specs.Archi.{Architecture, are_bounded, are_distinct, are_joined, ascends_from, is_archi, is_medium, may_stand, names_of, stands_at}
-use Rattle.durations.specs.Table.{least_of}
-use Rattle.schedule.proofs.Copies.{parts}
+use Rattle.self_timed.specs.declared.Source.{Source}
+use Rattle.self_timed.specs.declared.Vertex.{Vertex}
+use Rattle.self_timed.specs.Graph.{Graph, len_of, with_vertex}
+use Rattle.self_timed.specs.FlatValid.{is_flat, is_len}
+use Rattle.self_timed.specs.declared.Medium.{Medium}
+use Rattle.self_timed.specs.Archi.{Architecture, are_bounded, are_distinct, are_joined, ascends_from, is_archi, is_medium, may_stand, names_of, stands_at}
+use Rattle.self_timed.specs.Table.{least_of}
+use Rattle.self_timed.proofs.Copies.{parts}
 use Rattle.lower_bound.specs.Bound.{brought_in, least_transfer}
 use Rattle.lower_bound.specs.Turns.{AreShort}
 use Rattle.lower_bound.proofs.Lesser.{lesser_low}

@@ -3,13 +3,14 @@ use Rattle.std.proofs.Common.{◌≡◌, ℕ, ◌+◌, ◌<◌, ◌≤◌, List,
 use Rattle.std.specs.Prelude.{slice_get, slice_index_or}
 use Rattle.std.proofs.lemmas.List.{map-append}
 use Rattle.std.proofs.lemmas.Option.{slice_get_read}
-use Rattle.flat_graph.specs.declared.vertex.Source.{Source}
-use Rattle.flat_graph.specs.declared.vertex.Vertex.{Vertex}
-use Rattle.flat_graph.specs.Graph.{with_vertex}
-use Rattle.flat_graph.specs.Order.{get_half}
-use Rattle.archi_graph.specs.declared.medium.Medium.{Medium}
-use Rattle.lower_bound.specs.Bound.{arrival, end_on, greatest, later_by, start_on}
+use Rattle.self_timed.specs.declared.Source.{Source}
+use Rattle.self_timed.specs.declared.Vertex.{Vertex}
+use Rattle.self_timed.specs.Graph.{with_vertex}
+use Rattle.self_timed.specs.FlatOrder.{get_half}
+use Rattle.self_timed.specs.declared.Medium.{Medium}
+use Rattle.lower_bound.specs.Bound.{arrival, end_on, later_by, start_on}
 use Rattle.lower_bound.proofs.Renewed.{greatest-append}
+use Rattle.syn_base.specs.Numbers.{greatest}
 
 module _ (operators : ℕ) (ticks : ℕ → ℕ → Option ℕ) (vertices : List Vertex) (media : List Medium) (dates : ℕ → ℕ) where
   pub end_is : (op o t start : ℕ) (x : Vertex) → op < length vertices → x ≡ slice_index_or vertices op x → Some t ≡ ticks op o → start ≡ start_on operators ticks vertices media dates o x

@@ -4,12 +4,13 @@ use Rattle.std.specs.Prelude.{filter, is_some, sum_by, Option, None}
 use Rattle.std.specs.List.{list_all, range_with_len}
 use Rattle.std.proofs.lemmas.Bool.{false_from_ne_true, false≢true}
 use Rattle.std.proofs.lemmas.List.Sums.{sum_by_push}
-use Rattle.schedule.specs.declared.decision.Transfer.{Transfer}
-use Rattle.schedule.specs.declared.decision.Decision.{Decision}
-use Rattle.schedule.specs.Acts.{Act, carry, run, acts_of, is_on, is_over}
 use Rattle.lower_bound.proofs.Below.{all_in_range}
-use Rattle.lower_bound.specs.Numbers.{busy, lasting, may_all_stand}
+use Rattle.lower_bound.specs.Numbers.{busy, may_all_stand}
 use Rattle.lower_bound.proofs.Busy.{busy-cons}
+use Rattle.self_timed.specs.declared.Transfer.{Transfer}
+use Rattle.self_timed.specs.declared.Decision.{Decision}
+use Rattle.self_timed.specs.Acts.{Act, carry, run, acts_of, is_on, is_over}
+use Rattle.self_timed.specs.Entries.{stated}
 
 busy-append : (test : Act → Bool) (xs ys : List Act) → busy test (xs ++ ys) ≡ busy test xs + busy test ys
 busy-append test [] ys = omega arith
@@ -30,7 +31,7 @@ first_of xs i x l is =
 
 -- of the decisions that are left, the first
 pub on_step : (o : ℕ) (ds : List Decision) (i : ℕ) (d : Decision) → i < length ds → d ≡ get_or ds i d
-    → busy (is_on o) (acts_of (drop i ds)) ≡ cond (nat_eq d.operator o) (lasting (run d)) 0 + busy (is_on o) (acts_of (drop (i + 1) ds))
+    → busy (is_on o) (acts_of (drop i ds)) ≡ cond (nat_eq d.operator o) (stated (run d)) 0 + busy (is_on o) (acts_of (drop (i + 1) ds))
 on_step o ds i d l is =
     let e = ap (λ (es : List Decision). busy (is_on o) (acts_of es)) (first_of ds i d l is) in
     let f = busy-append (is_on o) (map carry d.transfers) (run d ∷ acts_of (drop (i + 1) ds)) in
@@ -47,7 +48,7 @@ over_step m ds i d l is =
     omega arith
 
 pub carried_step : (m : ℕ) (ts : List Transfer) (i : ℕ) (t : Transfer) → i < length ts → t ≡ get_or ts i t
-    → busy (is_over m) (map carry (drop i ts)) ≡ cond (nat_eq t.medium m) (lasting (carry t)) 0 + busy (is_over m) (map carry (drop (i + 1) ts))
+    → busy (is_over m) (map carry (drop i ts)) ≡ cond (nat_eq t.medium m) (stated (carry t)) 0 + busy (is_over m) (map carry (drop (i + 1) ts))
 carried_step m ts i t l is =
     let e = ap (λ (us : List Transfer). busy (is_over m) (map carry us)) (first_of ts i t l is) in
     let h = busy-cons (is_over m) (carry t) (map carry (drop (i + 1) ts)) in

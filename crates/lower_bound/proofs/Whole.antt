@@ -1,16 +1,17 @@
 -- The bound from its parts.
 use Rattle.std.proofs.Common.{◌≡◌, ℕ, zero, suc, ◌+◌, ◌<◌, ◌≤◌, List, [], ◌∷◌, map, max, length, Option, refl, sym, ap, subst, arith, ◌∙◌}
 use Rattle.std.specs.List.{range_with_len}
-use Rattle.flat_graph.specs.declared.vertex.Vertex.{Vertex}
-use Rattle.flat_graph.specs.Graph.{Graph}
-use Rattle.archi_graph.specs.declared.medium.Medium.{Medium}
-use Rattle.archi_graph.specs.Archi.{Architecture}
-use Rattle.durations.specs.Table.{Table, entry_in}
-use Rattle.durations.specs.Fitting.{IsOf}
-use Rattle.lower_bound.specs.Bound.{greatest, carried_to, longest_carried, shared_work, greatest_work, lower_bound}
+use Rattle.self_timed.specs.declared.Vertex.{Vertex}
+use Rattle.self_timed.specs.Graph.{Graph}
+use Rattle.self_timed.specs.declared.Medium.{Medium}
+use Rattle.self_timed.specs.Archi.{Architecture}
+use Rattle.self_timed.specs.Table.{Table, entry_in}
+use Rattle.self_timed.specs.Fitting.{IsOf}
+use Rattle.lower_bound.specs.Bound.{carried_to, longest_carried, shared_work, greatest_work, lower_bound}
 use Rattle.lower_bound.specs.Laws.{IsBelowAll}
 use Rattle.lower_bound.specs.Turns.{at}
 use Rattle.lower_bound.proofs.Below.{no_valid_schedule_is_shorter}
+use Rattle.syn_base.specs.Numbers.{greatest}
 
 pub list_is : (f : ℕ → ℕ) (a n : ℕ) (xs : List ℕ) → length xs ≡ n → ((v : ℕ) → v < n → at xs v ≡ f (a + v)) → xs ≡ map f (range_with_len a n)
 list_is f a zero [] l h = refl

@@ -1,13 +1,13 @@
 -- A report from its parts.
 use Rattle.std.proofs.Common.{◌≡◌, ℕ, List, map, length, Option, ap, ◌∙◌}
 use Rattle.std.specs.List.{range_with_len}
-use Rattle.flat_graph.specs.Graph.{Graph}
-use Rattle.archi_graph.specs.declared.medium.Medium.{Medium}
-use Rattle.archi_graph.specs.Archi.{Architecture}
-use Rattle.durations.specs.Table.{Table, entry_in}
-use Rattle.durations.specs.Fitting.{IsOf}
-use Rattle.schedule.specs.declared.decision.Schedule.{Schedule}
-use Rattle.schedule.specs.Acts.{is_on, is_over, length_of}
+use Rattle.self_timed.specs.Graph.{Graph}
+use Rattle.self_timed.specs.declared.Medium.{Medium}
+use Rattle.self_timed.specs.Archi.{Architecture}
+use Rattle.self_timed.specs.Table.{Table, entry_in}
+use Rattle.self_timed.specs.Fitting.{IsOf}
+use Rattle.self_timed.specs.declared.Schedule.{Schedule}
+use Rattle.self_timed.specs.Acts.{is_on, is_over, length_of}
 use Rattle.lower_bound.specs.Bound.{lower_bound}
 use Rattle.lower_bound.specs.declared.ratio.Ratio.{Ratio}
 use Rattle.lower_bound.specs.declared.loads.Load.{Load}

@@ -1,14 +1,15 @@
 -- The bound computed on worked graphs: by the longest chain, by shared work, by the work of one operator alone; and the operations of longest chains.
 use Rattle.std.proofs.Common.{◌≡◌, ℕ, true, false, List, [], ◌∷◌, map, Option, Some, None, refl, pos}
-use Rattle.flat_graph.specs.declared.vertex.Kind.TheVariants.{Actuator, Function, Get, Sensor, Set}
-use Rattle.flat_graph.specs.declared.vertex.Guard.{Guard}
-use Rattle.flat_graph.specs.declared.vertex.Vertex.{Vertex}
-use Rattle.archi_graph.specs.declared.medium.Medium.{Medium}
-use Rattle.schedule.specs.Acts.{length_of}
-use Rattle.schedule.proofs.Examples.{entry, limits, operation, source, vertex, plain_graph, bus_graph, bus_archi, bus_ticks, bus_schedule, relay_archi, relay_schedule, speed_graph, speed_archi, speed_ticks, speed_schedule}
-use Rattle.lower_bound.specs.Bound.{least, least_transfer, needs, carried_to, chain_to, end_on, longest_carried, longest_chain, may_work, shared_work, work_only, greatest_work, lower_bound}
+use Rattle.self_timed.specs.declared.Kind.TheVariants.{Actuator, Function, Get, Sensor, Set}
+use Rattle.self_timed.specs.declared.Guard.{Guard}
+use Rattle.self_timed.specs.declared.Vertex.{Vertex}
+use Rattle.self_timed.specs.declared.Medium.{Medium}
+use Rattle.self_timed.specs.Acts.{length_of}
+use Rattle.self_timed.proofs.Examples.{entry, limits, operation, source, vertex, plain_graph, bus_graph, bus_archi, bus_ticks, bus_schedule, relay_archi, relay_schedule, speed_graph, speed_archi, speed_ticks, speed_schedule}
+use Rattle.lower_bound.specs.Bound.{least, least_transfer, carried_to, chain_to, end_on, longest_carried, longest_chain, may_work, shared_work, work_only, greatest_work, lower_bound}
 use Rattle.lower_bound.specs.Chain.{chain_links, goes_back}
 use Rattle.lower_bound.specs.declared.links.Link.{Link}
+use Rattle.comm_routing.specs.Candidates.{needs_of}
 
 -- on one operator everything is its work: no schedule is better than one after the other
 abbrev plain_ticks : ℕ → ℕ → Option ℕ
@@ -34,7 +35,7 @@ kept = operation 115 (Sensor 0) [] [] (1 ∷ []) None ∷ operation 103 (Get (po
 abbrev slow_halves : ℕ → ℕ → Option ℕ
 slow_halves = entry ((Some 2 ∷ []) ∷ (Some 11 ∷ Some 9 ∷ []) ∷ (None ∷ Some 5 ∷ []) ∷ [])
 
-halves : (needs 2 slow_halves kept 2 ≡ 0 ∷ 1 ∷ []) × (chain_to 2 slow_halves kept 1 ≡ 9) × (chain_to 2 slow_halves kept 2 ≡ 14) × (chain_to 2 slow_halves kept 0 ≡ 2) × (carried_to 2 slow_halves kept bus_archi.media 2 ≡ 14)
+halves : (needs_of kept 2 ≡ 0 ∷ 1 ∷ []) × (chain_to 2 slow_halves kept 1 ≡ 9) × (chain_to 2 slow_halves kept 2 ≡ 14) × (chain_to 2 slow_halves kept 0 ≡ 2) × (carried_to 2 slow_halves kept bus_archi.media 2 ≡ 14)
 halves = (refl, refl, refl, refl, refl)
 
 -- Of three operators the last may take only what takes no time on some operator, so the work is divided by two. No medium leads to it. The first function ends first on the second operator, though its value is carried there, and so does the actuator that stands there alone.

@@ -1,6 +1,6 @@
 -- The busiest line of worked schedules.
 use Rattle.std.proofs.Common.{◌≡◌, ℕ, [], ◌∷◌, Some, refl}
-use Rattle.schedule.proofs.Examples.{bus_archi, bus_graph, bus_schedule, bus_ticks, speed_archi, speed_graph, speed_schedule, speed_ticks}
+use Rattle.self_timed.proofs.Examples.{bus_archi, bus_graph, bus_schedule, bus_ticks, speed_archi, speed_graph, speed_schedule, speed_ticks}
 use Rattle.self_timed.specs.declared.period.Period.{Period}
 use Rattle.lower_bound.specs.declared.ratio.Ratio.{Ratio}
 use Rattle.lower_bound.specs.declared.loads.Load.{Load}

@@ -1,8 +1,8 @@
 -- The numbers of worked schedules: on one operator, on a bus, of a speed controller.
 use Rattle.std.proofs.Common.{◌≡◌, ℕ, List, [], ◌∷◌, Option, Some, None, refl, pos}
-use Rattle.flat_graph.specs.Graph.{Graph}
-use Rattle.flat_graph.specs.declared.vertex.Kind.TheVariants.{Actuator, Constant, Get, Set}
-use Rattle.schedule.proofs.Examples.{carried, entry, operation, placed, schedule, source, plain_graph, plain_archi, plain_schedule, bus_graph, bus_archi, bus_ticks, bus_schedule, speed_graph, speed_archi, speed_ticks, speed_schedule}
+use Rattle.self_timed.specs.Graph.{Graph}
+use Rattle.self_timed.specs.declared.Kind.TheVariants.{Actuator, Constant, Get, Set}
+use Rattle.self_timed.proofs.Examples.{carried, entry, operation, placed, schedule, source, plain_graph, plain_archi, plain_schedule, bus_graph, bus_archi, bus_ticks, bus_schedule, speed_graph, speed_archi, speed_ticks, speed_schedule}
 use Rattle.lower_bound.specs.declared.ratio.Ratio.{Ratio}
 use Rattle.lower_bound.specs.declared.loads.Load.{Load}
 use Rattle.lower_bound.specs.declared.alone.Alone.{Alone}

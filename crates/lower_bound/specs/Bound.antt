@@ -13,8 +13,6 @@ use Rattle.std.specs.Prelude.{
   nat_eq,
   nat_lt,
   List,
-  [],
-  ◌∷◌,
   length,
   map,
   max,
@@ -31,19 +29,16 @@ use Rattle.std.specs.Prelude.{
   filter,
 }
 use Rattle.std.specs.List.{list_all, list_any, range_with_len}
-use Rattle.flat_graph.specs.declared.vertex.Source.{Source}
-use Rattle.flat_graph.specs.declared.vertex.Vertex.{Vertex}
-use Rattle.flat_graph.specs.Graph.{len_of, with_vertex}
-use Rattle.flat_graph.specs.Order.{depends_on, get_half}
-use Rattle.archi_graph.specs.declared.medium.Medium.{Medium}
-use Rattle.archi_graph.specs.Archi.{stands_at}
-use Rattle.durations.specs.Table.{least_of}
-use Rattle.schedule.specs.Acts.{sources_of}
-
--- The greatest of these numbers, and 0 if there are none.
-abbrev pub greatest : List ℕ → ℕ
-greatest [] = 0
-greatest (n ∷ ns) = max n (greatest ns)
+use Rattle.comm_routing.specs.Candidates.{needs_of}
+use Rattle.syn_base.specs.Numbers.{greatest}
+use Rattle.self_timed.specs.declared.Source.{Source}
+use Rattle.self_timed.specs.declared.Vertex.{Vertex}
+use Rattle.self_timed.specs.Graph.{len_of, with_vertex}
+use Rattle.self_timed.specs.FlatOrder.{get_half}
+use Rattle.self_timed.specs.declared.Medium.{Medium}
+use Rattle.self_timed.specs.Archi.{stands_at}
+use Rattle.self_timed.specs.Table.{least_of}
+use Rattle.self_timed.specs.Acts.{sources_of}
 
 -- the greatest of so many parts that are as equal as can be
 abbrev pub divided_up : ℕ → ℕ → ℕ
@@ -62,15 +57,19 @@ brought_in o n m = if stands_at m o then Some (m.fixed + n * m.per) else None
 abbrev pub least_transfer : List Medium → ℕ → ℕ → ℕ
 least_transfer media o n = unwrap_or (least_of (map (brought_in o n) media)) 0
 
+-- All operations of a graph that has so many, by their numbers from 0.
+abbrev pub all_operations : ℕ → List ℕ
+all_operations operations = range_with_len 0 operations
+
+-- All operators of an architecture that has so many, by their numbers from 0.
+abbrev pub all_operators : ℕ → List ℕ
+all_operators operators = range_with_len 0 operators
+
 -- how long each operation lasts on each of this many operators, where it may stand
 module _ (operators : ℕ) (ticks : ℕ → ℕ → Option ℕ) where
-  -- All operators of the architecture, by their numbers from 0.
-  abbrev pub all_operators : List ℕ
-  all_operators = range_with_len 0 operators
-
   -- the least duration of an operation
   abbrev pub least : ℕ → ℕ
-  least v = unwrap_or (least_of (map (ticks v) all_operators)) 0
+  least v = unwrap_or (least_of (map (ticks v) (all_operators operators))) 0
 
   -- the operation takes time wherever it stands, and it may stand on this operator
   abbrev pub takes_time_on : ℕ → ℕ → Bool
@@ -78,37 +77,30 @@ module _ (operators : ℕ) (ticks : ℕ → ℕ → Option ℕ) where
 
   -- the operation may stand on no other operator
   abbrev pub stands_only : ℕ → ℕ → Bool
-  stands_only o v = list_all (λ p. nat_eq p o || is_none (ticks v p)) all_operators
+  stands_only o v = list_all (λ p. nat_eq p o || is_none (ticks v p)) (all_operators operators)
 
   module _ (operations : ℕ) where
-    -- All operations of the graph, by their numbers from 0.
-    abbrev pub all_operations : List ℕ
-    all_operations = range_with_len 0 operations
-
     -- an operation that takes time wherever it stands may stand on this operator
     abbrev pub may_work : ℕ → Bool
-    may_work o = list_any (takes_time_on o) all_operations
+    may_work o = list_any (takes_time_on o) (all_operations operations)
 
     -- the least durations of all operations, divided among the operators that may work
     abbrev pub shared_work : ℕ
-    shared_work = divided_up (sum_by least all_operations) (max (count_by may_work all_operators) 1)
+    shared_work =
+        divided_up (sum_by least (all_operations operations)) (max (count_by may_work (all_operators operators)) 1)
 
     -- the durations of the operations that may stand on this operator alone
     abbrev pub work_only : ℕ → ℕ
-    work_only o = sum_by least (filter (stands_only o) all_operations)
+    work_only o = sum_by least (filter (stands_only o) (all_operations operations))
 
     -- the greatest of all operators
     abbrev pub greatest_work : ℕ
-    greatest_work = greatest (map work_only all_operators)
+    greatest_work = greatest (map work_only (all_operators operators))
 
   module _ (vertices : List Vertex) where
-    -- the operations that an operation depends on, of a set half also its get half
-    abbrev pub needs : ℕ → List ℕ
-    needs v = with_vertex (slice_get vertices v) [] depends_on
-
     -- when an operation ends that starts at the greatest of these dates of those that it needs
     abbrev pub end_after : (ℕ → ℕ) → ℕ → ℕ
-    end_after dates v = least v + greatest (map dates (needs v))
+    end_after dates v = least v + greatest (map dates (needs_of vertices v))
 
     -- The longest time up to the end of an operation, by least durations, along operations of which each depends on
     -- the one before. At most this many are followed.
@@ -145,7 +137,7 @@ module _ (operators : ℕ) (ticks : ℕ → ℕ → Option ℕ) where
 
       -- when it ends on the operator on which it ends first
       abbrev pub first_end : (ℕ → ℕ) → ℕ → ℕ
-      first_end dates v = unwrap_or (least_of (map (end_on dates v) all_operators)) 0
+      first_end dates v = unwrap_or (least_of (map (end_on dates v) (all_operators operators))) 0
 
       -- The longest time up to the end of an operation, along operations of which each depends on the one before, with
       -- the transfers that they cannot do without. At most this many are followed.

@@ -23,10 +23,12 @@ use Rattle.std.specs.Prelude.{
   sum_by,
 }
 use Rattle.std.specs.List.{list_any}
-use Rattle.flat_graph.specs.declared.vertex.Vertex.{Vertex}
-use Rattle.flat_graph.specs.Order.{is_acyclic}
+use Rattle.self_timed.specs.declared.Vertex.{Vertex}
+use Rattle.self_timed.specs.FlatOrder.{is_acyclic}
 use Rattle.lower_bound.specs.declared.links.Link.{Link}
-use Rattle.lower_bound.specs.Bound.{all_operations, chain_to, greatest, least, longest_chain, needs}
+use Rattle.lower_bound.specs.Bound.{all_operations, chain_to, least, longest_chain}
+use Rattle.comm_routing.specs.Candidates.{needs_of}
+use Rattle.syn_base.specs.Numbers.{greatest}
 
 -- the first of these operations that has this date
 abbrev pub first_at : (ℕ → ℕ) → ℕ → List ℕ → Option ℕ
@@ -50,13 +52,13 @@ module _ (operators : ℕ) (ticks : ℕ → ℕ → Option ℕ) (vertices : List
   back_within zero o = []
   back_within (suc n) None = []
   back_within (suc n) (Some v) =
-      v ∷ back_within n (latest_of (chain_to operators ticks vertices) (needs operators ticks vertices v))
+      v ∷ back_within n (latest_of (chain_to operators ticks vertices) (needs_of vertices v))
 
   -- the longest chain from its last operation back to its first: of several the first by number
   abbrev pub chain_back : List ℕ
   chain_back =
       back_within (length vertices)
-      (latest_of (chain_to operators ticks vertices) (all_operations operators ticks (length vertices)))
+      (latest_of (chain_to operators ticks vertices) (all_operations (length vertices)))
 
   -- Operation v as a link of the chain, with its least duration in ticks.
   abbrev pub link_of : ℕ → Link
@@ -69,7 +71,7 @@ module _ (operators : ℕ) (ticks : ℕ → ℕ → Option ℕ) (vertices : List
   -- each of these is followed by one that it needs, and the last needs none
   abbrev pub goes_back : List ℕ → Bool
   goes_back [] = true
-  goes_back (v ∷ us) = goes_on (needs operators ticks vertices v) us && goes_back us
+  goes_back (v ∷ us) = goes_on (needs_of vertices v) us && goes_back us
 
 -- The operations of the chain last together as long as the longest chain, by their least durations. Each is needed by
 -- the next, and the first needs none.

@@ -1,13 +1,13 @@
 -- What the bound is below.
 use Rattle.std.specs.Prelude.{ℕ, ◌<◌, ◌≤◌, IsTrue, List, is_some, length, Option}
 use Rattle.std.specs.List.{list_any, range_with_len}
-use Rattle.flat_graph.specs.declared.vertex.Vertex.{Vertex}
-use Rattle.flat_graph.specs.Graph.{Graph}
-use Rattle.archi_graph.specs.declared.medium.Medium.{Medium}
-use Rattle.archi_graph.specs.Archi.{Architecture}
-use Rattle.schedule.specs.declared.decision.Schedule.{Schedule}
-use Rattle.schedule.specs.Acts.{length_of}
-use Rattle.schedule.specs.Valid.{is_valid}
+use Rattle.self_timed.specs.declared.Vertex.{Vertex}
+use Rattle.self_timed.specs.Graph.{Graph}
+use Rattle.self_timed.specs.declared.Medium.{Medium}
+use Rattle.self_timed.specs.Archi.{Architecture}
+use Rattle.self_timed.specs.declared.Schedule.{Schedule}
+use Rattle.self_timed.specs.Acts.{length_of}
+use Rattle.self_timed.specs.ScheduleValid.{is_valid}
 use Rattle.lower_bound.specs.Bound.{longest_carried, longest_chain, lower_bound}
 
 -- this is below the length of every valid schedule

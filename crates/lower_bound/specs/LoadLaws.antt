@@ -1,10 +1,10 @@
 -- What holds of the loads of every valid schedule.
 use Rattle.std.specs.Prelude.{ℕ, ◌≤◌, IsTrue, Option}
-use Rattle.flat_graph.specs.Graph.{Graph}
-use Rattle.archi_graph.specs.Archi.{Architecture}
-use Rattle.schedule.specs.declared.decision.Schedule.{Schedule}
-use Rattle.schedule.specs.Acts.{acts, is_on, is_over, length_of}
-use Rattle.schedule.specs.Valid.{is_valid}
+use Rattle.self_timed.specs.Graph.{Graph}
+use Rattle.self_timed.specs.Archi.{Architecture}
+use Rattle.self_timed.specs.declared.Schedule.{Schedule}
+use Rattle.self_timed.specs.Acts.{acts, is_on, is_over, length_of}
+use Rattle.self_timed.specs.ScheduleValid.{is_valid}
 use Rattle.lower_bound.specs.Numbers.{busy}
 
 -- no operator and no medium is busy for longer than the schedule lasts

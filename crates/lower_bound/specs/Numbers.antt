@@ -1,8 +1,6 @@
 -- The numbers of a schedule.
 use Rattle.std.specs.Prelude.{
   ℕ,
-  ◌+◌,
-  ◌-◌,
   ◌*◌,
   ◌/◌,
   ◌%◌,
@@ -21,15 +19,16 @@ use Rattle.std.specs.Prelude.{
   sum_by,
 }
 use Rattle.std.specs.List.{list_all, range_with_len}
-use Rattle.flat_graph.specs.Graph.{Graph}
-use Rattle.archi_graph.specs.Archi.{Architecture}
-use Rattle.schedule.specs.declared.decision.Schedule.{Schedule}
-use Rattle.schedule.specs.Acts.{Act, acts, start_of, end_of, is_on, is_over, length_of}
-use Rattle.lower_bound.specs.Bound.{lower_bound}
+use Rattle.lower_bound.specs.Bound.{lower_bound, all_operations}
 use Rattle.lower_bound.specs.declared.ratio.Ratio.{Ratio}
 use Rattle.lower_bound.specs.declared.loads.Load.{Load}
 use Rattle.lower_bound.specs.declared.alone.Alone.{Alone}
 use Rattle.lower_bound.specs.declared.report.Report.{Report}
+use Rattle.self_timed.specs.Graph.{Graph}
+use Rattle.self_timed.specs.Archi.{Architecture}
+use Rattle.self_timed.specs.declared.Schedule.{Schedule}
+use Rattle.self_timed.specs.Acts.{Act, acts, is_on, is_over, length_of}
+use Rattle.self_timed.specs.Entries.{stated}
 
 -- how often the second number is in the first, and thousandths of it, rounded down; 0 where the second is 0
 abbrev pub ratio : ℕ → ℕ → Ratio
@@ -37,13 +36,9 @@ ratio n m =
     if nat_eq m 0 then record { whole = 0; thousandths = 0 }
     else record { whole = n / m; thousandths = n % m * 1000 / m }
 
--- How many ticks an act lasts, from its start to its end.
-abbrev pub lasting : Act → ℕ
-lasting y = end_of y - start_of y
-
 -- the time of those of these acts that pass
 abbrev pub busy : (Act → Bool) → List Act → ℕ
-busy test xs = sum_by lasting (filter test xs)
+busy test xs = sum_by stated (filter test xs)
 
 -- the time of a line, and its share of the length
 abbrev pub load : ℕ → ℕ → Load
@@ -55,17 +50,13 @@ loads test lines s = map (λ n. load (length_of s) (busy (test n) (acts s))) (ra
 
 -- how long each operation lasts on each operator, where it may stand
 module _ (ticks : ℕ → ℕ → Option ℕ) (operations : ℕ) where
-  -- All operations of the graph, by their numbers from 0.
-  abbrev pub all_operations : List ℕ
-  all_operations = range_with_len 0 operations
-
   -- Each operation may stand on operator o, so that all of them could run there one after another.
   abbrev pub may_all_stand : ℕ → Bool
-  may_all_stand o = list_all (λ v. is_some (ticks v o)) all_operations
+  may_all_stand o = list_all (λ v. is_some (ticks v o)) (all_operations operations)
 
   -- all operations, one after another, on this operator
   abbrev pub time_alone : ℕ → ℕ
-  time_alone o = sum_by (λ v. unwrap_or (ticks v o) 0) all_operations
+  time_alone o = sum_by (λ v. unwrap_or (ticks v o) 0) (all_operations operations)
 
   -- that time, and how often a schedule of this length is as fast, where they all may stand there
   abbrev pub alone : ℕ → ℕ → Option Alone

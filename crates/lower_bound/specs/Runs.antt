@@ -1,9 +1,9 @@
 -- The bound and the pressure run.
 use Rattle.std.specs.Prelude.{◌≤◌, length}
-use Rattle.schedule.specs.Acts.{length_of}
 use Rattle.comm_routing.specs.Task.{Task}
 use Rattle.comm_routing.specs.Given.{IsTask}
 use Rattle.pressure_heuristic.specs.Pressure.{pressure_run}
+use Rattle.self_timed.specs.Acts.{length_of}
 use Rattle.lower_bound.specs.Bound.{lower_bound}
 
 -- no pressure run is shorter than the bound

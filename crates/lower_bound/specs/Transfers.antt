@@ -1,13 +1,13 @@
 -- How many transfers a schedule has, and what they carry.
-use Rattle.std.specs.Prelude.{ℕ, Bool, true, false, List, length, flat_map, slice_get}
+use Rattle.std.specs.Prelude.{ℕ, Bool, true, false, List, length, slice_get}
 use Rattle.std.specs.List.{count_by}
-use Rattle.flat_graph.specs.declared.vertex.Kind.{Kind}
-use Rattle.flat_graph.specs.declared.vertex.Kind.TheVariants.{Constant, Get}
-use Rattle.flat_graph.specs.declared.vertex.Vertex.{Vertex}
-use Rattle.flat_graph.specs.Graph.{Graph, with_vertex}
-use Rattle.schedule.specs.declared.decision.Transfer.{Transfer}
-use Rattle.schedule.specs.declared.decision.Decision.{Decision}
-use Rattle.schedule.specs.declared.decision.Schedule.{Schedule}
+use Rattle.self_timed.specs.declared.Kind.{Kind}
+use Rattle.self_timed.specs.declared.Kind.TheVariants.{Constant, Get}
+use Rattle.self_timed.specs.declared.Vertex.{Vertex}
+use Rattle.self_timed.specs.Graph.{Graph, with_vertex}
+use Rattle.self_timed.specs.declared.Transfer.{Transfer}
+use Rattle.self_timed.specs.declared.Schedule.{Schedule}
+use Rattle.self_timed.specs.Acts.{transfers_of}
 use Rattle.lower_bound.specs.declared.transfers.Transfers.{Transfers}
 use Rattle.lower_bound.specs.declared.transfers.Sort.{Sort}
 use Rattle.lower_bound.specs.declared.transfers.Sort.TheVariants.{OfConstant, OfDelay}
@@ -22,10 +22,6 @@ is_sort _ _ = false
 abbrev pub carries : (Kind → Bool) → List Vertex → Transfer → Bool
 carries test vertices t = with_vertex (slice_get vertices t.source.vertex) false (λ x. test x.kind)
 
--- The transfers of these decisions, in their order.
-abbrev pub transfers_in : List Decision → List Transfer
-transfers_in ds = flat_map (λ d. d.transfers) ds
-
 -- more than any valid schedule has
 abbrev pub most_transfers : ℕ
 most_transfers = 2099200
@@ -33,7 +29,7 @@ most_transfers = 2099200
 -- all, and those of constants and of get halves
 abbrev pub transfers : Graph → Schedule → Transfers
 transfers g s = record {
-  all = length (transfers_in s.decisions);
-  constants = count_by (carries (is_sort OfConstant) g.vertices) (transfers_in s.decisions);
-  delays = count_by (carries (is_sort OfDelay) g.vertices) (transfers_in s.decisions);
+  all = length (transfers_of s.decisions);
+  constants = count_by (carries (is_sort OfConstant) g.vertices) (transfers_of s.decisions);
+  delays = count_by (carries (is_sort OfDelay) g.vertices) (transfers_of s.decisions);
 }

@@ -1,10 +1,10 @@
 -- Dates of operations that are renewed turn by turn until they are the chains to them.
 use Rattle.std.specs.Prelude.{◌≡◌, ℕ, ◌<◌, ◌≤◌, true, List, length, min, Option, slice_index_or}
-use Rattle.flat_graph.specs.declared.vertex.Source.{Source}
-use Rattle.flat_graph.specs.declared.vertex.Vertex.{Vertex}
-use Rattle.flat_graph.specs.Graph.{len_of}
-use Rattle.flat_graph.specs.Order.{is_done}
-use Rattle.archi_graph.specs.declared.medium.Medium.{Medium}
+use Rattle.self_timed.specs.declared.Source.{Source}
+use Rattle.self_timed.specs.declared.Vertex.{Vertex}
+use Rattle.self_timed.specs.Graph.{len_of}
+use Rattle.self_timed.specs.FlatOrder.{is_done}
+use Rattle.self_timed.specs.declared.Medium.{Medium}
 use Rattle.lower_bound.specs.Bound.{carried_to, first_end, least_transfer}
 
 abbrev pub at : List ℕ → ℕ → ℕ

@@ -2,11 +2,11 @@
 ghost use Rattle.std.specs.Prelude.{◌≡◌, ◌≤◌, ◌<◌, ◌*◌, ℕ, IfOk, length, map, if◌then◌else◌, Some, None};
 ghost use Rattle.std.specs.List.{range_with_len};
 ghost use Rattle.syn_base.specs.Limits.{most_operations};
-ghost use Rattle.durations.specs.Table.{entry_in};
+ghost use Rattle.self_timed.specs.Table.{entry_in};
 ghost use Rattle.lower_bound.specs.Numbers.{alone, may_all_stand, time_alone};
 
 use crate::ratio::{Ratio, ratio_of};
-use durations::Durations;
+use self_timed::Durations;
 use std::alloc::Global;
 use syn_base::{Items, OutOfMemory};
 

@@ -1,17 +1,15 @@
 //! When an operation can end at the earliest, by the dates of those that it depends on. `chains`
 //! calls `first_end`.
 ghost use Rattle.std.specs.Prelude.{◌≡◌, ℕ, ◌+◌, ◌<◌, ◌≤◌, length, map};
-ghost use Rattle.flat_graph.specs.Graph.{len_of};
-ghost use Rattle.flat_graph.specs.Order.{get_half};
-ghost use Rattle.archi_graph.specs.Archi.{stands_at};
-ghost use Rattle.durations.specs.Table.{entry_in, lesser};
-ghost use Rattle.lower_bound.specs.Bound.{greatest};
+ghost use Rattle.self_timed.specs.Graph.{len_of};
+ghost use Rattle.self_timed.specs.FlatOrder.{get_half};
+ghost use Rattle.self_timed.specs.Archi.{stands_at};
+ghost use Rattle.self_timed.specs.Table.{entry_in};
 ghost use Rattle.lower_bound.specs.Bound.{arrival, brought_in, end_on, first_end, least_transfer, start_on};
 ghost use Rattle.lower_bound.specs.Turns.{at, most_date, most_transfer, AreShort};
+ghost use Rattle.syn_base.specs.Numbers.{greatest, lesser};
 
-use archi_graph::Medium;
-use durations::Durations;
-use flat_graph::{Guard, Kind, Source, Vertex, len_of};
+use self_timed::{Durations, Guard, Kind, Medium, Source, Vertex, len_of};
 
 /// When the operation can end on the operator on which it can end first.
 pub(crate) fn first_end(

@@ -2,18 +2,17 @@
 ghost use Rattle.std.specs.Prelude.{◌≡◌, ℕ, ◌<◌, ◌≤◌, ◌*◌, IfOk, IsTrue, length, map, slice_index_or};
 ghost use Rattle.std.specs.List.{range_with_len};
 ghost use Rattle.syn_base.specs.Limits.{most_operations};
-ghost use Rattle.flat_graph.specs.Order.{is_acyclic};
-ghost use Rattle.durations.specs.Fitting.{IsOf};
-ghost use Rattle.durations.specs.Table.{entry_in};
-ghost use Rattle.lower_bound.specs.Bound.{greatest, longest_carried, lower_bound};
+ghost use Rattle.self_timed.specs.FlatOrder.{is_acyclic};
+ghost use Rattle.self_timed.specs.Fitting.{IsOf};
+ghost use Rattle.self_timed.specs.Table.{entry_in};
+ghost use Rattle.lower_bound.specs.Bound.{longest_carried, lower_bound};
 ghost use Rattle.lower_bound.specs.Laws.{IsBelowAll};
 ghost use Rattle.lower_bound.specs.Turns.{AreShort};
+ghost use Rattle.syn_base.specs.Numbers.{greatest};
 
 use crate::chains::chain_ends;
 use crate::work::{greatest_work, shared_work};
-use archi_graph::{Archi, Medium};
-use durations::Durations;
-use flat_graph::{Flat, Vertex};
+use self_timed::{Archi, Durations, Flat, Medium, Vertex};
 use std::alloc::Global;
 use syn_base::OutOfMemory;
 

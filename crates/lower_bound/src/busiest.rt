@@ -1,8 +1,8 @@
 //! The busiest line of a report.
 ghost use Rattle.std.specs.Prelude.{◌≡◌, ◌≤◌, IsTrue, length};
-ghost use Rattle.durations.specs.Fitting.{IsOf};
-ghost use Rattle.durations.specs.Table.{entry_in};
-ghost use Rattle.schedule.specs.Valid.{is_valid};
+ghost use Rattle.self_timed.specs.Fitting.{IsOf};
+ghost use Rattle.self_timed.specs.Table.{entry_in};
+ghost use Rattle.self_timed.specs.ScheduleValid.{is_valid};
 ghost use Rattle.lower_bound.specs.Numbers.{report};
 ghost use Rattle.lower_bound.specs.declared.busiest.Line.TheVariants.{Medium, Operator};
 ghost use Rattle.lower_bound.specs.Busiest.{busier, busiest, longest_busy};
@@ -10,11 +10,7 @@ ghost use Rattle.lower_bound.specs.Busiest.{busier, busiest, longest_busy};
 use crate::loads::Load;
 use crate::ratio::{Ratio, ratio_of};
 use crate::report::Report;
-use archi_graph::Archi;
-use durations::Durations;
-use flat_graph::Flat;
-use schedule::Schedule;
-use self_timed::Period;
+use self_timed::{Archi, Durations, Flat, Period, Schedule};
 
 /// An operator or a medium, by number.
 #[derive(Clone, Copy, Debug, PartialEq, Eq)]

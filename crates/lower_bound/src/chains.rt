@@ -1,15 +1,13 @@
 //! The longest chain to each operation, with the transfers that it cannot do without.
 ghost use Rattle.std.specs.Prelude.{◌≡◌, ℕ, ◌<◌, ◌≤◌, false, suc, IfOk, IsTrue, length, slice_set};
 ghost use Rattle.syn_base.specs.Limits.{most_operations};
-ghost use Rattle.flat_graph.specs.Order.{is_acyclic};
-ghost use Rattle.durations.specs.Table.{entry_in};
+ghost use Rattle.self_timed.specs.FlatOrder.{is_acyclic};
+ghost use Rattle.self_timed.specs.Table.{entry_in};
 ghost use Rattle.lower_bound.specs.Bound.{carried_to};
 ghost use Rattle.lower_bound.specs.Turns.{at, most_date, renewed, AreChains, AreSettled, AreShort};
 
 use crate::arrivals::first_end;
-use archi_graph::Medium;
-use durations::Durations;
-use flat_graph::Vertex;
+use self_timed::{Durations, Medium, Vertex};
 use std::alloc::Global;
 use syn_base::OutOfMemory;
 

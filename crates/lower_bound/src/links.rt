@@ -2,18 +2,18 @@
 ghost use Rattle.std.specs.Prelude.{◌≡◌, ℕ, ◌<◌, ◌≤◌, IfOk, IsTrue, length, map};
 ghost use Rattle.std.specs.List.{range_with_len};
 ghost use Rattle.syn_base.specs.Limits.{most_operations};
-ghost use Rattle.flat_graph.specs.Order.{depends_on, get_half, is_acyclic};
-ghost use Rattle.durations.specs.Table.{entry_in};
-ghost use Rattle.lower_bound.specs.Bound.{chain_to, greatest};
+ghost use Rattle.self_timed.specs.FlatOrder.{depends_on, get_half, is_acyclic};
+ghost use Rattle.self_timed.specs.Table.{entry_in};
+ghost use Rattle.lower_bound.specs.Bound.{chain_to};
 ghost use Rattle.lower_bound.specs.Chain.{chain_back, chain_links, first_at, latest_of, link_of};
 ghost use Rattle.lower_bound.specs.Turns.{at, most_date};
+ghost use Rattle.syn_base.specs.Numbers.{greatest};
 
 use crate::arrivals::{end_at, end_of_half};
 use crate::bound::greatest;
 use crate::chains::chain_ends;
 use crate::work::least;
-use durations::Durations;
-use flat_graph::{Flat, Guard, Kind, Source, Vertex};
+use self_timed::{Durations, Flat, Guard, Kind, Source, Vertex};
 use std::alloc::Global;
 use syn_base::OutOfMemory;
 

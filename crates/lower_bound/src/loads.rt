@@ -1,11 +1,12 @@
 //! How busy operators and media are.
 ghost use Rattle.std.specs.Prelude.{◌≡◌, ◌≤◌, ◌<◌, ℕ, IfOk, if◌then◌else◌, length, map, nat_eq};
 ghost use Rattle.std.specs.List.{range_with_len};
-ghost use Rattle.schedule.specs.Acts.{acts, acts_of, carry, is_on, is_over, length_of, run};
-ghost use Rattle.lower_bound.specs.Numbers.{busy, lasting, load, loads};
+ghost use Rattle.lower_bound.specs.Numbers.{busy, load, loads};
+ghost use Rattle.self_timed.specs.Acts.{acts, acts_of, carry, is_on, is_over, length_of, run};
+ghost use Rattle.self_timed.specs.Entries.{stated};
 
 use crate::ratio::{Ratio, ratio_of};
-use schedule::{Decision, Schedule, Transfer};
+use self_timed::{Decision, Schedule, Transfer};
 use std::alloc::Global;
 use syn_base::{Items, OutOfMemory};
 
@@ -80,7 +81,7 @@ fn busy_on(decisions: &[Decision], operator: usize, most: u64) -> u64
 
 /// The time of an operation, where it is on this operator.
 fn time_on(decision: &Decision, operator: usize) -> u64
-    ensures { result ≡ (if nat_eq decision.now.operator operator then lasting (run decision.now) else 0) }
+    ensures { result ≡ (if nat_eq decision.now.operator operator then stated (run decision.now) else 0) }
 {
     if decision.operator as usize == operator {
         decision.end.saturating_sub(decision.start)
@@ -117,7 +118,7 @@ fn carried_over(transfers: &[Transfer], medium: usize, most: u64) -> u64
 
 /// The time of a transfer, where it is over this medium.
 fn time_over(transfer: Transfer, medium: usize) -> u64
-    ensures { result ≡ (if nat_eq transfer.medium medium then lasting (carry transfer) else 0) }
+    ensures { result ≡ (if nat_eq transfer.medium medium then stated (carry transfer) else 0) }
 {
     if transfer.medium as usize == medium {
         transfer.end.saturating_sub(transfer.start)

@@ -1,18 +1,15 @@
 //! The report of a schedule.
 ghost use Rattle.std.specs.Prelude.{◌≡◌, IfOk, IsTrue};
-ghost use Rattle.durations.specs.Fitting.{IsOf};
-ghost use Rattle.durations.specs.Table.{entry_in};
-ghost use Rattle.schedule.specs.Valid.{is_valid};
+ghost use Rattle.self_timed.specs.Fitting.{IsOf};
+ghost use Rattle.self_timed.specs.Table.{entry_in};
+ghost use Rattle.self_timed.specs.ScheduleValid.{is_valid};
 ghost use Rattle.lower_bound.specs.Numbers.{report};
 
 use crate::alone::{Alone, all_alone};
 use crate::bound::lower_bound;
 use crate::loads::{Load, medium_loads, operator_loads};
 use crate::ratio::{Ratio, ratio_of};
-use archi_graph::Archi;
-use durations::Durations;
-use flat_graph::Flat;
-use schedule::Schedule;
+use self_timed::{Archi, Durations, Flat, Schedule};
 use std::alloc::Global;
 use syn_base::{Items, OutOfMemory};
 

@@ -1,15 +1,13 @@
 //! How many transfers a schedule has.
 ghost use Rattle.std.specs.Prelude.{◌≡◌, ◌+◌, ◌≤◌, IsTrue, length};
 ghost use Rattle.std.specs.List.{count_by};
-ghost use Rattle.durations.specs.Fitting.{IsOf};
-ghost use Rattle.durations.specs.Table.{entry_in};
-ghost use Rattle.schedule.specs.Valid.{is_valid};
-ghost use Rattle.lower_bound.specs.Transfers.{carries, is_sort, most_transfers, transfers, transfers_in};
+ghost use Rattle.self_timed.specs.Fitting.{IsOf};
+ghost use Rattle.self_timed.specs.Table.{entry_in};
+ghost use Rattle.self_timed.specs.ScheduleValid.{is_valid};
+ghost use Rattle.self_timed.specs.Acts.{transfers_of as transfers_in};
+ghost use Rattle.lower_bound.specs.Transfers.{carries, is_sort, most_transfers, transfers};
 
-use archi_graph::Archi;
-use durations::Durations;
-use flat_graph::{Flat, Kind, Vertex};
-use schedule::{Decision, Schedule, Transfer};
+use self_timed::{Archi, Decision, Durations, Flat, Kind, Schedule, Transfer, Vertex};
 
 /// How many transfers there are, and how many of them carry constants, or what delays keep.
 #[derive(Clone, Copy, Debug, PartialEq, Eq)]

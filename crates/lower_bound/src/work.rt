@@ -3,11 +3,11 @@ ghost use Rattle.std.specs.Prelude.{◌≡◌, ◌≤◌, ◌<◌, ◌*◌, ◌&
 ghost use Rattle.std.specs.List.{range_with_len};
 ghost use Rattle.syn_base.specs.Limits.{bound_of, most_operations};
 ghost use Rattle.syn_base.specs.declared.limits.LimitKind.TheVariants.{Operators};
-ghost use Rattle.durations.specs.Lines.{most_ticks};
-ghost use Rattle.durations.specs.Table.{entry_in};
+ghost use Rattle.self_timed.specs.DurationLines.{most_ticks};
+ghost use Rattle.self_timed.specs.Table.{entry_in};
 ghost use Rattle.lower_bound.specs.Bound.{greatest_work, least, may_work, shared_work, stands_only, takes_time_on, work_only};
 
-use durations::Durations;
+use self_timed::Durations;
 
 /// The least duration of an operation, at most 1,000,000,000.
 pub(crate) fn least(durations: &Durations, op: u32) -> u64

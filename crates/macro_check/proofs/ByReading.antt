@@ -3,10 +3,10 @@ use Rattle.std.proofs.Common.{◌≡◌, ℕ, ◌+◌, ◌≤◌, Bool, true, fa
 use Rattle.std.specs.Prelude.{slice_get, nat_lt}
 use Rattle.std.proofs.lemmas.List.{length-map}
 use Rattle.std.proofs.lemmas.Option.{slice_get_past}
-use Rattle.executive_program.specs.declared.program.Program.{Program}
-use Rattle.executive_program.specs.Instructions.{readers}
-use Rattle.executive_program.specs.Places.{writer_of, written_at}
-use Rattle.executive_program.specs.WellFormed.{operator_of}
+use Rattle.sequence_build_laws.specs.declared.Program.{Program}
+use Rattle.sequence_build_laws.specs.Instructions.{readers}
+use Rattle.sequence_build_laws.specs.Places.{writer_of, written_at}
+use Rattle.sequence_build_laws.specs.WellFormed.{operator_of}
 use Rattle.program_walks.specs.Walks.{all_at}
 use Rattle.program_walks.specs.Pairs.{has_operator, is_read_between, is_written_between}
 use Rattle.program_tables.specs.declared.readings.Reading.{Reading}

@@ -3,13 +3,13 @@ use Rattle.std.proofs.Common.{◌≡◌, ℕ, ◌≤◌, ◌^◌, true, false, L
 use Rattle.std.specs.Prelude.{IsTrue}
 use Rattle.std.specs.List.{flat_map, range_with_len}
 use Rattle.std.proofs.lemmas.Bool.{false≢true}
-use Rattle.flat_graph.specs.declared.vertex.Vertex.{Vertex}
-use Rattle.flat_graph.specs.Graph.{Graph}
-use Rattle.archi_graph.specs.declared.medium.Medium.{Medium}
-use Rattle.archi_graph.specs.Archi.{Architecture, is_archi}
-use Rattle.archi_graph.specs.Sequences.{sequences, sequences_of}
-use Rattle.executive_program.specs.declared.program.Program.{Program}
-use Rattle.executive_program.specs.WellFormed.{IsOrder, IsWellFormed}
+use Rattle.sequence_build_laws.specs.declared.Vertex.{Vertex}
+use Rattle.sequence_build_laws.specs.Graph.{Graph}
+use Rattle.sequence_build_laws.specs.declared.Medium.{Medium}
+use Rattle.sequence_build_laws.specs.Archi.{Architecture, is_archi}
+use Rattle.sequence_build_laws.specs.Sequences.{sequences, sequences_of}
+use Rattle.sequence_build_laws.specs.declared.Program.{Program}
+use Rattle.sequence_build_laws.specs.WellFormed.{IsOrder, IsWellFormed}
 use Rattle.check_laws.specs.Items.{AreNamed}
 use Rattle.check_laws.specs.Laws.{IsCause}
 use Rattle.check_laws.specs.Tests.{Cause, are_named, cause, sequences_differ}

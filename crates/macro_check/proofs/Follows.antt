@@ -2,10 +2,10 @@
 use Rattle.std.proofs.Common.{◌≡◌, ℕ, zero, suc, ◌+◌, ◌-◌, ◌/◌, ◌<◌, List, ◌∷◌, length, map, refl, sym, ap, subst, arith, ◌∙◌}
 use Rattle.std.specs.Prelude.{slice_get}
 use Rattle.std.specs.List.{range_with_len}
-use Rattle.executive_program.specs.declared.program.Program.{Program}
+use Rattle.sequence_build_laws.specs.declared.Program.{Program}
+use Rattle.sequence_build_laws.specs.Places.{carried_within}
 use Rattle.order_check.specs.declared.carrying.Origin.{Origin}
 use Rattle.order_check.specs.declared.carrying.Origin.TheVariants.{Made, Received, Nowhere}
-use Rattle.executive_program.specs.Places.{carried_within}
 use Rattle.order_check.specs.Carries.{origin, source_from}
 use Rattle.order_check.proofs.Kept.{hop}
 use Rattle.check_laws.specs.Items.{is_made, made_from}

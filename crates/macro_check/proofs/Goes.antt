@@ -5,17 +5,17 @@ use Rattle.std.specs.List.{filter, range_with_len}
 use Rattle.std.proofs.lemmas.Bool.{false≢true, cases_eq, eqb-true, ltb-true, ltb-false}
 use Rattle.std.proofs.lemmas.Option.{same_Some, slice_get_within}
 use Rattle.std.proofs.Math.ListN.{length-set}
-use Rattle.interleavings.specs.Owners.{sum_below}
 use Rattle.program_tables.specs.declared.mark_table.Mark.{Mark}
-use Rattle.executive_program.specs.declared.program.Instr.{Instr}
-use Rattle.executive_program.specs.declared.program.Instr.TheVariants.{Suc0, Suc1, Pre0, Pre1, Call, Send, Recv, Sync}
-use Rattle.executive_program.specs.declared.program.SeqCode.{SeqCode}
-use Rattle.executive_program.specs.declared.program.Program.{Program}
-use Rattle.executive_program.specs.Instructions.{medium, turn}
-use Rattle.executive_program.specs.WellFormed.{Stands}
 use Rattle.program_tables.specs.declared.roles.Role.TheVariants.{FullTaken}
 use Rattle.program_tables.specs.Communications.{communicators_from, joining}
 use Rattle.program_tables.specs.Marks.{marks_of}
+use Rattle.sequence_build_laws.specs.Owners.{sum_below}
+use Rattle.sequence_build_laws.specs.declared.Instr.{Instr}
+use Rattle.sequence_build_laws.specs.declared.Instr.TheVariants.{Suc0, Suc1, Pre0, Pre1, Call, Send, Recv, Sync}
+use Rattle.sequence_build_laws.specs.declared.SeqCode.{SeqCode}
+use Rattle.sequence_build_laws.specs.declared.Program.{Program}
+use Rattle.sequence_build_laws.specs.Instructions.{medium, turn}
+use Rattle.sequence_build_laws.specs.WellFormed.{Stands}
 use Rattle.sequence_build_laws.proofs.Lists.{Past, from_append, get_before, get_past}
 use Rattle.sequence_build_laws.proofs.Loops.{code_there}
 use Rattle.sequence_build_laws.proofs.Sequences.{range_there}

@@ -1,14 +1,15 @@
 -- The first that a program lacks.
 use Rattle.std.proofs.Common.{◌≡◌, ℕ, ◌<◌, ◌⊎◌, Bool, true, false, cond, List, [], length, Some, None, refl, inl, inr}
-use Rattle.flat_graph.specs.declared.vertex.Vertex.{Vertex}
-use Rattle.flat_graph.specs.Graph.{Graph}
-use Rattle.archi_graph.specs.declared.medium.Seq.{Seq}
-use Rattle.executive_program.specs.declared.program.Instr.TheVariants.{Suc1, Pre1, Send, Recv}
-use Rattle.executive_program.specs.declared.program.Program.{Program}
-use Rattle.executive_program.specs.MicroSteps.{first_of}
-use Rattle.executive_program.specs.WellFormed.{Stands}
+use Rattle.sequence_build_laws.specs.declared.Vertex.{Vertex}
+use Rattle.sequence_build_laws.specs.Graph.{Graph}
+use Rattle.sequence_build_laws.specs.declared.Seq.{Seq}
+use Rattle.sequence_build_laws.specs.declared.Instr.TheVariants.{Suc1, Pre1, Send, Recv}
+use Rattle.sequence_build_laws.specs.declared.Program.{Program}
+use Rattle.sequence_build_laws.specs.MicroSteps.{first_of}
+use Rattle.sequence_build_laws.specs.WellFormed.{Stands}
+use Rattle.sequence_build_laws.specs.Places.{AreOpened}
 use Rattle.program_walks.specs.Opened.{are_opened}
-use Rattle.check_laws.specs.Items.{AreNamed, AreOpened, AreTransferred}
+use Rattle.check_laws.specs.Items.{AreNamed, AreTransferred}
 use Rattle.check_laws.specs.Run.{stuck}
 use Rattle.check_laws.specs.Tests.{sequences_differ, calls_wrong, transfers_wrong, buffers_wrong, pairs_wrong, prologue_wrong, stopped, are_named, are_called, are_transferred, are_written, are_guarded, cause}
 use Rattle.program_walks.proofs.Prologues.{opened_of, of_opened}

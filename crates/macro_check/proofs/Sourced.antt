@@ -4,16 +4,17 @@ use Rattle.std.specs.Prelude.{slice_get}
 use Rattle.std.specs.List.{list_all, range_with_len}
 use Rattle.std.proofs.lemmas.Option.{slice_get_within}
 use Rattle.std.proofs.lemmas.List.Folds.{list_all-map}
-use Rattle.flat_graph.specs.declared.vertex.Source.{Source}
-use Rattle.flat_graph.specs.declared.vertex.Vertex.{Vertex}
-use Rattle.executive_program.specs.declared.program.Instr.{Instr}
-use Rattle.executive_program.specs.declared.program.Instr.TheVariants.{Suc0, Suc1, Pre0, Pre1, Call, Send, Recv, Sync}
-use Rattle.executive_program.specs.declared.program.Buffer.{Buffer}
-use Rattle.executive_program.specs.declared.program.Program.{Program}
-use Rattle.executive_program.specs.Instructions.{communications, medium, operator, turn}
-use Rattle.executive_program.specs.MicroSteps.{transfers}
-use Rattle.executive_program.specs.Places.{carried, output_at, transfer, writer_of, written_at}
-use Rattle.executive_program.specs.WellFormed.{Stands}
+use Rattle.sequence_build_laws.specs.declared.Source.{Source}
+use Rattle.sequence_build_laws.specs.declared.Vertex.{Vertex}
+use Rattle.sequence_build_laws.specs.declared.Instr.{Instr}
+use Rattle.sequence_build_laws.specs.declared.Instr.TheVariants.{Suc0, Suc1, Pre0, Pre1, Call, Send, Recv, Sync}
+use Rattle.sequence_build_laws.specs.declared.Buffer.{Buffer}
+use Rattle.sequence_build_laws.specs.declared.Program.{Program}
+use Rattle.sequence_build_laws.specs.Instructions.{communications, medium, operator, turn}
+use Rattle.sequence_build_laws.specs.MicroSteps.{transfers}
+use Rattle.sequence_build_laws.specs.Places.{carried, output_at, transfer, writer_of, written_at}
+use Rattle.sequence_build_laws.specs.WellFormed.{Stands}
+use Rattle.sequence_build_laws.specs.Graph.{same_source}
 use Rattle.program_walks.specs.Walks.{all_at, all_below}
 use Rattle.program_walks.proofs.ListTests.{below_of, of_below}
 use Rattle.program_tables.specs.declared.crossings.Crossing.{Crossing}
@@ -23,7 +24,7 @@ use Rattle.program_walks.specs.Buffers.{are_buffers}
 use Rattle.order_check.specs.declared.carrying.Origin.{Origin}
 use Rattle.order_check.specs.declared.carrying.Origin.TheVariants.{Received}
 use Rattle.order_check.specs.Calls.{has_len}
-use Rattle.order_check.specs.Carries.{are_kept, is_kept, origin_of, received, same_source, sent_on}
+use Rattle.order_check.specs.Carries.{are_kept, is_kept, origin_of, received, sent_on}
 use Rattle.check_laws.specs.Items.{AreTransferred, is_made}
 use Rattle.check_laws.specs.Tests.{are_written, fits, has_same_len}
 use Rattle.check_laws.proofs.Sent.{found}

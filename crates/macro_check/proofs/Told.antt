@@ -6,23 +6,23 @@ use Rattle.std.proofs.lemmas.List.{take_all}
 use Rattle.std.proofs.lemmas.List.FromFn.{get_or-map-range_with_len, length-map-range_with_len}
 use Rattle.std.proofs.lemmas.Option.{slice_get-get_or, slice_get_within}
 use Rattle.program_tables.specs.declared.mark_table.Mark.{Mark}
-use Rattle.executive_program.specs.declared.program.Instr.{Instr}
-use Rattle.executive_program.specs.declared.program.Instr.TheVariants.{Suc1, Pre1, Send, Recv, Sync}
-use Rattle.executive_program.specs.declared.program.Program.{Program}
-use Rattle.executive_program.specs.Instructions.{communications, is_communication, medium, turn}
-use Rattle.executive_program.specs.MicroSteps.{transfers}
-use Rattle.executive_program.specs.Places.{pair, writing}
-use Rattle.executive_program.specs.WellFormed.{Stands}
 use Rattle.program_walks.proofs.Readings.{same_numbers}
 use Rattle.program_tables.specs.declared.crossings.Crossing.{Crossing}
 use Rattle.program_tables.specs.declared.roles.Role.TheVariants.{FullSignalled, FullTaken}
 use Rattle.program_tables.specs.Crossings.{crossing, crossings, crossings_on}
 use Rattle.program_tables.specs.Marks.{marks_of}
 use Rattle.program_tables.proofs.Lone.{FirstIs, only_first}
+use Rattle.sequence_build_laws.specs.declared.Instr.{Instr}
+use Rattle.sequence_build_laws.specs.declared.Instr.TheVariants.{Suc1, Pre1, Send, Recv, Sync}
+use Rattle.sequence_build_laws.specs.declared.Program.{Program}
+use Rattle.sequence_build_laws.specs.Instructions.{communications, is_communication, medium, turn}
+use Rattle.sequence_build_laws.specs.MicroSteps.{transfers}
+use Rattle.sequence_build_laws.specs.Places.{pair, writing}
+use Rattle.sequence_build_laws.specs.WellFormed.{Stands}
+use Rattle.sequence_build_laws.proofs.Passing.{full_signalled, full_taken}
 use Rattle.sequence_build_laws.proofs.Lists.{counts_tally, tally, tally_grows}
 use Rattle.check_laws.specs.Items.{AreGuarded, AreTransferred}
 use Rattle.check_laws.specs.Run.{awaited, on_medium, receive_before, receive_of, send_of, signal_of}
-use Rattle.executive_program.proofs.Passing.{full_signalled, full_taken}
 use Rattle.program_walks.proofs.Guarded.{of_only}
 use Rattle.macro_check.specs.Tabled.{crossing_at, crossing_before, in_row}
 use Rattle.macro_check.specs.Awaiting.{received_at, sent_at, stand_or}

@@ -5,14 +5,14 @@ use Rattle.std.specs.List.{filter}
 use Rattle.std.proofs.lemmas.Bool.{false≢true}
 use Rattle.std.proofs.lemmas.Option.{same_Some}
 use Rattle.program_tables.specs.declared.mark_table.Mark.{Mark}
-use Rattle.executive_program.specs.declared.program.Instr.{Instr}
-use Rattle.executive_program.specs.declared.program.Instr.TheVariants.{Suc0, Suc1, Pre0, Pre1, Call, Send, Recv, Sync}
-use Rattle.executive_program.specs.declared.program.SeqCode.{SeqCode}
-use Rattle.executive_program.specs.declared.program.Program.{Program}
-use Rattle.executive_program.specs.Instructions.{communications, medium, medium_in, operator, turn}
-use Rattle.executive_program.specs.MicroSteps.{transfers}
-use Rattle.executive_program.specs.Places.{pair, transfer, writing}
-use Rattle.executive_program.specs.WellFormed.{Stands}
+use Rattle.sequence_build_laws.specs.declared.Instr.{Instr}
+use Rattle.sequence_build_laws.specs.declared.Instr.TheVariants.{Suc0, Suc1, Pre0, Pre1, Call, Send, Recv, Sync}
+use Rattle.sequence_build_laws.specs.declared.SeqCode.{SeqCode}
+use Rattle.sequence_build_laws.specs.declared.Program.{Program}
+use Rattle.sequence_build_laws.specs.Instructions.{communications, medium, medium_in, operator, turn}
+use Rattle.sequence_build_laws.specs.MicroSteps.{transfers}
+use Rattle.sequence_build_laws.specs.Places.{pair, transfer, writing}
+use Rattle.sequence_build_laws.specs.WellFormed.{Stands}
 use Rattle.program_tables.specs.Communications.{communicators_from, communicators_of, joining}
 use Rattle.check_laws.specs.Run.{Place, awaited, on_medium, receive_before, receive_of, send_of}
 use Rattle.macro_check.specs.Awaiting.{MayRun, first_in, on_it, sequences_in, woken}

@@ -27,14 +27,14 @@ use Rattle.std.specs.Prelude.{
   slice_index,
   slice_set,
 }
-use Rattle.interleavings.specs.Owners.{sum_below}
+use Rattle.sequence_build_laws.specs.Owners.{sum_below}
+use Rattle.sequence_build_laws.specs.declared.Instr.{Instr}
+use Rattle.sequence_build_laws.specs.declared.Instr.TheVariants.{Suc1, Pre1, Send, Recv}
+use Rattle.sequence_build_laws.specs.declared.Program.{Program}
+use Rattle.sequence_build_laws.specs.Instructions.{medium, turn}
+use Rattle.sequence_build_laws.specs.WellFormed.{Stands}
 use Rattle.program_tables.specs.declared.mark_table.Mark.{Mark}
 use Rattle.program_walks.specs.declared.acts.Stand.{Stand}
-use Rattle.executive_program.specs.declared.program.Instr.{Instr}
-use Rattle.executive_program.specs.declared.program.Instr.TheVariants.{Suc1, Pre1, Send, Recv}
-use Rattle.executive_program.specs.declared.program.Program.{Program}
-use Rattle.executive_program.specs.Instructions.{medium, turn}
-use Rattle.executive_program.specs.WellFormed.{Stands}
 use Rattle.program_tables.specs.declared.crossings.Crossing.{Crossing}
 use Rattle.program_tables.specs.declared.roles.Role.TheVariants.{FullTaken}
 use Rattle.program_tables.specs.Communications.{communicators_of}

@@ -19,18 +19,19 @@ use Rattle.std.specs.Prelude.{
   slice_get,
 }
 use Rattle.std.specs.List.{list_all, range_with_len}
-use Rattle.flat_graph.specs.declared.vertex.Source.{Source}
-use Rattle.executive_program.specs.declared.program.Program.{Program}
-use Rattle.flat_graph.specs.declared.vertex.Vertex.{Vertex}
-use Rattle.executive_program.specs.Instructions.{len_of}
-use Rattle.executive_program.specs.MicroSteps.{transfers}
+use Rattle.sequence_build_laws.specs.declared.Source.{Source}
+use Rattle.sequence_build_laws.specs.declared.Program.{Program}
+use Rattle.sequence_build_laws.specs.declared.Vertex.{Vertex}
+use Rattle.sequence_build_laws.specs.Instructions.{len_of}
+use Rattle.sequence_build_laws.specs.MicroSteps.{transfers}
+use Rattle.sequence_build_laws.specs.Graph.{same_source}
 use Rattle.program_walks.specs.Walks.{all_at}
 use Rattle.program_tables.specs.Crossings.{crossing}
 use Rattle.check_laws.specs.Tests.{fits}
 use Rattle.program_tables.specs.declared.crossings.Crossing.{Crossing}
 use Rattle.order_check.specs.declared.carrying.Origin.{Origin}
 use Rattle.order_check.specs.declared.carrying.Origin.TheVariants.{Made, Received, Nowhere}
-use Rattle.order_check.specs.Carries.{origin, same_source}
+use Rattle.order_check.specs.Carries.{origin}
 
 -- from a buffer that is received, this way further
 abbrev pub further : Origin → (ℕ → Origin) → Origin

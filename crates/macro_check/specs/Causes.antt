@@ -1,10 +1,10 @@
 -- The causes of a refusal, and the first that a program lacks.
 use Rattle.std.specs.Prelude.{ℕ, ◌<◌, ◌⊎◌, cond, List, map, length, Option, Some, None}
-use Rattle.flat_graph.specs.declared.vertex.Vertex.{Vertex}
-use Rattle.executive_program.specs.declared.program.Instr.TheVariants.{Suc1, Pre1, Send, Recv}
-use Rattle.executive_program.specs.declared.program.Program.{Program}
-use Rattle.executive_program.specs.MicroSteps.{first_of}
-use Rattle.executive_program.specs.WellFormed.{Stands}
+use Rattle.sequence_build_laws.specs.declared.Vertex.{Vertex}
+use Rattle.sequence_build_laws.specs.declared.Instr.TheVariants.{Suc1, Pre1, Send, Recv}
+use Rattle.sequence_build_laws.specs.declared.Program.{Program}
+use Rattle.sequence_build_laws.specs.MicroSteps.{first_of}
+use Rattle.sequence_build_laws.specs.WellFormed.{Stands}
 use Rattle.program_walks.specs.Opened.{are_opened}
 use Rattle.check_laws.specs.Run.{stuck}
 use Rattle.check_laws.specs.Tests.{

@@ -19,11 +19,11 @@ use Rattle.std.specs.Prelude.{
 }
 use Rattle.program_tables.specs.declared.mark_table.Mark.{Mark}
 use Rattle.program_tables.specs.MarkRows.{row}
-use Rattle.executive_program.specs.Instructions.{operator, turn}
-use Rattle.executive_program.specs.Places.{communication_at}
+use Rattle.sequence_build_laws.specs.Instructions.{operator, turn}
+use Rattle.sequence_build_laws.specs.Places.{communication_at}
+use Rattle.sequence_build_laws.specs.declared.Program.{Program}
 use Rattle.program_walks.specs.Walks.{implies}
 use Rattle.order_check.specs.Transfers.{is_wait}
-use Rattle.executive_program.specs.declared.program.Program.{Program}
 use Rattle.program_tables.specs.declared.crossings.Crossing.{Crossing}
 use Rattle.program_tables.specs.declared.roles.Role.TheVariants.{Called, Written, Read}
 use Rattle.program_tables.specs.Communications.{communicators_of, numbers_of, places_of}

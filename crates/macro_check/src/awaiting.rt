@@ -1,9 +1,9 @@
 //! The instruction of another sequence that the next one of a sequence awaits, and the sequences that may await an
 //! instruction.
 ghost use Rattle.std.specs.Prelude.{◌≡◌, ℕ, ◌<◌, ◌++◌, length, slice_get, slice_index, IfSome, OnOk};
-ghost use Rattle.executive_program.specs.declared.program.Instr.TheVariants.{Pre1};
-ghost use Rattle.executive_program.specs.Instructions.{communications, medium, turn};
-ghost use Rattle.executive_program.specs.WellFormed.{Stands};
+ghost use Rattle.sequence_build_laws.specs.declared.Instr.TheVariants.{Pre1};
+ghost use Rattle.sequence_build_laws.specs.Instructions.{communications, medium, turn};
+ghost use Rattle.sequence_build_laws.specs.WellFormed.{Stands};
 ghost use Rattle.program_tables.specs.Crossings.{crossings};
 ghost use Rattle.check_laws.specs.Items.{AreGuarded};
 ghost use Rattle.check_laws.specs.Run.{awaited, signal_of};
@@ -11,9 +11,9 @@ ghost use Rattle.macro_check.specs.Tabled.{AreTables, crossing_at, crossing_befo
 ghost use Rattle.macro_check.specs.Awaiting.{MayRun, first_in, is_past_in, on_it, received_at, sent_at, sequences_in, stand_or, woken};
 
 use crate::tables::Tables;
-use executive_program::{Instr, Program};
 use program_tables::{Crossing, Mark, number_at};
 use program_walks::{Stand, medium_of};
+use sequence_build_laws::{Instr, Program};
 use syn_base::{Items, OutOfMemory};
 
 /// A transfer in the table of transfers.

@@ -1,17 +1,16 @@
 //! The check of calls: each operation is called once, in a computation sequence, and the halves of a delay in order.
 ghost use Rattle.std.specs.Prelude.{◌≡◌, ℕ, ◌<◌, ◌&&◌, nat_eq, nat_lt, length, is_none};
-ghost use Rattle.executive_program.specs.Instructions.{medium};
-ghost use Rattle.executive_program.specs.Places.{caller_of};
+ghost use Rattle.sequence_build_laws.specs.Instructions.{medium};
+ghost use Rattle.sequence_build_laws.specs.Places.{caller_of};
 ghost use Rattle.program_tables.specs.MarkRows.{row};
 ghost use Rattle.program_tables.specs.declared.roles.Role.TheVariants.{Called};
 ghost use Rattle.program_tables.specs.Marks.{lone, marks_of};
 ghost use Rattle.order_check.specs.Calls.{called_at, is_before_twin};
 ghost use Rattle.check_laws.specs.Tests.{are_called, is_called};
 
-use executive_program::Program;
-use flat_graph::{Kind, Vertex};
 use program_tables::{Mark, MarkTable, call_of, is_lone};
 use program_walks::{Stand, caller_of, first_call, medium_of, turn_of};
+use sequence_build_laws::{Kind, Program, Vertex};
 
 /// The first call of an operation. Of one beyond the table it is looked for in the whole program.
 fn find_call(program: &Program, calls: &MarkTable, operations: usize, operation: usize) -> Stand

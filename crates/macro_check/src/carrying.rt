@@ -1,8 +1,8 @@
 //! The sources that buffers carry: outputs of operations, over any number of transfers. Receives are followed back
 //! from all buffers at once, twice as far with each round.
 ghost use Rattle.std.specs.Prelude.{◌≡◌, ℕ, ◌<◌, length, map, slice_get, Some, IfOk};
-ghost use Rattle.executive_program.specs.Instructions.{turn};
-ghost use Rattle.executive_program.specs.WellFormed.{Stands};
+ghost use Rattle.sequence_build_laws.specs.Instructions.{turn};
+ghost use Rattle.sequence_build_laws.specs.WellFormed.{Stands};
 ghost use Rattle.program_tables.specs.declared.roles.Role.TheVariants.{Written};
 ghost use Rattle.program_tables.specs.Marks.{marks_of};
 ghost use Rattle.order_check.specs.declared.carrying.Origin.TheVariants.{Received};
@@ -13,10 +13,10 @@ ghost use Rattle.macro_check.specs.Tabled.{AreTables};
 
 use crate::awaiting::transfer_of;
 use crate::tables::Tables;
-use executive_program::{Instr, Program};
 use order_check::Origin;
 use program_tables::{Crossing, Mark, Write, write_of};
 use program_walks::turn_of;
+use sequence_build_laws::{Instr, Program};
 use std::alloc::Global;
 use syn_base::OutOfMemory;
 

@@ -1,8 +1,8 @@
 //! The check of a program, which callers of the crate ask for.
 ghost use Rattle.std.specs.Prelude.{◌≡◌, ℕ, ◌<◌, ◌≤◌, ◌^◌, length, None, Some, IfErr, IfOk, OnOk};
-ghost use Rattle.archi_graph.specs.Sequences.{sequences};
-ghost use Rattle.executive_program.specs.Instructions.{turn};
-ghost use Rattle.executive_program.specs.WellFormed.{IsOrder, IsWellFormed};
+ghost use Rattle.sequence_build_laws.specs.Sequences.{sequences};
+ghost use Rattle.sequence_build_laws.specs.Instructions.{turn};
+ghost use Rattle.sequence_build_laws.specs.WellFormed.{IsOrder, IsWellFormed};
 ghost use Rattle.macro_check.specs.Causes.{AreThere, Refuses, fault, lack, told};
 ghost use Rattle.macro_check.specs.Awaiting.{IsWhole, MayRun};
 ghost use Rattle.macro_check.specs.Tabled.{AreTables};
@@ -18,11 +18,9 @@ use crate::naming::are_named;
 use crate::running::{Run, run_through, stops};
 use crate::tables::{Tables, find_tables};
 use crate::writing::are_written;
-use archi_graph::Archi;
 use check_cause::CheckCause;
-use executive_program::Program;
-use flat_graph::{Flat, Vertex};
 use program_tables::are_opened;
+use sequence_build_laws::{Archi, Flat, Program, Vertex};
 use std::alloc::Global;
 use syn_base::{Items, OutOfMemory};
 

@@ -1,21 +1,20 @@
 //! The check that the buffers of each call carry what its operation takes and gives.
 ghost use Rattle.std.specs.Prelude.{◌≡◌, ◌+◌, ◌<◌, ◌≤◌, ◌&&◌, Some, drop, length, nat_eq, slice_get};
-ghost use Rattle.executive_program.specs.Instructions.{turn};
-ghost use Rattle.executive_program.specs.Places.{carried};
+ghost use Rattle.sequence_build_laws.specs.Instructions.{turn};
+ghost use Rattle.sequence_build_laws.specs.Places.{carried};
+ghost use Rattle.sequence_build_laws.specs.Graph.{same_source};
 ghost use Rattle.program_walks.specs.Walks.{all_at};
 ghost use Rattle.order_check.specs.Calls.{carries, carry_guards, carry_inputs, gives, gives_at, has_len, takes};
-ghost use Rattle.order_check.specs.Carries.{same_source};
 ghost use Rattle.check_laws.specs.Tests.{fits, fits_at};
 ghost use Rattle.macro_check.specs.Carrying.{follow_all, met_in};
 ghost use Rattle.macro_check.specs.Tabled.{AreTables};
 
 use crate::carrying::origin_in;
 use crate::tables::Tables;
-use executive_program::Program;
-use flat_graph::{Guard, Source, Vertex};
 use order_check::{Origin, has_len, has_output, ins_of, outs_of};
 use program_tables::call_of;
 use program_walks::{Stand, len_of, turn_of};
+use sequence_build_laws::{Guard, Program, Source, Vertex};
 
 /// Whether a buffer carries this output of an operation, by the table of what is met from each buffer.
 fn is_source(sources: &[Origin], buffer: usize, vertex: usize, port: usize) -> bool

@@ -6,8 +6,8 @@ ghost use Rattle.check_laws.specs.Tests.{are_guarded};
 ghost use Rattle.macro_check.specs.Tabled.{AreTables, guards_by};
 
 use crate::tables::Tables;
-use executive_program::Program;
 use program_tables::{Reading, guards};
+use sequence_build_laws::Program;
 
 /// Whether a pair guards the buffer of a reading for its sequence.
 fn guards_by(program: &Program, tables: &Tables, pair: usize, reading: Reading) -> bool

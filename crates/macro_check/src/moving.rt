@@ -1,7 +1,7 @@
 //! The check of transfers: each has one send, one receive, and a wait at each other communicator of its medium.
 ghost use Rattle.std.specs.Prelude.{◌≡◌, ℕ, ◌<◌, ◌&&◌, not, nat_eq};
 ghost use Rattle.std.specs.List.{list_all};
-ghost use Rattle.executive_program.specs.MicroSteps.{transfers};
+ghost use Rattle.sequence_build_laws.specs.MicroSteps.{transfers};
 ghost use Rattle.program_tables.specs.MarkRows.{row};
 ghost use Rattle.program_tables.specs.Communications.{communicators_of, places_of};
 ghost use Rattle.program_tables.specs.Crossings.{crossing, crossing_by, crossings, crossings_on};
@@ -10,12 +10,12 @@ ghost use Rattle.order_check.specs.Transfers.{is_received, is_sent};
 ghost use Rattle.check_laws.specs.Tests.{are_moved, are_transferred, is_moved};
 ghost use Rattle.macro_check.specs.Tabled.{other_waits, waits_in};
 
-use executive_program::Program;
 use order_check::{
     are_communicators, are_counted, are_on_media, is_receive_from, is_send_to, is_wait,
 };
 use program_tables::{Crossing, Mark, MarkTable, place_of_communication};
 use program_walks::{is_on, medium_of, operator_of, turn_of};
+use sequence_build_laws::Program;
 use syn_base::Items;
 
 /// Whether a transfer has its send: in a communicator of its medium, to the operator that receives.

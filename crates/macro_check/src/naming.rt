@@ -1,13 +1,12 @@
 //! The check of names: the sequences are the architecture's, and what instructions name is there.
 ghost use Rattle.std.specs.Prelude.{◌≡◌};
 ghost use Rattle.std.specs.List.{flat_map, list_all, range_with_len};
-ghost use Rattle.archi_graph.specs.Sequences.{sequences_of};
-ghost use Rattle.executive_program.specs.declared.program.SeqCode.{SeqCode};
+ghost use Rattle.sequence_build_laws.specs.Sequences.{sequences_of};
+ghost use Rattle.sequence_build_laws.specs.declared.SeqCode.{SeqCode};
 ghost use Rattle.check_laws.specs.Tests.{all_there, are_named, operators_in};
 
-use archi_graph::Medium;
-use executive_program::{Instr, Program};
 use order_check::{are_sequences, names_in};
+use sequence_build_laws::{Instr, Medium, Program};
 
 /// Whether the operators that an instruction names are there, among this many.
 fn operators_in(operators: usize, instr: &Instr) -> bool

@@ -2,15 +2,15 @@
 //! have become ready.
 ghost use Rattle.std.specs.Prelude.{◌≡◌, ℕ, ◌<◌, ◌≤◌, ◌^◌, ◌++◌, [], ◌∷◌, zero, length, map, replicate, slice_index, IfOk, OnOk};
 ghost use Rattle.std.specs.List.{range_with_len};
-ghost use Rattle.executive_program.specs.Instructions.{turn};
+ghost use Rattle.sequence_build_laws.specs.Instructions.{turn};
 ghost use Rattle.macro_check.specs.Tabled.{AreTables};
 ghost use Rattle.macro_check.specs.Awaiting.{IsEnded, IsGoing, IsStep, MayRun, is_ready_in, left_in, place_of, stop_at, to_do};
 
 use crate::awaiting::{awaited, count_at, is_past, push_woken};
 use crate::tables::Tables;
 use check_cause::Stop;
-use executive_program::Program;
 use program_walks::turn_of;
+use sequence_build_laws::Program;
 use std::alloc::Global;
 use syn_base::OutOfMemory;
 

@@ -1,9 +1,9 @@
 //! The bound on loops: the check numbers places with 32 bits.
 ghost use Rattle.std.specs.Prelude.{ℕ, ◌<◌, ◌^◌, ◌↔◌, IsTrue, length};
-ghost use Rattle.executive_program.specs.Instructions.{turn};
+ghost use Rattle.sequence_build_laws.specs.Instructions.{turn};
 
-use executive_program::Program;
 use program_walks::turn_of;
+use sequence_build_laws::Program;
 
 /// Whether each loop has fewer than 2^32 instructions, so that the check may be asked. A longer one is held by no
 /// memory of the machines that there are.

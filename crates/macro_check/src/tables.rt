@@ -2,11 +2,11 @@
 ghost use Rattle.std.specs.Prelude.{◌≡◌, IfOk};
 ghost use Rattle.macro_check.specs.Tabled.{AreTables};
 
-use executive_program::Program;
 use program_tables::{
     Crossing, MarkTable, PairTables, Reading, Role, communication_numbers, communication_places,
     find_communicators, find_crossings, find_marks, find_pairs, find_readings,
 };
+use sequence_build_laws::Program;
 use std::alloc::Global;
 use syn_base::{Items, OutOfMemory};
 

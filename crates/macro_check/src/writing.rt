@@ -9,11 +9,10 @@ ghost use Rattle.macro_check.specs.Tabled.{AreTables};
 use crate::carrying::{find_sources, origin_in};
 use crate::fitting::are_fitting;
 use crate::tables::Tables;
-use executive_program::Program;
-use flat_graph::Vertex;
 use order_check::Origin;
 use program_tables::{Crossing, are_buffers};
 use program_walks::len_of;
+use sequence_build_laws::{Program, Vertex};
 use std::alloc::Global;
 use syn_base::{Items, OutOfMemory};
 

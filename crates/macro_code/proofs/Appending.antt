@@ -3,8 +3,7 @@ use Rattle.std.proofs.Common.{◌≡◌, ℕ, suc, ◌+◌, ◌<◌, List, [], �
 use Rattle.std.specs.List.{flat_map}
 use Rattle.std.proofs.lemmas.List.{drop_more}
 use Rattle.std.proofs.lemmas.List.Concat.{flat_map-cons}
-use Rattle.syn_base.specs.Bytes.{Bytes}
-use Rattle.macro_code.specs.Text.{each_after_comma}
+use Rattle.syn_base.specs.Bytes.{Bytes, each_after_comma}
 
 -- one step more
 appended : {Y : Type 0} (one rest left old new whole : List Y) → left ≡ one ++ rest → new ≡ old ++ one → old ++ left ≡ whole → new ++ rest ≡ whole

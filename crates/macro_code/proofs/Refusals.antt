@@ -3,10 +3,9 @@ use Rattle.std.proofs.Common.{◌≡◌, [], ◌∷◌, ◌++◌, None, Ok, Err,
 use Rattle.std.specs.Prelude.{codes}
 use Rattle.syn_base.specs.declared.limits.LimitKind.TheVariants.{Words}
 use Rattle.macro_code.proofs.Rows.{code, buffer}
-use Rattle.macro_code.specs.declared.fault.CodeError.TheVariants.{Limit}
+use Rattle.text_lines.specs.Refusals.{Limit, refused}
 use Rattle.macro_code.specs.declared.fault.CodeCause.TheVariants.{BadLine, UnknownMacro, BadArgument, UnknownName}
 use Rattle.macro_code.specs.Forms.{macro_of}
-use Rattle.macro_code.specs.ReadText.{refused}
 use Rattle.macro_code.proofs.Texts.{plain, three}
 
 -- A byte is not allowed, or the line has none of the forms.

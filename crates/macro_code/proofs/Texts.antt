@@ -4,11 +4,12 @@ use Rattle.std.specs.Prelude.{codes}
 use Rattle.executive_program.specs.declared.program.Instr.TheVariants.{Suc0, Suc1, Pre0, Pre1, Call, Send, Sync}
 use Rattle.executive_program.specs.declared.program.Program.{Program}
 use Rattle.macro_code.proofs.Rows.{graph, medium, archi, code, buffer, plain_program, bus_program, speed_program, speed_names}
-use Rattle.macro_code.specs.declared.fault.CodeError.{CodeError}
+use Rattle.macro_code.specs.Refusals.{CodeRefusal}
 use Rattle.syn_base.specs.Bytes.{Bytes}
 use Rattle.macro_code.specs.Forms.{macro_of}
 use Rattle.macro_code.specs.declared.fault.CodeCause.TheVariants.{UnknownMacro}
-use Rattle.macro_code.specs.ReadText.{program_in, refused}
+use Rattle.macro_code.specs.ReadText.{program_in}
+use Rattle.text_lines.specs.Refusals.{refused}
 
 -- lines, each with its line feed
 abbrev pub text : List Bytes → Bytes
@@ -16,7 +17,7 @@ text [] = []
 text (l ∷ ls) = l ++ 10 ∷ text ls
 
 -- One operator.
-abbrev pub plain : List Bytes → Result Program CodeError
+abbrev pub plain : List Bytes → Result Program CodeRefusal
 plain ls = program_in (text ls) (graph (codes "s" ∷ codes "a" ∷ [])) (archi (codes "P" ∷ []) [])
 
 plain_text : plain (codes "processor_(P)" ∷ codes "semaphores_()" ∷ codes "alloc_(b0,1)" ∷ codes "main_" ∷ codes "loop_" ∷ codes "op s(;b0)" ∷ codes "op a(b0;)" ∷ codes "endloop_" ∷ codes "endmain_" ∷ []) ≡ Ok plain_program
@@ -38,7 +39,7 @@ no_processor : plain [] ≡ Ok (record { buffers = []; pairs = []; seqs = [] })
 no_processor = refl
 
 -- Two operators on a bus.
-abbrev pub bus : List Bytes → Result Program CodeError
+abbrev pub bus : List Bytes → Result Program CodeRefusal
 bus ls = program_in (text ls) (graph (codes "s" ∷ codes "f" ∷ codes "g" ∷ codes "a" ∷ codes "b" ∷ [])) (archi (codes "P" ∷ codes "Q" ∷ []) (medium (codes "bus") (0 ∷ 1 ∷ []) ∷ []))
 
 abbrev thread_p : List Bytes
@@ -84,7 +85,7 @@ unfolding macro_of
 mian = refl
 
 -- Buffers and pairs go by their numbers, not by the order of the processors; instructions of all kinds may stand before a loop; media are numbered by the architecture.
-abbrev pub three : List Bytes → Result Program CodeError
+abbrev pub three : List Bytes → Result Program CodeRefusal
 three ls = program_in (text ls) (graph (codes "d:get" ∷ codes "w.1/x" ∷ [])) (archi (codes "A" ∷ codes "B" ∷ codes "C" ∷ []) (medium (codes "x") (0 ∷ 1 ∷ 2 ∷ []) ∷ medium (codes "y") (0 ∷ 2 ∷ []) ∷ medium (codes "z") (0 ∷ 1 ∷ []) ∷ []))
 
 another_order : three (codes "processor_(A)" ∷ codes "semaphores_(1,3)" ∷ codes "alloc_(b2,5,4)" ∷ codes "alloc_(b3,7)"

@@ -197,7 +197,7 @@ abbrev pub each_in : (Bytes → Option ℕ) → List Bytes → Option (List ℕ)
 each_in read [] = Some []
 each_in read (w ∷ ws) = with_first (read w) (each_in read ws)
 
--- a length, which is at least 1, and places, of which there are 2 to 4
+-- A number from `least` to `most` is kept; any other, and none, give none.
 abbrev pub from_to : ℕ → ℕ → Option ℕ → Option ℕ
 from_to least most None = None
 from_to least most (Some n) = if nat_le least n && nat_le n most then Some n else None

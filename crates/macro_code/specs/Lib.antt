@@ -1,5 +1,5 @@
 pub mod Forms
-pub mod Given
 pub mod ReadText
+pub mod Refusals
 pub mod Macros
 pub mod Text

@@ -5,7 +5,6 @@ use Rattle.std.specs.Prelude.{
   ◌-◌,
   ◌*◌,
   max,
-  min,
   cond,
   Bool,
   true,
@@ -32,19 +31,17 @@ use Rattle.std.specs.Prelude.{
   is_none,
   Result,
   Ok,
-  Err,
   if◌then◌else◌,
 }
 use Rattle.std.specs.List.{list_any, range_with_len, sum_by}
 use Rattle.std.specs.Str.{bytes_eq}
-use Rattle.interleavings.specs.Owners.{sum_below}
-use Rattle.text_lines.specs.Text.{lines_of, words_of, code_of, foreign_place}
-use Rattle.syn_base.specs.Name.{is_name}
+use Rattle.text_lines.specs.Text.{lines_of, words_of, code_of, foreign_place, some_name}
+use Rattle.text_lines.specs.Refusals.{above, and_then, refused}
 use Rattle.syn_base.specs.Limits.{bound_of}
-use Rattle.syn_base.specs.declared.limits.LimitKind.{LimitKind}
 use Rattle.syn_base.specs.declared.limits.LimitKind.TheVariants.{Words, MicroSteps}
-use Rattle.flat_graph.specs.Graph.{Graph}
-use Rattle.archi_graph.specs.Archi.{Architecture, ascends_from}
+use Rattle.executive_program.specs.Owners.{sum_below}
+use Rattle.executive_program.specs.Graph.{Graph}
+use Rattle.executive_program.specs.Archi.{Architecture, ascends_from}
 use Rattle.executive_program.specs.declared.program.Instr.{Instr}
 use Rattle.executive_program.specs.declared.program.Instr.TheVariants as instr
 use Rattle.executive_program.specs.declared.program.Buffer.{Buffer}
@@ -74,9 +71,7 @@ use Rattle.macro_code.specs.declared.macros.Macro.TheVariants.{
   Recv,
   Sync,
 }
-use Rattle.macro_code.specs.declared.fault.CodeError.{CodeError}
-use Rattle.macro_code.specs.declared.fault.CodeError.TheVariants.{Refused, Limit}
-use Rattle.macro_code.specs.declared.fault.CodeCause.{CodeCause}
+use Rattle.macro_code.specs.Refusals.{CodeRefusal}
 use Rattle.macro_code.specs.declared.fault.CodeCause.TheVariants.{BadLine, UnknownMacro, BadArgument, UnknownName}
 use Rattle.macro_code.specs.declared.numbered.Numbered.{Numbered}
 use Rattle.macro_code.specs.declared.numbered.Size.{Size}
@@ -97,6 +92,7 @@ use Rattle.macro_code.specs.Forms.{
   Declaration,
   declaration_in,
 }
+use Rattle.syn_base.specs.Numbers.{lesser}
 
 -- What was read so far. Of the whole text: how far it got, the operator of the processor that began last, the pairs
 -- and the buffers that were declared with their operators and sizes, and the sequences of the processors that ended.
@@ -142,38 +138,25 @@ start = record {
   turn = [];
 }
 
--- The text is refused at this line for this cause.
-abbrev pub refused : {A : Type 0} → ℕ → CodeCause → Result A CodeError
-refused line cause = Err (Refused (record { line = line; cause = cause }))
-
--- The program is refused because its count is above the bound of this limit.
-abbrev pub above : {A : Type 0} → LimitKind → ℕ → Result A CodeError
-above which count = Err (Limit (record { which = which; count = count; bound = bound_of which }))
-
--- If a value was read, reading goes on with it; an error is final.
-abbrev pub and_then : {A B : Type 0} → Result A CodeError → (A → Result B CodeError) → Result B CodeError
-and_then (Ok x) go = go x
-and_then (Err e) go = Err e
-
 -- What there is. Where there is nothing, the form of an argument is wrong, the line has no form, or a name is unknown.
-abbrev pub argument : {A : Type 0} → ℕ → Option A → Result A CodeError
+abbrev pub argument : {A : Type 0} → ℕ → Option A → Result A CodeRefusal
 argument n None = refused n BadArgument
 argument n (Some x) = Ok x
 
 -- A name that was found gives what it names; if it was not found, line n is refused
 -- because the name w is unknown.
-abbrev pub known : {A : Type 0} → ℕ → Bytes → Option A → Result A CodeError
+abbrev pub known : {A : Type 0} → ℕ → Bytes → Option A → Result A CodeRefusal
 known n w None = refused n (UnknownName w)
 known n w (Some x) = Ok x
 
 -- A macro that was found is given; if it was not found, line n is refused because w is
 -- not the name of a macro.
-abbrev pub known_macro : ℕ → Bytes → Option Macro → Result Macro CodeError
+abbrev pub known_macro : ℕ → Bytes → Option Macro → Result Macro CodeRefusal
 known_macro n w None = refused n (UnknownMacro w)
 known_macro n w (Some m) = Ok m
 
 -- The form of a line is given; if it has none, line n is refused as a bad line.
-abbrev pub formed : ℕ → Option Form → Result Form CodeError
+abbrev pub formed : ℕ → Option Form → Result Form CodeRefusal
 formed n None = refused n BadLine
 formed n (Some f) = Ok f
 
@@ -183,7 +166,7 @@ Arguments = Option (List Bytes)
 
 -- A line without parentheses goes on; one with parentheses is refused for its
 -- arguments, even if nothing is between them.
-abbrev pub without : {A : Type 0} → ℕ → Arguments → Result A CodeError → Result A CodeError
+abbrev pub without : {A : Type 0} → ℕ → Arguments → Result A CodeRefusal → Result A CodeRefusal
 without n arguments go = if is_none arguments then go else refused n BadArgument
 
 -- This is the argument of a line that has exactly one, and none for any other line.
@@ -206,13 +189,9 @@ two_of (Some (w ∷ [])) = None
 two_of (Some (w ∷ v ∷ [])) = Some (record { first = w; second = v })
 two_of (Some (w ∷ v ∷ u ∷ ws)) = None
 
--- a word that is a name
-abbrev pub named : Bytes → Option Bytes
-named w = if is_name w then Some w else None
-
 -- one argument, which is a name
-abbrev pub name_of : ℕ → Arguments → Result Bytes CodeError
-name_of n arguments = and_then (argument n (one_of arguments)) (λ w. argument n (named w))
+abbrev pub name_of : ℕ → Arguments → Result Bytes CodeRefusal
+name_of n arguments = and_then (argument n (one_of arguments)) (λ w. argument n (some_name w))
 
 -- The name w is first found at this place of the list, counted from 0; it is none if
 -- the list does not have it.
@@ -243,11 +222,13 @@ first_unknown here [] = None
 first_unknown here (w ∷ ws) = if is_known here (buffer_in w) then first_unknown here ws else Some w
 
 -- If no name is unknown, reading goes on; otherwise line n is refused because of that name.
-abbrev pub unless_unknown : {A : Type 0} → ℕ → Option Bytes → Result A CodeError → Result A CodeError
+abbrev pub unless_unknown : {A : Type 0} → ℕ → Option Bytes → Result A CodeRefusal → Result A CodeRefusal
 unless_unknown n None go = go
 unless_unknown n (Some w) go = refused n (UnknownName w)
 
 -- Where a line may stand.
+
+-- No processor has begun, or the last one that began has ended.
 abbrev pub is_outside : Stage → Bool
 is_outside Outside = true
 is_outside _ = false
@@ -341,7 +322,9 @@ abbrev pub numbered : ℕ → ℕ → Numbered
 numbered line number = record { number = number; line = line }
 
 -- Lines of a known macro that may stand where they do.
--- semaphores_(q,q)
+
+-- What has been read with a line `semaphores_(q,q)` more, which has the number n and declares
+-- these pairs on the processor that began last.
 abbrev pub with_pairs : Reading → ℕ → List ℕ → Reading
 with_pairs r n qs =
     record r {
@@ -352,18 +335,18 @@ with_pairs r n qs =
     }
 
 -- Numbers that ascend strictly are kept; otherwise line n is refused for its arguments.
-abbrev pub ascending : ℕ → List ℕ → Result (List ℕ) CodeError
+abbrev pub ascending : ℕ → List ℕ → Result (List ℕ) CodeRefusal
 ascending n qs = if ascends_from 0 qs then Ok qs else refused n BadArgument
 
 -- A line `semaphores_` declares these pairs, which may be none; it is refused for its arguments
 -- if it has no parentheses, if one is not a number, or if they do not ascend.
-abbrev pub pairs_of : ℕ → Arguments → Result (List ℕ) CodeError
+abbrev pub pairs_of : ℕ → Arguments → Result (List ℕ) CodeRefusal
 pairs_of n arguments =
     and_then (argument n arguments) (λ ws. and_then (argument n (each_in number_in ws)) (λ qs. ascending n qs))
 
 -- This is what was read after line n, a line `semaphores_` with these arguments, or
 -- the refusal of the line.
-abbrev pub semaphores_line : Reading → ℕ → Arguments → Result Reading CodeError
+abbrev pub semaphores_line : Reading → ℕ → Arguments → Result Reading CodeRefusal
 semaphores_line r n arguments = and_then (pairs_of n arguments) (λ qs. Ok (with_pairs r n qs))
 
 -- alloc_(bN,LEN) and alloc_(bN,LEN,PLACES)
@@ -375,7 +358,7 @@ with_buffer r n d = record r {
 }
 
 -- above those that are declared here
-abbrev pub declaration_of : ℕ → List ℕ → Arguments → Result Declaration CodeError
+abbrev pub declaration_of : ℕ → List ℕ → Arguments → Result Declaration CodeRefusal
 declaration_of n here arguments =
     and_then (argument n arguments) (λ ws.
     and_then (argument n (declaration_in ws)) (λ d.
@@ -383,31 +366,31 @@ declaration_of n here arguments =
 
 -- This is what was read after line n, a line `alloc_` with these arguments, or the
 -- refusal of the line.
-abbrev pub alloc_line : Reading → ℕ → Arguments → Result Reading CodeError
+abbrev pub alloc_line : Reading → ℕ → Arguments → Result Reading CodeRefusal
 alloc_line r n arguments = and_then (declaration_of n r.buffers_here arguments) (λ d. Ok (with_buffer r n d))
 
 -- main_
-abbrev pub main_line : Reading → ℕ → Arguments → Result Reading CodeError
+abbrev pub main_line : Reading → ℕ → Arguments → Result Reading CodeRefusal
 main_line r n arguments =
     without n arguments (Ok (record r { stage = Prologue; medium = None; spawned = []; awaited = [] }))
 
 -- loop_, endloop_, endthread_ and endmain_
-abbrev pub loop_line : Reading → ℕ → Arguments → Result Reading CodeError
+abbrev pub loop_line : Reading → ℕ → Arguments → Result Reading CodeRefusal
 loop_line r n arguments = without n arguments (Ok (record r { stage = Turn }))
 
 -- This is what was read after line n, a line `endloop_`, or its refusal if it has arguments.
-abbrev pub end_loop_line : Reading → ℕ → Arguments → Result Reading CodeError
+abbrev pub end_loop_line : Reading → ℕ → Arguments → Result Reading CodeRefusal
 end_loop_line r n arguments = without n arguments (Ok (record r { stage = Ended }))
 
 -- This is what was read after line n, a line `endthread_` with which a thread of the
 -- processor ends, or its refusal if it has arguments.
-abbrev pub end_thread_line : Reading → ℕ → Arguments → Result Reading CodeError
+abbrev pub end_thread_line : Reading → ℕ → Arguments → Result Reading CodeRefusal
 end_thread_line r n arguments =
     without n arguments
     (Ok (record r { stage = Threaded; threads = r.threads ++ code_here r ∷ []; prologue = []; turn = [] }))
 
 -- of a processor the main part comes first, and then the threads
-abbrev pub end_main_line : Reading → ℕ → Arguments → Result Reading CodeError
+abbrev pub end_main_line : Reading → ℕ → Arguments → Result Reading CodeRefusal
 end_main_line r n arguments = without n arguments (Ok (record r {
   stage = Outside;
   seqs = r.seqs ++ (code_here r ∷ r.threads);
@@ -417,7 +400,7 @@ end_main_line r n arguments = without n arguments (Ok (record r {
 }))
 
 -- Suc0_(q) and its like, of a pair that is declared here
-abbrev pub pair_of : ℕ → List ℕ → Arguments → Result ℕ CodeError
+abbrev pub pair_of : ℕ → List ℕ → Arguments → Result ℕ CodeRefusal
 pair_of n here arguments =
     and_then (argument n (one_of arguments)) (λ w.
     and_then (argument n (number_in w)) (λ q.
@@ -425,11 +408,11 @@ pair_of n here arguments =
 
 -- This is what was read after line n, whose instruction `make` makes of the pair that
 -- it names, or the refusal of the line.
-abbrev pub pair_line : Reading → ℕ → (ℕ → Instr) → Arguments → Result Reading CodeError
+abbrev pub pair_line : Reading → ℕ → (ℕ → Instr) → Arguments → Result Reading CodeRefusal
 pair_line r n make arguments = and_then (pair_of n r.pairs_here arguments) (λ q. Ok (with_instr r (make q)))
 
 -- a buffer that is declared here
-abbrev pub declared_buffer : ℕ → List ℕ → Bytes → ℕ → Result ℕ CodeError
+abbrev pub declared_buffer : ℕ → List ℕ → Bytes → ℕ → Result ℕ CodeRefusal
 declared_buffer n here w b = if is_among here b then Ok b else refused n (UnknownName w)
 
 -- a medium by its name and its number
@@ -454,11 +437,11 @@ module _ (a : Architecture) where
 
   -- The operator of the name w has this number; if there is none, line n is refused
   -- because the name is unknown.
-  abbrev pub operator_of : ℕ → Bytes → Result ℕ CodeError
+  abbrev pub operator_of : ℕ → Bytes → Result ℕ CodeRefusal
   operator_of n w = known n w (place_in a.operators w)
 
   -- processor_(OPERATOR), above the last one
-  abbrev pub processor_of : ℕ → Option ℕ → Arguments → Result ℕ CodeError
+  abbrev pub processor_of : ℕ → Option ℕ → Arguments → Result ℕ CodeRefusal
   processor_of n last arguments =
       and_then (name_of n arguments) (λ w.
       and_then (operator_of n w) (λ o.
@@ -470,11 +453,11 @@ module _ (a : Architecture) where
 
   -- This is what was read after line n, a line `processor_` with these arguments, or
   -- the refusal of the line.
-  abbrev pub processor_line : Reading → ℕ → Arguments → Result Reading CodeError
+  abbrev pub processor_line : Reading → ℕ → Arguments → Result Reading CodeRefusal
   processor_line r n arguments = and_then (processor_of n r.operator arguments) (λ o. Ok (at_processor r o))
 
   -- a medium that is above the last one of these
-  abbrev pub medium_of : ℕ → List ℕ → Arguments → Result Joined CodeError
+  abbrev pub medium_of : ℕ → List ℕ → Arguments → Result Joined CodeRefusal
   medium_of n media arguments =
       and_then (name_of n arguments) (λ w.
       and_then (known n w (place_in medium_names w)) (λ m.
@@ -486,60 +469,60 @@ module _ (a : Architecture) where
 
   -- This is what was read after line n, a line `thread_` with these arguments, or the
   -- refusal of the line.
-  abbrev pub thread_line : Reading → ℕ → Arguments → Result Reading CodeError
+  abbrev pub thread_line : Reading → ℕ → Arguments → Result Reading CodeRefusal
   thread_line r n arguments = and_then (medium_of n r.media arguments) (λ j. Ok (at_thread r j.medium))
 
   -- spawn_thread_(MEDIUM) and wait_endthread_(MEDIUM): a medium that is above the last one of these, and at which the
   -- processor has a thread
-  abbrev pub thread_of : ℕ → List ℕ → List ℕ → Arguments → Result ℕ CodeError
+  abbrev pub thread_of : ℕ → List ℕ → List ℕ → Arguments → Result ℕ CodeRefusal
   thread_of n threads media arguments =
       and_then (medium_of n media arguments) (λ j.
       if is_among threads j.medium then Ok j.medium else refused n (UnknownName j.word))
 
   -- This is what was read after line n, a line `spawn_thread_` with these arguments,
   -- or the refusal of the line.
-  abbrev pub spawn_line : Reading → ℕ → Arguments → Result Reading CodeError
+  abbrev pub spawn_line : Reading → ℕ → Arguments → Result Reading CodeRefusal
   spawn_line r n arguments =
       and_then (thread_of n r.media r.spawned arguments) (λ m. Ok (record r { spawned = r.spawned ++ m ∷ [] }))
 
   -- This is what was read after line n, a line `wait_endthread_` with these arguments,
   -- or the refusal of the line.
-  abbrev pub wait_line : Reading → ℕ → Arguments → Result Reading CodeError
+  abbrev pub wait_line : Reading → ℕ → Arguments → Result Reading CodeRefusal
   wait_line r n arguments =
       and_then (thread_of n r.media r.awaited arguments) (λ m. Ok (record r { awaited = r.awaited ++ m ∷ [] }))
 
   -- send_(bN,TO) and recv_(bN,FROM)
-  abbrev pub moved_of : ℕ → List ℕ → Arguments → Result Moved CodeError
+  abbrev pub moved_of : ℕ → List ℕ → Arguments → Result Moved CodeRefusal
   moved_of n here arguments =
       and_then (argument n (two_of arguments)) (λ t.
       and_then (argument n (buffer_in t.first)) (λ b.
-      and_then (argument n (named t.second)) (λ _.
+      and_then (argument n (some_name t.second)) (λ _.
       and_then (declared_buffer n here t.first b) (λ _.
       and_then (operator_of n t.second) (λ o. Ok (record { buffer = b; operator = o }))))))
 
   -- This is what was read after line n, whose instruction `make` makes of the buffer
   -- and the operator that it names, or the refusal of the line.
-  abbrev pub transfer_line : Reading → ℕ → (ℕ → ℕ → Instr) → Arguments → Result Reading CodeError
+  abbrev pub transfer_line : Reading → ℕ → (ℕ → ℕ → Instr) → Arguments → Result Reading CodeRefusal
   transfer_line r n make arguments =
       and_then (moved_of n r.buffers_here arguments) (λ t. Ok (with_instr r (make t.buffer t.operator)))
 
   -- sync_(FROM,TO)
-  abbrev pub ends_of : ℕ → Arguments → Result Ends CodeError
+  abbrev pub ends_of : ℕ → Arguments → Result Ends CodeRefusal
   ends_of n arguments =
       and_then (argument n (two_of arguments)) (λ t.
-      and_then (argument n (named t.first)) (λ _.
-      and_then (argument n (named t.second)) (λ _.
+      and_then (argument n (some_name t.first)) (λ _.
+      and_then (argument n (some_name t.second)) (λ _.
       and_then (operator_of n t.first) (λ from.
       and_then (operator_of n t.second) (λ to. Ok (record { from = from; to = to }))))))
 
   -- This is what was read after line n, a line `sync_` with these arguments, or the
   -- refusal of the line.
-  abbrev pub sync_line : Reading → ℕ → Arguments → Result Reading CodeError
+  abbrev pub sync_line : Reading → ℕ → Arguments → Result Reading CodeRefusal
   sync_line r n arguments = and_then (ends_of n arguments) (λ e. Ok (with_instr r (instr.Sync e.from e.to)))
 
   -- This is what was read after line n, a line of this macro that may come next, or
   -- the refusal of the line for its arguments or for a name.
-  abbrev pub macro_line : Reading → ℕ → Arguments → Macro → Result Reading CodeError
+  abbrev pub macro_line : Reading → ℕ → Arguments → Macro → Result Reading CodeRefusal
   macro_line r n arguments Processor = processor_line r n arguments
   macro_line r n arguments Semaphores = semaphores_line r n arguments
   macro_line r n arguments Alloc = alloc_line r n arguments
@@ -560,12 +543,12 @@ module _ (a : Architecture) where
   macro_line r n arguments Sync = sync_line r n arguments
 
   -- A macro that stands where it may not is refused before its arguments, and an unknown one wherever it stands.
-  abbrev pub placed_line : Reading → ℕ → Arguments → Macro → Result Reading CodeError
+  abbrev pub placed_line : Reading → ℕ → Arguments → Macro → Result Reading CodeRefusal
   placed_line r n arguments m = if may_stand r m then macro_line r n arguments m else refused n BadLine
 
   -- This is what was read after line n, which begins with this name, or the refusal of the line:
   -- first if it names no macro, then if that may not come next, then for its arguments.
-  abbrev pub named_line : Reading → ℕ → Bytes → Arguments → Result Reading CodeError
+  abbrev pub named_line : Reading → ℕ → Bytes → Arguments → Result Reading CodeRefusal
   named_line r n name arguments = and_then (known_macro n name (macro_of name)) (placed_line r n arguments)
 
 -- The operations of the flat graph have these names, by number.
@@ -575,7 +558,7 @@ operation_names g = map (λ x. x.name) g.vertices
 -- Where the operations have these names.
 module _ (operations : List Bytes) where
   -- op OPERATION(INS;OUTS)
-  abbrev pub call_of : ℕ → List ℕ → Bytes → List Bytes → List Bytes → Result Instr CodeError
+  abbrev pub call_of : ℕ → List ℕ → Bytes → List Bytes → List Bytes → Result Instr CodeRefusal
   call_of n here operation ins outs =
       and_then (argument n (each_in buffer_in ins)) (λ is.
       and_then (argument n (each_in buffer_in outs)) (λ os.
@@ -586,7 +569,7 @@ module _ (operations : List Bytes) where
 
   -- This is what was read after line n, a call of this operation on these buffers, or the
   -- refusal of the line; it is a bad line if no instruction may come next.
-  abbrev pub call_line : Reading → ℕ → Bytes → List Bytes → List Bytes → Result Reading CodeError
+  abbrev pub call_line : Reading → ℕ → Bytes → List Bytes → List Bytes → Result Reading CodeRefusal
   call_line r n operation ins outs =
       if takes_instr r then and_then (call_of n r.buffers_here operation ins outs) (λ x. Ok (with_instr r x))
       else refused n BadLine
@@ -613,13 +596,7 @@ first_wrong count before (d ∷ ds) =
 abbrev pub misnumbered : List Numbered → Option ℕ
 misnumbered ds = first_wrong (length ds) [] ds
 
--- the lesser of two lines, each of which may be none
-abbrev pub earlier : Option ℕ → Option ℕ → Option ℕ
-earlier None m = m
-earlier (Some n) None = Some n
-earlier (Some n) (Some m) = Some (min n m)
-
--- the buffer and the operator of the pair that were declared with a number
+-- The size of a buffer that was not declared: operator 0, without elements and places.
 abbrev pub no_size : Size
 no_size = record { operator = 0; len = 0; depth = 0 }
 
@@ -651,7 +628,8 @@ program_of r = record {
   seqs = r.seqs;
 }
 
--- the wire of a medium: as long as the longest buffer that a send of its threads names, before a loop or inside it
+-- The longest buffer that a send of this sequence names, before its loop or in it, has this many
+-- elements; it is 0 if it sends none, or is no communicator of medium m.
 abbrev pub longest_in : Program → ℕ → SeqCode → ℕ
 longest_in p m q = cond (is_on m q.seq.medium) (max (longest_sent p q.prologue) (longest_sent p q.turn)) 0
 
@@ -670,59 +648,60 @@ wire_len p m = longest_on p m p.seqs
 abbrev pub words : Program → ℕ → ℕ
 words p media = 2 * length p.pairs + media + sum_by (λ x. x.depth * x.len) p.buffers + sum_below (wire_len p) media
 
--- first the limit on words, then that on the micro-steps of the loops in one reaction
-abbrev pub within_steps : Program → Result Program CodeError
+-- A program within the limit on the micro-steps that its loops make in one reaction is kept;
+-- otherwise it is refused by that limit.
+abbrev pub within_steps : Program → Result Program CodeRefusal
 within_steps p = if nat_lt (bound_of MicroSteps) (all_turns p) then above MicroSteps (all_turns p) else Ok p
 
 -- A program within the limits on words and on micro-steps of a reaction is kept;
 -- otherwise it is refused by the first limit, words first.
-abbrev pub limited : ℕ → Program → Result Program CodeError
+abbrev pub limited : ℕ → Program → Result Program CodeRefusal
 limited media p = if nat_lt (bound_of Words) (words p media) then above Words (words p media) else within_steps p
 
 -- This is the first line that declares a pair or a buffer with a wrong number; it is
 -- none if pairs and buffers each use the numbers from 0 on, each once.
 abbrev pub first_misnumbered : Reading → Option ℕ
-first_misnumbered r = earlier (misnumbered r.pairs) (misnumbered r.buffers)
+first_misnumbered r = lesser (misnumbered r.pairs) (misnumbered r.buffers)
 
 -- If a line has a wrong number, the text is refused there; otherwise this is its
 -- program, or the limit that it is above.
-abbrev pub counted : ℕ → Reading → Option ℕ → Result Program CodeError
+abbrev pub counted : ℕ → Reading → Option ℕ → Result Program CodeRefusal
 counted media r (Some line) = refused line BadArgument
 counted media r None = limited media (program_of r)
 
 -- The whole, of which all lines are numbered below n: the last processor has ended; buffers and pairs use the numbers
 -- from 0 on, each once; the limits hold.
-abbrev pub whole : ℕ → Reading → ℕ → Result Program CodeError
+abbrev pub whole : ℕ → Reading → ℕ → Result Program CodeRefusal
 whole media r n = if is_outside r.stage then counted media r (first_misnumbered r) else refused n BadLine
 
 module _ (operations : List Bytes) (a : Architecture) where
   -- This is what was read after line n of this form, or the refusal of the line.
-  abbrev pub line_of : Reading → ℕ → Form → Result Reading CodeError
+  abbrev pub line_of : Reading → ℕ → Form → Result Reading CodeRefusal
   line_of r n (bare name) = named_line a r n name None
   line_of r n (listed name list) = named_line a r n name (Some (arguments_of list))
   line_of r n (call operation ins outs) = call_line operations r n operation (arguments_of ins) (arguments_of outs)
 
   -- a line with these words
-  abbrev pub words_line : Reading → ℕ → List Bytes → Result Reading CodeError
+  abbrev pub words_line : Reading → ℕ → List Bytes → Result Reading CodeRefusal
   words_line r n ws = and_then (formed n (form_of ws)) (line_of r n)
 
   -- a line without words says nothing
-  abbrev pub line_by : Reading → ℕ → Bytes → Option ℕ → Result Reading CodeError
+  abbrev pub line_by : Reading → ℕ → Bytes → Option ℕ → Result Reading CodeRefusal
   line_by r n line (Some place) = refused n BadLine
   line_by r n line None =
       if nat_eq (length (words_of (code_of line))) 0 then Ok r else words_line r n (words_of (code_of line))
 
   -- This is what was read after line n, or the refusal of the line; a byte that no
   -- line may have refuses it first.
-  abbrev pub next_line : Reading → ℕ → Bytes → Result Reading CodeError
+  abbrev pub next_line : Reading → ℕ → Bytes → Result Reading CodeRefusal
   next_line r n line = line_by r n line (foreign_place line)
 
   -- A text whose lines from line n on are these says this program after what was read,
   -- or has this first refusal.
-  abbrev pub rest_of : Reading → ℕ → List Bytes → Result Program CodeError
+  abbrev pub rest_of : Reading → ℕ → List Bytes → Result Program CodeRefusal
   rest_of r n [] = whole (length a.media) r n
   rest_of r n (line ∷ lines) = and_then (next_line r n line) (λ after. rest_of after (n + 1) lines)
 
 -- what the bytes of a text say
-abbrev pub program_in : Bytes → Graph → Architecture → Result Program CodeError
+abbrev pub program_in : Bytes → Graph → Architecture → Result Program CodeRefusal
 program_in text g a = rest_of (operation_names g) a start 1 (lines_of text)

@@ -20,11 +20,11 @@ use Rattle.std.specs.Prelude.{
 }
 use Rattle.std.specs.Fmt.{decimal}
 use Rattle.std.specs.List.{flat_map}
-use Rattle.syn_base.specs.Bytes.{Bytes}
-use Rattle.flat_graph.specs.declared.vertex.Vertex.{Vertex}
-use Rattle.flat_graph.specs.Graph.{Graph, with_vertex}
-use Rattle.archi_graph.specs.declared.medium.Medium.{Medium}
-use Rattle.archi_graph.specs.Archi.{Architecture}
+use Rattle.syn_base.specs.Bytes.{Bytes, each_after_comma}
+use Rattle.executive_program.specs.declared.Vertex.{Vertex}
+use Rattle.executive_program.specs.Graph.{Graph, with_vertex}
+use Rattle.executive_program.specs.declared.Medium.{Medium}
+use Rattle.executive_program.specs.Archi.{Architecture, name_or_none}
 use Rattle.executive_program.specs.declared.program.Instr.{Instr}
 use Rattle.executive_program.specs.declared.program.Instr.TheVariants.{Suc0, Suc1, Pre0, Pre1, Call, Send, Recv, Sync}
 use Rattle.executive_program.specs.declared.program.Buffer.{Buffer}
@@ -43,11 +43,6 @@ pub record Names : Type 0 where
 
 abbrev pub names_of : Named → Names
 names_of n = record { vertices = n.vertices.now; operators = n.operators.now; media = n.media.now }
-
--- a comma before each
-abbrev pub each_after_comma : List Bytes → Bytes
-each_after_comma [] = []
-each_after_comma (w ∷ ws) = (codes "," ++ w) ++ each_after_comma ws
 
 -- joined by commas
 abbrev pub joined : List Bytes → Bytes
@@ -90,11 +85,6 @@ pairs_on o q (x ∷ xs) = cond (nat_eq x o) (q ∷ []) [] ++ pairs_on o (suc q) 
 abbrev pub declarations : ℕ → List ℕ → List Buffer → Bytes
 declarations o pairs buffers = line macros.Semaphores (map decimal (pairs_on o 0 pairs)) ++ alloc_lines o 0 buffers
 
--- A medium has this name, which is empty if there is no medium.
-abbrev pub medium_in : Option Medium → Bytes
-medium_in None = []
-medium_in (Some m) = m.name
-
 module _ (n : Names) where
   -- what is not there has an empty name
   abbrev pub operation_name : ℕ → Bytes
@@ -106,7 +96,7 @@ module _ (n : Names) where
 
   -- A medium has this name, which is empty if there is no medium of this number.
   abbrev pub medium_name : ℕ → Bytes
-  medium_name m = medium_in (slice_get n.media m)
+  medium_name m = name_or_none (slice_get n.media m)
 
   -- an operation with the buffers that it reads and those that it writes
   abbrev pub call_line : ℕ → List ℕ → List ℕ → Bytes

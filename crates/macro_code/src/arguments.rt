@@ -2,7 +2,8 @@
 ghost use Rattle.std.specs.Prelude.{◌≡◌, ◌++◌, ◌∷◌, [], OnOk, codes, map};
 ghost use Rattle.std.specs.Fmt.{decimal};
 ghost use Rattle.macro_code.specs.Macros.{word_of};
-ghost use Rattle.macro_code.specs.Text.{buffer_name, each_after_comma, joined, line, word_line};
+ghost use Rattle.macro_code.specs.Text.{buffer_name, joined, line, word_line};
+ghost use Rattle.syn_base.specs.Bytes.{each_after_comma};
 
 use crate::macros::Macro;
 use syn_base::{OutOfMemory, append, append_count};

@@ -4,9 +4,7 @@ ghost use Rattle.macro_code.specs.Text.{macro_code, names_of, processors_from};
 
 use crate::named::Named;
 use crate::processor::append_processor;
-use archi_graph::Archi;
-use executive_program::Program;
-use flat_graph::Flat;
+use executive_program::{Archi, Flat, Program};
 use std::alloc::Global;
 use syn_base::OutOfMemory;
 

@@ -2,8 +2,8 @@
 //! `code` writes it, and definitions say what a text of macro-code says: its program, or its first refusal.
 //!
 //! `Macro` has the names of the macros. `specs/Forms` has the forms of a line and of its arguments,
-//! `specs/ReadText` what is read line by line and the program that it gives, `specs/Given` how what a reader
-//! returns stands to that. In code there are the refusals and the types that definitions and readers share.
+//! `specs/ReadText` what is read line by line and the program that it gives. In code there are the causes of a
+//! refusal and the types that definitions and readers share.
 //! `code_lines` and `code_reader` read such texts, and the commands print their refusals.
 #![tactic(auto)]
 

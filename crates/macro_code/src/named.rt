@@ -2,8 +2,7 @@
 ghost use Rattle.std.specs.Prelude.{◌≡◌};
 ghost use Rattle.macro_code.specs.Text.{medium_name, names_of, operation_name, operator_name};
 
-use archi_graph::Medium;
-use flat_graph::Vertex;
+use executive_program::{Medium, Vertex};
 use syn_base::Name;
 
 /// The operations, the operators' names and the media, by number.

@@ -2,15 +2,16 @@
 use Rattle.std.proofs.Common.{◌≡◌, ℕ, zero, suc, ◌<◌, List, [], ◌∷◌, ◌++◌, length, map, false, slice_index_or, codes, refl, sym, subst, arith}
 use Rattle.std.proofs.lemmas.List.{map-append}
 use Rattle.std.specs.Str.{bytes_eq}
-use Rattle.level_meaning.specs.declared.part.Part.{Part}
-use Rattle.level_meaning.specs.declared.part.Part.TheVariants.{Named}
-use Rattle.level_meaning.specs.Level.{Node, same_part, numbers_below}
-use Rattle.level_meaning.specs.Parts.{IsApart, HasDistinctParts}
+use Rattle.algo_tree.specs.declared.Part.{Part}
+use Rattle.algo_tree.specs.declared.Part.TheVariants.{Named}
+use Rattle.algo_tree.specs.Level.{Node, same_part}
+use Rattle.algo_tree.specs.Parts.{IsApart, HasDistinctParts}
 use Rattle.algo_tree.specs.Tree.{Label, Vertices}
 use Rattle.algo_tree.specs.Well.{IsNewName, AreDistinctNames}
 use Rattle.multi_period.specs.declared.mark.Mark.{Mark}
 use Rattle.multi_period.specs.Marks.{IsMark}
 use Rattle.multi_period.proofs.Inner.{kid, heart, level}
+use Rattle.syn_base.specs.Numbers.{numbers_below}
 
 -- each of these differs from y
 abbrev AllBut : Node → List Node → Type 0

@@ -1,6 +1,5 @@
 -- How many operations a marked reference becomes.
 use Rattle.std.proofs.Common.{◌≡◌, ℕ, zero, suc, ◌+◌, ◌-◌, ◌*◌, ◌≤◌, List, [], ◌∷◌, length, map, replicate, refl, sym, ap, ◌∙◌, arith, Option, Some, None, subst}
-use Rattle.level_meaning.specs.Level.{numbers_below}
 use Rattle.algo_tree.specs.Tree.{Label, Vertex, vertex, Vertices, no_vertices, and_vertex}
 use Rattle.algo_tree.specs.Meaning.{vertices_in}
 use Rattle.algo_tree.specs.Valid.{IsTree}
@@ -12,6 +11,7 @@ use Rattle.multi_period.specs.Marks.{mark_at, IsMark, MayHave, AreMarked}
 use Rattle.multi_period.specs.Periods.{turns, keep, body, period_by, all_periods}
 use Rattle.multi_period.specs.Laws.{PeriodCounts, added_by, added, PeriodsCount}
 use Rattle.multi_period.proofs.Lists.{long_below}
+use Rattle.syn_base.specs.Numbers.{numbers_below}
 
 long_numbers : (n : ℕ) → length (numbers_below n) ≡ n
 long_numbers n = sym (long_map_id (numbers_below n)) ∙ long_below (λ i. i) n

@@ -1,12 +1,12 @@
 -- In the made tree sensors and actuators stand where they stood.
 use Rattle.std.proofs.Common.{◌≡◌, ℕ, suc, List, [], ◌∷◌, ◌++◌, length, map, Option, Some, None, refl, sym, ap, ◌∙◌, subst}
-use Rattle.level_meaning.specs.Level.{numbers_below}
 use Rattle.algo_tree.specs.Tree.{Label, Kind, sensor, actuator, constant, delay, function, explode, implode, merge, graph, switch, repeat, Vertex, vertex, Vertices, no_vertices, and_vertex}
 use Rattle.algo_tree.specs.View.{vertices_of}
 use Rattle.algo_tree.specs.Ends.{IsNoEnd, AllNoEnds, NoneInside, sensor_number, actuator_number, sensor_numbers, actuator_numbers, AreEndsNumbered}
 use Rattle.multi_period.specs.declared.mark.Mark.{Mark}
 use Rattle.multi_period.specs.Marks.{IsMarkable, AreMarked, MayHave}
 use Rattle.multi_period.specs.Periods.{keep, body, period_by, all_periods}
+use Rattle.syn_base.specs.Numbers.{numbers_below}
 
 no_end : (k : Kind) → IsMarkable k → IsNoEnd k
 no_end (function es) h = tt

@@ -2,11 +2,11 @@
 use Rattle.std.proofs.Common.{◌≡◌, pos, ℕ, suc, ◌%◌, ◌==◌, ◌<◌, List, [], ◌∷◌, ◌++◌, length, map, drop, Bool, true, false, cond, slice_index_or, codes, refl, sym, ap, ap₂, ◌∙◌, append-nil, arith}
 use Rattle.std.proofs.lemmas.List.{map-append}
 use mathlib.Core.Path.{fun_ext}
-use Rattle.level_meaning.specs.declared.source.Source.{Source}
-use Rattle.level_meaning.specs.declared.source.Source.TheVariants.{Of}
-use Rattle.level_meaning.specs.declared.part.Part.TheVariants.{Named, Numbered}
-use Rattle.level_meaning.specs.Level.{Values, Vector, State, Path, Node, below, vector_at, numbers_below, source_value, with_node, node_outputs, node_next, out, level_value, case_look, case_outputs, graph_outputs, graph_next, switch_outputs, switch_next}
-use Rattle.level_meaning.specs.Parts.{HasDistinctParts}
+use Rattle.algo_tree.specs.declared.Source.{Source}
+use Rattle.algo_tree.specs.declared.Source.TheVariants.{Of}
+use Rattle.algo_tree.specs.declared.Part.TheVariants.{Named, Numbered}
+use Rattle.algo_tree.specs.Level.{State, Path, Node, below, source_value, with_node, node_outputs, node_next, out, level_value, case_look, case_outputs, graph_outputs, graph_next, switch_outputs, switch_next}
+use Rattle.algo_tree.specs.Parts.{HasDistinctParts}
 use Rattle.algo_tree.specs.Tree.{Label, Vertices}
 use Rattle.algo_tree.specs.Meaning.{kind_outputs, kind_next, node, nodes}
 use Rattle.algo_tree.specs.View.{vertices_of}
@@ -18,6 +18,8 @@ use Rattle.multi_period.specs.Periods.{count, keep_name, keep, inputs_from, run,
 use Rattle.multi_period.proofs.Lists.{map_map, long_append, long_below, map_below, at_below, past_below, all_below, inputs_are}
 use Rattle.multi_period.proofs.Turns.{counts, turn, count_first}
 use Rattle.multi_period.proofs.Found.{found_at}
+use Rattle.syn_base.specs.Vectors.{Vector, Values, vector_at}
+use Rattle.syn_base.specs.Numbers.{numbers_below}
 
 module _ (m : Mark) (l : Label) (us : Vertices) where
   abbrev pub q : ℕ

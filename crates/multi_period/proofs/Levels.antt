@@ -1,15 +1,16 @@
 -- The main graph as it is in a reaction, and as it is made: the same nodes at the same places.
 use Rattle.std.proofs.Common.{◌≡◌, ℕ, zero, suc, ◌<◌, List, [], ◌∷◌, length, Bool, false, Option, Some, None, slice_get, refl, sym, ap, ◌∙◌, subst}
 use mathlib.Core.Path.{fun_ext}
-use Rattle.level_meaning.specs.declared.part.Part.{Part}
-use Rattle.level_meaning.specs.Level.{Values, Node, same_part, with_node}
-use Rattle.level_meaning.specs.Order.{is_ready, settled, IsAcyclic}
-use Rattle.level_meaning.specs.Parts.{IsApart, HasDistinctParts}
+use Rattle.algo_tree.specs.declared.Part.{Part}
+use Rattle.algo_tree.specs.Level.{Node, same_part, with_node}
+use Rattle.algo_tree.specs.Order.{is_ready, settled, IsAcyclic}
+use Rattle.algo_tree.specs.Parts.{IsApart, HasDistinctParts}
 use Rattle.algo_tree.specs.Tree.{Vertex, vertex, Vertices, no_vertices, and_vertex}
 use Rattle.algo_tree.specs.Meaning.{node, nodes}
 use Rattle.multi_period.specs.declared.mark.Mark.{Mark}
 use Rattle.multi_period.specs.Meaning.{held_by, holding}
 use Rattle.multi_period.specs.Periods.{period_by, all_periods}
+use Rattle.syn_base.specs.Vectors.{Values}
 
 abbrev pub vertex_at : Vertices → ℕ → Option Vertex
 vertex_at no_vertices r = None

@@ -1,8 +1,8 @@
 -- The main graph of a valid tree.
 use Rattle.std.proofs.Common.{◌≡◌, ℕ, zero, suc, List, [], Option, Some, None, refl, sym, ap, ◌∙◌, subst}
-use Rattle.level_meaning.specs.Level.{Values, State, Path, below}
-use Rattle.level_meaning.specs.Order.{IsAcyclic}
-use Rattle.level_meaning.specs.Parts.{HasDistinctParts}
+use Rattle.algo_tree.specs.Level.{State, Path, below}
+use Rattle.algo_tree.specs.Order.{IsAcyclic}
+use Rattle.algo_tree.specs.Parts.{HasDistinctParts}
 use Rattle.algo_tree.specs.Tree.{Label, Kind, graph, Vertex, vertex, Vertices, no_vertices, and_vertex}
 use Rattle.algo_tree.specs.Meaning.{nodes, vertices_in, act_row}
 use Rattle.algo_tree.specs.Typed.{IsKindTyped, IsBodyTyped, AllTyped, outs_of}
@@ -17,6 +17,7 @@ use Rattle.multi_period.proofs.Reference.{Able, Rel}
 use Rattle.multi_period.proofs.Levels.{vertex_at}
 use Rattle.multi_period.proofs.Wide.{wide}
 use Rattle.multi_period.proofs.Whole.{as_main, taken, kept, always}
+use Rattle.syn_base.specs.Vectors.{Values}
 
 abbrev IsKindTypedAt : Kind → Label → Vertices → Type 0
 IsKindTypedAt k l us = IsKindTyped k [] l.outs (outs_of us) (λ own outs. AllTyped own outs us) (λ fed. IsBodyTyped fed us)

@@ -4,7 +4,6 @@ use Rattle.std.proofs.lemmas.List.{map-append}
 use Rattle.std.specs.List.{list_all}
 use Rattle.std.proofs.lemmas.Bool.{and_parts}
 use Rattle.syn_base.specs.Name.{is_name_byte, begins_name}
-use Rattle.level_meaning.specs.Level.{numbers_below}
 use Rattle.algo_tree.specs.Tree.{Label, Vertex, vertex, Vertices, no_vertices, and_vertex}
 use Rattle.algo_tree.specs.Meaning.{vertices_in}
 use Rattle.algo_tree.specs.View.{vertices_of}
@@ -14,6 +13,7 @@ use Rattle.multi_period.specs.declared.mark.Mark.{Mark}
 use Rattle.multi_period.specs.Marks.{mark_at, IsMark, MayHave, AreMarked}
 use Rattle.multi_period.specs.Periods.{keep, body, period, period_by, all_periods, periods}
 use Rattle.multi_period.specs.Named.{AreNamed, MarkNamed}
+use Rattle.syn_base.specs.Numbers.{numbers_below}
 
 name-at : (names : List (List ℕ)) (i : ℕ) → AreNames names → i < length names → is_word (slice_index_or names i []) ≡ true
 name-at [] i h lt = absurd (omega arith)

@@ -6,7 +6,6 @@ use Rattle.std.specs.declared.result.Result.TheVariants.{Ok, Err}
 use Rattle.std.specs.List.{All}
 use Rattle.std.proofs.lemmas.List.{map-append}
 use Rattle.syn_base.specs.declared.memory.OutOfMemory.{OutOfMemory}
-use Rattle.level_meaning.specs.Level.{numbers_below}
 use Rattle.algo_tree.specs.Tree.{Vertex, vertex, Vertices, no_vertices, and_vertex}
 use Rattle.algo_tree.specs.Code.{count_of, nothing}
 use Rattle.algo_tree.specs.View.{view, vertices_of, vertices_view}
@@ -17,6 +16,7 @@ use Rattle.multi_period.specs.Marks.{MayHave, AreMarked, AreOnce}
 use Rattle.multi_period.specs.Periods.{period, period_by, all_periods}
 use Rattle.multi_period.specs.Seen.{label_seen, inside_seen}
 use Rattle.multi_period.proofs.Lists.{long_below}
+use Rattle.syn_base.specs.Numbers.{numbers_below}
 
 pub cons_below : {A : Type 0} (f : ℕ → A) (n : ℕ) → map f (numbers_below (suc n)) ≡ f 0 ∷ map (λ i. f (suc i)) (numbers_below n)
 cons_below f zero = refl

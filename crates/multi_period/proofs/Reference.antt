@@ -1,9 +1,9 @@
 -- A reference before and after: what it gives and keeps in a reaction.
 use Rattle.std.proofs.Common.{◌≡◌, ℕ, zero, suc, ◌-◌, ◌%◌, ◌==◌, ◌<◌, List, [], ◌∷◌, length, map, Bool, true, false, cond, Option, Some, None, slice_index_or, codes, refl, sym, ap, ◌∙◌, subst, arith}
-use Rattle.level_meaning.specs.declared.source.Source.{Source}
-use Rattle.level_meaning.specs.declared.source.Source.TheVariants.{Of}
-use Rattle.level_meaning.specs.declared.part.Part.TheVariants.{Named, Numbered}
-use Rattle.level_meaning.specs.Level.{Values, Vector, State, Node, vector_at, zeros, numbers_below, all_hold, with_node, node_outputs, node_next, graph_outputs, graph_next, graph_initial}
+use Rattle.algo_tree.specs.declared.Source.{Source}
+use Rattle.algo_tree.specs.declared.Source.TheVariants.{Of}
+use Rattle.algo_tree.specs.declared.Part.TheVariants.{Named, Numbered}
+use Rattle.algo_tree.specs.Level.{State, Node, all_hold, with_node, node_outputs, node_next, graph_outputs, graph_next, graph_initial}
 use Rattle.algo_tree.specs.Tree.{Label, vertex, Vertices}
 use Rattle.algo_tree.specs.Meaning.{asked_by, kind_outputs, node, nodes}
 use Rattle.algo_tree.proofs.Appends.{blind}
@@ -16,6 +16,8 @@ use Rattle.multi_period.proofs.Found.{found_at}
 use Rattle.multi_period.proofs.Inner.{kid, heart, level, level-is, Kept, plain_outputs, plain_next, level-gives, level-keeps}
 use Rattle.multi_period.proofs.Apart.{level-distinct}
 use Rattle.multi_period.proofs.Wide.{long_map}
+use Rattle.syn_base.specs.Vectors.{Vector, Values, vector_at, zeros}
+use Rattle.syn_base.specs.Numbers.{numbers_below}
 
 -- what is asked of a reference that is marked
 abbrev pub Able : Option Mark → Label → Vertices → Type 0

@@ -2,11 +2,11 @@
 use Rattle.std.proofs.Common.{◌≡◌, ℕ, zero, suc, ◌-◌, ◌<◌, ◌≤◌, List, [], ◌∷◌, length, drop, get_or, map, Option, Some, refl, sym, ap, ap₂, ◌∙◌, subst, arith}
 use Rattle.std.specs.Prelude.{slice_set}
 use Rattle.std.specs.List.{All}
-use Rattle.level_meaning.specs.Level.{numbers_below}
 use Rattle.multi_period.specs.declared.mark.Mark.{Mark}
 use Rattle.multi_period.specs.Marks.{mark_at}
 use Rattle.multi_period.proofs.Placed.{set_below}
 use Rattle.multi_period.proofs.Sums.{mark_here, mark_elsewhere}
+use Rattle.syn_base.specs.Numbers.{numbers_below}
 
 from_here : (ms : List Mark) (i : ℕ) (d : Mark) → i < length ms → drop i ms ≡ get_or ms i d ∷ drop (suc i) ms
 from_here [] i d lt = absurd (omega arith)

@@ -2,9 +2,8 @@
 use Rattle.std.proofs.Common.{◌≡◌, pos, ℕ, zero, suc, ◌+◌, ◌-◌, ◌<◌, ◌≤◌, List, [], ◌∷◌, ◌++◌, length, map, take, replicate, Option, Some, None, slice_get, slice_index_or, refl, sym, ap, ap₂, ◌∙◌, subst, append-nil, arith}
 use Rattle.std.proofs.lemmas.List.{map-append}
 use lib.Seq.{take-suc, take_all}
-use Rattle.level_meaning.specs.declared.source.Source.{Source}
-use Rattle.level_meaning.specs.declared.source.Source.TheVariants.{Own, Of}
-use Rattle.level_meaning.specs.Level.{zeros, numbers_below}
+use Rattle.algo_tree.specs.declared.Source.{Source}
+use Rattle.algo_tree.specs.declared.Source.TheVariants.{Own, Of}
 use Rattle.algo_tree.specs.Tree.{Label, vertex, Vertices, no_vertices, and_vertex}
 use Rattle.algo_tree.specs.View.{vertices_of}
 use Rattle.algo_tree.specs.Typed.{IsLength, AreLengths, label_of, outs_of, source_length, AreGroups, IsTyped, AllTyped}
@@ -14,6 +13,8 @@ use Rattle.multi_period.specs.Marks.{IsMark, AreMarked, MayHave}
 use Rattle.multi_period.specs.Periods.{count, keep, inputs_from, run, when_runs, otherwise, body, period, period_by, all_periods}
 use Rattle.multi_period.proofs.Lists.{map_map, map_below, at_below, past_below}
 use Rattle.multi_period.proofs.Wide.{long_map}
+use Rattle.syn_base.specs.Vectors.{zeros}
+use Rattle.syn_base.specs.Numbers.{numbers_below}
 
 length_of : List ℕ → ℕ → ℕ
 length_of ns i = slice_index_or ns i 0

@@ -1,12 +1,12 @@
 -- The made tree has the form of a tree.
 use Rattle.std.proofs.Common.{◌≡◌, ℕ, zero, suc, ◌+◌, ◌<◌, List, [], ◌∷◌, length, map, Bool, false, ◌&&◌, Option, Some, None, slice_get, refl, sym, ap, ap₂, ◌∙◌, subst, arith}
 use mathlib.Core.Path.{fun_ext}
-use Rattle.level_meaning.specs.declared.source.Source.{Source}
-use Rattle.level_meaning.specs.declared.source.Source.TheVariants.{Own, Of}
-use Rattle.level_meaning.specs.Level.{with_node, numbers_below}
-use Rattle.level_meaning.specs.Order.{guards_ready, sources_ready, is_ready, settled, IsAcyclic, AreBefore}
-use Rattle.level_meaning.specs.Parts.{HasDistinctParts}
-use Rattle.level_meaning.proofs.InOrder.{acyclic-in_order}
+use Rattle.algo_tree.specs.declared.Source.{Source}
+use Rattle.algo_tree.specs.declared.Source.TheVariants.{Own, Of}
+use Rattle.algo_tree.specs.Level.{with_node}
+use Rattle.algo_tree.specs.Order.{guards_ready, sources_ready, is_ready, settled, IsAcyclic, AreBefore}
+use Rattle.algo_tree.specs.Parts.{HasDistinctParts}
+use Rattle.algo_tree.proofs.InOrder.{acyclic-in_order}
 use Rattle.algo_tree.specs.Tree.{Label, Kind, sensor, actuator, constant, delay, function, explode, implode, merge, graph, switch, repeat, vertex, Vertices, no_vertices, and_vertex}
 use Rattle.algo_tree.specs.Meaning.{asked_by, node, nodes}
 use Rattle.algo_tree.specs.View.{vertices_of}
@@ -19,6 +19,7 @@ use Rattle.multi_period.specs.Periods.{keep, inputs_from, run, body, period, per
 use Rattle.multi_period.proofs.Inner.{kid, heart, level, level-is}
 use Rattle.multi_period.proofs.Apart.{level-distinct}
 use Rattle.multi_period.proofs.Levels.{long-made}
+use Rattle.syn_base.specs.Numbers.{numbers_below}
 
 pub asked-all : (k : Kind) (ss : List Source) → IsMarkable k → asked_by k ss ≡ ss
 asked-all (function es) ss h = refl

@@ -3,12 +3,12 @@ use Rattle.std.proofs.Common.{◌≡◌, ℕ, zero, suc, ◌-◌, ◌%◌, ◌==
 use Rattle.std.proofs.lemmas.Bool.{cases_eq, false≢true}
 use mathlib.Core.Path.{fun_ext}
 use native.Mathlib.Nat.{zero-mod}
-use Rattle.level_meaning.specs.declared.source.Source.{Source}
-use Rattle.level_meaning.specs.declared.part.Part.{Part}
-use Rattle.level_meaning.specs.Level.{Values, Vector, State, Node, below, zeros, all_hold, source_value, with_node, node_outputs, node_next, out, level_value, graph_next, graph_initial}
-use Rattle.level_meaning.specs.Order.{IsAcyclic}
-use Rattle.level_meaning.specs.Parts.{HasDistinctParts}
-use Rattle.level_meaning.proofs.Fuel.{out_is}
+use Rattle.algo_tree.specs.declared.Source.{Source}
+use Rattle.algo_tree.specs.declared.Part.{Part}
+use Rattle.algo_tree.specs.Level.{State, Node, below, all_hold, source_value, with_node, node_outputs, node_next, out, level_value, graph_next, graph_initial}
+use Rattle.algo_tree.specs.Order.{IsAcyclic}
+use Rattle.algo_tree.specs.Parts.{HasDistinctParts}
+use Rattle.algo_tree.proofs.Fuel.{out_is}
 use Rattle.algo_tree.specs.Tree.{Label, Kind, sensor, actuator, constant, delay, function, explode, implode, merge, graph, switch, repeat, Vertex, vertex, Vertices, no_vertices, and_vertex}
 use Rattle.algo_tree.specs.Meaning.{node, nodes, past, actuator_values, actuator_value}
 use Rattle.multi_period.specs.declared.mark.Mark.{Mark}
@@ -19,6 +19,7 @@ use Rattle.multi_period.proofs.Turns.{same_last, last_itself, last_before}
 use Rattle.multi_period.proofs.Found.{found_at}
 use Rattle.multi_period.proofs.Reference.{Able, Rel, Holds, rel-first, rel-outputs, rel-next}
 use Rattle.multi_period.proofs.Levels.{vertex_at, held-part, made-part, node-at, made-at, held-at, pairs, long-made, long-held, held-distinct, made-distinct, held-acyclic}
+use Rattle.syn_base.specs.Vectors.{Vector, Values, zeros}
 
 -- below the part of a node stands what the node keeps
 below-next : (cs : List Node) (row : Values) (st : State) (r : ℕ) (c : Node) → HasDistinctParts cs → slice_get cs r ≡ Some c → (p : Part) → c.part ≡ p

@@ -1,18 +1,18 @@
 -- Worked algorithms: a function and an accumulator that run in every other reaction.
 use Rattle.std.proofs.Common.{◌≡◌, ℕ, ℤ, pos, List, [], ◌∷◌, refl, codes}
-use Rattle.level_meaning.specs.declared.source.Source.{Source}
-use Rattle.level_meaning.specs.declared.source.Source.TheVariants.{Own, Of}
-use Rattle.level_meaning.specs.declared.source.Guard.{Guard}
-use Rattle.level_meaning.specs.declared.part.Part.TheVariants.{Named}
-use Rattle.level_meaning.specs.Level.{Values}
 use Rattle.syn_base.specs.declared.arithmetic.Op.TheVariants.{Add}
 use Rattle.body_lang.specs.Expr.{literal, index, element, apply}
+use Rattle.algo_tree.specs.declared.Source.{Source}
+use Rattle.algo_tree.specs.declared.Source.TheVariants.{Own, Of}
+use Rattle.algo_tree.specs.declared.Guard.{Guard}
+use Rattle.algo_tree.specs.declared.Part.TheVariants.{Named}
 use Rattle.algo_tree.specs.Tree.{Kind, sensor, actuator, delay, function, graph, Vertex, vertex, Vertices, no_vertices, and_vertex}
 use Rattle.algo_tree.specs.Meaning.{act_row}
 use Rattle.algo_tree.specs.Counted.{operations}
 use Rattle.multi_period.specs.declared.mark.Mark.{Mark}
 use Rattle.multi_period.specs.Periods.{periods}
 use Rattle.multi_period.specs.Meaning.{act_row_at}
+use Rattle.syn_base.specs.Vectors.{Values}
 
 abbrev of : List ℕ → List ℕ → List Source → List ℕ → List (List ℕ) → Kind → Vertices → Vertex
 of p d ins outs names k us = vertex (record { part = Named p; definition = d; ins = ins; guards = []; outs = outs; names = names; kind = k }) us

@@ -1,7 +1,7 @@
 -- What making periods keeps, and what it makes.
 use Rattle.std.specs.Prelude.{◌≡◌, ℕ, suc, ◌+◌, ◌*◌, ◌≤◌, List, ◌∷◌, length, Option, Some, None, codes}
-use Rattle.level_meaning.specs.declared.part.Part.TheVariants.{Named, Numbered}
-use Rattle.level_meaning.specs.Level.{Values, State, Path}
+use Rattle.algo_tree.specs.declared.Part.TheVariants.{Named, Numbered}
+use Rattle.algo_tree.specs.Level.{State, Path}
 use Rattle.algo_tree.specs.Tree.{Label, Vertex, vertex, Vertices, no_vertices, and_vertex}
 use Rattle.algo_tree.specs.Meaning.{vertices_in, past, act_row}
 use Rattle.algo_tree.specs.Counted.{operations}
@@ -10,6 +10,7 @@ use Rattle.multi_period.specs.declared.mark.Mark.{Mark}
 use Rattle.multi_period.specs.Marks.{mark_at}
 use Rattle.multi_period.specs.Meaning.{act_row_at, history}
 use Rattle.multi_period.specs.Periods.{periods, period}
+use Rattle.syn_base.specs.Vectors.{Values}
 
 -- In each reaction the actuators of another main graph take what the meaning with periods says.
 abbrev pub DoesAsMarked : List Mark → Vertex → Vertex → Type 0

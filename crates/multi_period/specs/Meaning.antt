@@ -16,11 +16,12 @@ use Rattle.std.specs.Prelude.{
   if◌then◌else◌,
   slice_index_or,
 }
-use Rattle.level_meaning.specs.Level.{Values, State, Node, out, level_value, graph_next}
+use Rattle.algo_tree.specs.Level.{State, Node, out, level_value, graph_next}
 use Rattle.algo_tree.specs.Tree.{Vertex}
 use Rattle.algo_tree.specs.Meaning.{behaviour, vertices_in, inside, actuator_values}
 use Rattle.multi_period.specs.declared.mark.Mark.{Mark}
 use Rattle.multi_period.specs.Marks.{mark_at}
+use Rattle.syn_base.specs.Vectors.{Values}
 
 -- What was kept before a reaction, and what each reference gave in each reaction before it.
 pub record History : Type 0 where

@@ -19,15 +19,16 @@ use Rattle.std.specs.Prelude.{
   None,
   codes,
 }
-use Rattle.level_meaning.specs.declared.source.Source.{Source}
-use Rattle.level_meaning.specs.declared.source.Source.TheVariants.{Own, Of}
-use Rattle.level_meaning.specs.declared.part.Part.{Part}
-use Rattle.level_meaning.specs.declared.part.Part.TheVariants.{Named, Numbered}
-use Rattle.level_meaning.specs.Level.{numbers_below, zeros}
+use Rattle.algo_tree.specs.declared.Source.{Source}
+use Rattle.algo_tree.specs.declared.Source.TheVariants.{Own, Of}
+use Rattle.algo_tree.specs.declared.Part.{Part}
+use Rattle.algo_tree.specs.declared.Part.TheVariants.{Named, Numbered}
 use Rattle.algo_tree.specs.Tree.{Label, Kind, delay, graph, switch, Vertex, vertex, Vertices, no_vertices, and_vertex}
 use Rattle.algo_tree.specs.View.{vertices_of}
 use Rattle.multi_period.specs.declared.mark.Mark.{Mark}
 use Rattle.multi_period.specs.Marks.{mark_at}
+use Rattle.syn_base.specs.Vectors.{zeros}
+use Rattle.syn_base.specs.Numbers.{numbers_below}
 
 -- A vertex of a definition of its own, which listings call `every`.
 abbrev pub made : Part → List Source → List ℕ → Kind → Vertices → Vertex

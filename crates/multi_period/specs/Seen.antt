@@ -1,8 +1,8 @@
 -- What is said of a declared vertex, and what stands inside it.
 use Rattle.std.specs.Prelude.{◌≡◌, ℕ, suc, ◌+◌, ◌<◌, ◌^◌, List, [], ◌∷◌, ◌++◌, length}
-use Rattle.level_meaning.specs.declared.source.Source.{Source}
-use Rattle.level_meaning.specs.declared.source.Source.TheVariants.{Of}
-use Rattle.level_meaning.specs.declared.part.Part.{Part}
+use Rattle.algo_tree.specs.declared.Source.{Source}
+use Rattle.algo_tree.specs.declared.Source.TheVariants.{Of}
+use Rattle.algo_tree.specs.declared.Part.{Part}
 use Rattle.algo_tree.specs.Tree as plain
 use Rattle.algo_tree.specs.Tree.{Label, Kind, Vertices, no_vertices, and_vertex}
 use Rattle.algo_tree.specs.View.{label_view, vertices_view}

@@ -35,12 +35,13 @@ made_within marks main =
     Err (Limit (record { which = Operations; count = operations (periods marks main); bound = bound_of Operations }))
     else Ok (periods marks main)
 
--- Want of memory comes only where there is a tree to make.
+-- There is a tree to make, and no limit that it is above.
 abbrev pub IsWithin : Result Vertex PeriodError → Type 0
 IsWithin (Ok u) = Unit {0}
 IsWithin (Err e) = ⊥
 
--- What is returned is what was to be made, or want of memory.
+-- What is returned is what was to be made, or want of memory, which comes only if there is a tree
+-- to make.
 abbrev pub Gives : Result Vertex PeriodError → Result Vertex PeriodError → Type 0
 Gives (Ok u) expected = expected ≡ Ok u
 Gives (Err (Limit f)) expected = expected ≡ Err (Limit f)

@@ -5,8 +5,7 @@ ghost use Rattle.multi_period.specs.Periods.{run as runs};
 ghost use Rattle.multi_period.specs.Seen.{AreKept, ArePorts, label_seen, of_seen, relabelled as labelled, with_inner};
 
 use crate::ports::{Ports, inputs_from};
-use algo_tree::{Kind, Vertex, copy_bytes, share_each, share_kind};
-use level_meaning::{Part, Source};
+use algo_tree::{Kind, Part, Source, Vertex, copy_bytes, share_each, share_kind};
 use std::alloc::Global;
 use syn_base::{Items, OutOfMemory, Shared};
 

@@ -1,16 +1,15 @@
 //! The graph that a marked reference becomes, vertex by vertex: for the pass.
 ghost use Rattle.std.specs.Prelude.{◌≡◌, ◌≤◌, ◌<◌, ◌+◌, ◌^◌, IfOk, map, pos, replicate, slice_index_or, [], ◌∷◌};
-ghost use Rattle.level_meaning.specs.Level.{zeros as zeroed};
 ghost use Rattle.algo_tree.specs.Tree.{switch};
 ghost use Rattle.algo_tree.specs.View.{kind_view, view, vertices_view};
 ghost use Rattle.multi_period.specs.Periods.{body as bodied, count as counted, keep as kept, keep_name as kept_name, made as vertex_made, otherwise as kept_on, period as perioded, parts as perioded_parts, turns as turned, when_runs as runs_when};
 ghost use Rattle.multi_period.specs.Seen.{ArePorts, body_ins as ins_of_body, both_cases, label_seen, of_seen};
+ghost use Rattle.syn_base.specs.Vectors.{zeros as zeroed};
 
 use crate::copies::{relabelled, run};
 use crate::mark::Mark;
 use crate::ports::{Ports, firsts, inputs_from, outputs_of, ports_of};
-use algo_tree::{Kind, Vertex, copy_bytes, copy_part};
-use level_meaning::{Part, Source};
+use algo_tree::{Kind, Part, Source, Vertex, copy_bytes, copy_part};
 use std::alloc::Global;
 use syn_base::{Items, OutOfMemory, Shared, len_at};
 

@@ -1,6 +1,5 @@
 //! Laws of marked references, each the contract of a function that does nothing.
 ghost use Rattle.std.specs.Prelude.{◌≡◌, ℕ, List, []};
-ghost use Rattle.level_meaning.specs.Level.{Values};
 ghost use Rattle.algo_tree.specs.Tree.{Label, Vertex, Vertices};
 ghost use Rattle.algo_tree.specs.Meaning.{vertices_in, act_row};
 ghost use Rattle.algo_tree.specs.Valid.{IsTree};
@@ -12,6 +11,7 @@ ghost use Rattle.multi_period.specs.declared.mark.Mark.{Mark};
 ghost use Rattle.multi_period.specs.Marks.{mark_at, AreMarked, IsMark};
 ghost use Rattle.multi_period.specs.Meaning.{act_row_at};
 ghost use Rattle.multi_period.specs.Laws.{PeriodsKeep, PeriodCounts, PeriodsCount, PeriodsAreTrees, PeriodsKeepValues};
+ghost use Rattle.syn_base.specs.Vectors.{Values};
 
 /// The made tree does what the meaning with periods says.
 pub fn periods_keep_the_meaning()

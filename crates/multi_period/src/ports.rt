@@ -3,8 +3,7 @@ ghost use Rattle.std.specs.Prelude.{◌≡◌, ◌<◌, ◌+◌, ◌^◌, IfOk};
 ghost use Rattle.multi_period.specs.Periods.{inputs_from as inputs, outputs_of as outputs, firsts as first_outputs};
 ghost use Rattle.multi_period.specs.Seen.{ArePorts, label_seen};
 
-use algo_tree::Vertex;
-use level_meaning::Source;
+use algo_tree::{Source, Vertex};
 use std::alloc::Global;
 use syn_base::{OutOfMemory, to_u32};
 

@@ -1,8 +1,8 @@
 //! The marks by their references, for the pass.
 ghost use Rattle.std.specs.Prelude.{◌≡◌, ◌<◌, [], IfOk, map};
 ghost use Rattle.std.specs.List.{All};
-ghost use Rattle.level_meaning.specs.Level.{numbers_below};
 ghost use Rattle.multi_period.specs.Marks.{mark_at};
+ghost use Rattle.syn_base.specs.Numbers.{numbers_below};
 
 use crate::mark::Mark;
 use std::alloc::Global;

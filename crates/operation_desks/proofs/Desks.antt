@@ -2,9 +2,9 @@
 use Rattle.std.proofs.Common.{◌≡◌, ℕ, suc, ◌+◌, List, [], ◌∷◌, ◌++◌, take, drop, length, sum, refl, sym, ap, arith, ◌∙◌, ℤ, length-drop}
 use Rattle.std.proofs.lemmas.List.{take_all, length-map}
 use Rattle.std.proofs.Math.Seq.{take-append_seam, drop-append_seam}
-use Rattle.level_meaning.specs.Level.{Values, Vector}
 use Rattle.operation_desks.specs.Operation.{vectors_from, ReadsPorts}
 use Rattle.operation_desks.proofs.ReadVectors.{lens, vectors-append}
+use Rattle.syn_base.specs.Vectors.{Vector, Values}
 
 pub length-vectors : (row : List ℤ) (at : ℕ) (ns : List ℕ) → length (vectors_from row at ns) ≡ length ns
 length-vectors row at [] = refl

@@ -3,10 +3,9 @@ use Rattle.std.proofs.Common.{◌≡◌, ℕ, zero, suc, ◌+◌, ◌⊎◌, inl
 use Rattle.std.specs.Prelude.{slice_get, slice_index_or, replicate}
 use Rattle.std.proofs.lemmas.List.{get_or-replicate}
 use Rattle.std.proofs.lemmas.Option.{slice_get_within}
-use Rattle.flat_graph.specs.declared.vertex.Vertex.{Vertex}
-use Rattle.flat_graph.specs.Graph.{Graph}
-use Rattle.operation_desks.specs.Desk.{DeskLens, HasDesk}
-use Rattle.operation_desks.specs.Desk.{AreDesks}
+use Rattle.executive_program.specs.declared.Vertex.{Vertex}
+use Rattle.executive_program.specs.Graph.{Graph}
+use Rattle.operation_desks.specs.Desk.{DeskLens, HasDesk, AreDesks}
 
 -- an entry of a list with one more stands in the list, or is the one more
 entry_of : {A : Type 0} (xs : List A) (d e : A) (u : ℕ) → slice_get (xs ++ d ∷ []) u ≡ Some e → (slice_get xs u ≡ Some e) ⊎ ((u ≡ length xs) × (d ≡ e))

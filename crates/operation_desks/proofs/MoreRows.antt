@@ -3,9 +3,10 @@ use Rattle.std.proofs.Common.{◌≡◌, ℕ, ◌+◌, Bool, cond, List, ◌∷�
 use Rattle.std.specs.Prelude.{slice_get}
 use Rattle.std.proofs.lemmas.List.{drop_more}
 use Rattle.std.proofs.lemmas.Option.{slice_get_within, get_or_from_slice_get}
-use Rattle.flat_graph.specs.declared.vertex.Vertex.{Vertex}
-use Rattle.flat_graph.specs.Graph.{Graph}
-use Rattle.operation_desks.specs.RowLens.{actuator_len, lens_for}
+use Rattle.executive_program.specs.declared.Vertex.{Vertex}
+use Rattle.executive_program.specs.Graph.{Graph}
+use Rattle.executive_program.specs.FlatLaws.{actuator_len}
+use Rattle.operation_desks.specs.RowLens.{lens_for}
 
 -- one more operation
 pub lens_more : (g : Graph) (mine : ℕ → Bool) (vs : List Vertex) (k : ℕ) (x : Vertex) (b : Bool) (lens new all : List ℕ) → slice_get vs k ≡ Some x → b ≡ mine k → new ≡ lens ++ map (λ (l : ℕ). cond b l 0) (actuator_len g x x.kind)

@@ -8,8 +8,9 @@ use Rattle.std.proofs.lemmas.List.Sums.{sum_by-append, sum_by-cons}
 use Rattle.std.proofs.Math.ListN.{get_or-map}
 use Rattle.std.proofs.Math.Seq.{map-set_same}
 use Rattle.syn_base.specs.Rows.{with_value}
-use Rattle.level_meaning.specs.Level.{Values, Vector, vector_at, element_at, all_joined}
+use Rattle.executive_program.specs.Level.{element_at, all_joined}
 use Rattle.operation_desks.specs.Operation.{vector_in, vectors_from, ReadsPorts}
+use Rattle.syn_base.specs.Vectors.{Vector, Values, vector_at}
 
 -- the first j elements of a vector that is read from `at` on, and the rest of what was there
 abbrev pub half_read : List ℤ → ℕ → Vector → ℕ → Vector

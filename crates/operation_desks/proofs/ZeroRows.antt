@@ -3,8 +3,8 @@ use Rattle.std.proofs.Common.{◌≡◌, ℕ, ◌+◌, ◌-◌, ◌≤◌, List,
 use Rattle.std.specs.Prelude.{replicate, sum, pos}
 use Rattle.std.proofs.lemmas.List.{take-replicate, drop-replicate, replicate_more, length-replicate}
 use Rattle.syn_base.specs.Rows.{cut}
-use Rattle.level_meaning.specs.Level.{Values, zeros}
-use Rattle.flat_graph.proofs.KindLens.{sum-cons}
+use Rattle.syn_base.specs.Vectors.{Values, zeros}
+use Rattle.executive_program.proofs.KindLens.{sum-cons}
 
 -- zeros that are cut are zeros
 pub cut_zeros : (lens : List ℕ) (n : ℕ) → n ≡ sum lens → cut lens (zeros n) ≡ map zeros lens

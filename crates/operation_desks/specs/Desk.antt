@@ -20,12 +20,12 @@ use Rattle.std.specs.Prelude.{
   slice_index_or,
   ℤ,
 }
-use Rattle.level_meaning.specs.Level.{Values}
-use Rattle.flat_graph.specs.declared.vertex.Vertex.{Vertex}
-use Rattle.flat_graph.specs.Graph.{Graph}
-use Rattle.flat_graph.specs.Fire.{read_lens, out_lens}
-use Rattle.flat_graph.specs.Meaning.{is_get, delay_number}
+use Rattle.executive_program.specs.declared.Vertex.{Vertex}
+use Rattle.executive_program.specs.Graph.{Graph}
+use Rattle.executive_program.specs.Fire.{read_lens, out_lens}
+use Rattle.executive_program.specs.Meaning.{is_get, delay_number}
 use Rattle.operation_desks.specs.Operation.{vectors_from, delay_of}
+use Rattle.syn_base.specs.Vectors.{Values}
 
 -- The desk of an operation has the vectors that it reads and those that it gives, and
 -- what is needed to find its guards, its inputs and its cell.

@@ -21,13 +21,14 @@ use Rattle.std.specs.Prelude.{
   ℤ,
 }
 use Rattle.std.specs.List.{range_with_len}
-use Rattle.level_meaning.specs.Level.{Vector, Values, element_at, vector_at}
-use Rattle.flat_graph.specs.declared.vertex.Vertex.{Vertex}
-use Rattle.flat_graph.specs.declared.vertex.Kind.{Kind}
-use Rattle.flat_graph.specs.declared.vertex.Kind.TheVariants.{Actuator, Get, Set}
-use Rattle.flat_graph.specs.Graph.{Graph, lens_of}
-use Rattle.flat_graph.specs.Fire.{fired, kept}
-use Rattle.flat_graph.specs.Meaning.{sensed, delay_number}
+use Rattle.syn_base.specs.Vectors.{Vector, Values, vector_at}
+use Rattle.executive_program.specs.Level.{element_at}
+use Rattle.executive_program.specs.declared.Vertex.{Vertex}
+use Rattle.executive_program.specs.declared.Kind.{Kind}
+use Rattle.executive_program.specs.declared.Kind.TheVariants.{Actuator, Get, Set}
+use Rattle.executive_program.specs.Graph.{Graph, lens_of}
+use Rattle.executive_program.specs.Fire.{fired, kept}
+use Rattle.executive_program.specs.Meaning.{sensed, delay_number}
 
 -- Of an operation's sources its guards' come first, and then its inputs.
 abbrev pub conditions_in : Vertex → Values → Values

@@ -16,9 +16,9 @@ use Rattle.std.specs.Prelude.{
   ℤ,
   pos,
 }
-use Rattle.level_meaning.specs.Level.{Values, element_at, all_joined}
-use Rattle.flat_graph.specs.declared.vertex.Vertex.{Vertex}
-use Rattle.flat_graph.specs.Graph.{Graph}
+use Rattle.executive_program.specs.Level.{element_at, all_joined}
+use Rattle.executive_program.specs.declared.Vertex.{Vertex}
+use Rattle.executive_program.specs.Graph.{Graph}
 use Rattle.executive_program.specs.declared.steps.OnLoad.{OnLoad}
 use Rattle.executive_program.specs.declared.steps.OnLoad.TheVariants.{Gather, Carry as CarryIn, Compute as ComputeIn}
 use Rattle.executive_program.specs.declared.steps.OnStore.{OnStore}
@@ -26,6 +26,7 @@ use Rattle.executive_program.specs.declared.steps.OnStore.TheVariants.{Give, Car
 use Rattle.executive_program.specs.declared.steps.MicroStep.{MicroStep}
 use Rattle.executive_program.specs.declared.steps.MicroStep.TheVariants.{Load, Store}
 use Rattle.operation_desks.specs.Operation.{lens_in, vectors_from, outputs_of, cells_left, rows_left}
+use Rattle.syn_base.specs.Vectors.{Values}
 
 -- what a micro-step of one sequence may change beside the words
 pub record Own : Type 0 where

@@ -1,5 +1,7 @@
 -- How many registers micro-steps use, and room for as many as a sequence needs.
 use Rattle.std.specs.Prelude.{ℕ, ◌+◌, ◌<◌, max, sum, List, [], ◌∷◌, map, Option, Some, None}
+use Rattle.executive_program.specs.Graph.{Graph}
+use Rattle.executive_program.specs.Fire.{out_lens}
 use Rattle.executive_program.specs.declared.steps.OnLoad.{OnLoad}
 use Rattle.executive_program.specs.declared.steps.OnLoad.TheVariants.{Gather, Carry as CarryIn, Compute as ComputeIn}
 use Rattle.executive_program.specs.declared.steps.OnStore.{OnStore}
@@ -7,8 +9,6 @@ use Rattle.executive_program.specs.declared.steps.OnStore.TheVariants.{Compute a
 use Rattle.executive_program.specs.declared.steps.MicroStep.{MicroStep}
 use Rattle.executive_program.specs.declared.steps.MicroStep.TheVariants.{Load, Store}
 use Rattle.executive_program.specs.declared.expand.SeqSteps.{SeqSteps}
-use Rattle.flat_graph.specs.Graph.{Graph}
-use Rattle.flat_graph.specs.Fire.{out_lens}
 use Rattle.operation_desks.specs.RegisterFile.{RegisterFile}
 
 -- The highest number of a register that a micro-step uses; a computation

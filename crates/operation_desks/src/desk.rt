@@ -1,13 +1,13 @@
 //! The desk of an operation: what it reads and what it gives, in room that was taken before.
 ghost use Rattle.std.specs.Prelude.{◌≡◌, ◌+◌, ◌<◌, ◌≤◌, length, map, take, drop, sum, IfOk};
-ghost use Rattle.flat_graph.specs.Fire.{fired_at, kept_at, cell_len, seen_len, out_lens, read_lens};
-ghost use Rattle.level_meaning.specs.Level.{vector_at, all_joined};
+ghost use Rattle.executive_program.specs.Fire.{fired_at, kept_at, cell_len, seen_len, out_lens, read_lens};
+ghost use Rattle.executive_program.specs.Level.{all_joined};
 ghost use Rattle.operation_desks.specs.Desk.{loaded_in, lens_of_desk};
+ghost use Rattle.syn_base.specs.Vectors.{vector_at};
 
 use crate::reading::read_ports;
 use crate::registers::Registers;
-use body_lang::Ins;
-use flat_graph::{Flat, fire};
+use executive_program::{Flat, Ins, fire};
 use std::alloc::Global;
 use std::marker::Model;
 use syn_base::OutOfMemory;

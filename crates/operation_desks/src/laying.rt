@@ -1,14 +1,13 @@
 //! Desks as `semaphore_core` lays them out when it opens a state: one for each operation that is to be computed.
 ghost use Rattle.std.specs.Prelude.{◌≡◌, ◌+◌, ◌^◌, ◌<◌, ◌++◌, ◌≤◌, cond, false, true, map, length, replicate, slice_get, slice_index_or, Some, IfOk, OnOk, IsTrue, option_map};
-ghost use Rattle.flat_graph.specs.Meaning.{delay_number};
+ghost use Rattle.executive_program.specs.Meaning.{delay_number};
+ghost use Rattle.executive_program.specs.FlatValid.{is_flat};
 ghost use Rattle.operation_desks.specs.Operation.{delay_by, delay_of};
-ghost use Rattle.flat_graph.specs.Valid.{is_flat};
-ghost use Rattle.operation_desks.specs.Desk.{AreDelayNumbers, is_get_at, HasDesk, IsDesk, lens_of_desk};
-ghost use Rattle.operation_desks.specs.Desk.{AreDesks};
+ghost use Rattle.operation_desks.specs.Desk.{AreDelayNumbers, is_get_at, HasDesk, IsDesk, lens_of_desk, AreDesks};
 
 use crate::desk::Desk;
 use crate::opening::{is_mine, push_lens};
-use flat_graph::{Flat, Kind, Vertex};
+use executive_program::{Flat, Kind, Vertex};
 use std::alloc::Global;
 use syn_base::{OutOfMemory, to_u32};
 

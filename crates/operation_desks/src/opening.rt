@@ -1,13 +1,13 @@
 //! Cells and rows as they are before a run: the delays' initial values, and zeros for all that actuators take.
 ghost use Rattle.std.specs.Prelude.{◌≡◌, ◌+◌, ◌*◌, ◌<◌, ◌++◌, map, replicate, IfOk, OnOk, slice_index_or, cond, false};
-ghost use Rattle.level_meaning.specs.Level.{zeros};
-ghost use Rattle.flat_graph.specs.Graph.{lens_of};
-ghost use Rattle.flat_graph.specs.Meaning.{initial_cell, initial_cells};
-ghost use Rattle.operation_desks.specs.RowLens.{actuator_len, actuator_lens, lens_for};
-ghost use Rattle.flat_graph.specs.Laws.{sensor_len, sensor_lens};
+ghost use Rattle.executive_program.specs.Graph.{lens_of};
+ghost use Rattle.executive_program.specs.Meaning.{initial_cell, initial_cells};
+ghost use Rattle.executive_program.specs.FlatLaws.{sensor_len, sensor_lens, actuator_lens, actuator_len};
+ghost use Rattle.operation_desks.specs.RowLens.{lens_for};
+ghost use Rattle.syn_base.specs.Vectors.{zeros};
 
 use crate::rooms::{addressable, sum_of};
-use flat_graph::{Flat, Kind, Source, Vertex, len_of};
+use executive_program::{Flat, Kind, Source, Vertex, len_of};
 use std::alloc::Global;
 use syn_base::{ActRows, Items, OutOfMemory, len_at};
 

@@ -1,10 +1,10 @@
 //! Registers read into the vectors of ports, for `Desk::read`.
 ghost use Rattle.std.specs.Prelude.{◌≡◌, ◌+◌, ◌^◌, ◌<◌, ◌≤◌, length, map, take, drop, sum, slice_set};
-ghost use Rattle.level_meaning.specs.Level.{vector_at};
 ghost use Rattle.operation_desks.specs.Operation.{vector_in, ReadsPorts};
+ghost use Rattle.syn_base.specs.Vectors.{vector_at};
 
 use crate::registers::Registers;
-use body_lang::Ins;
+use executive_program::Ins;
 
 /// Puts registers, from this one on, in the vector of a port.
 fn read_vector(ins: &mut Ins, port: usize, registers: &Registers, at: u128)

@@ -1,9 +1,9 @@
 //! The registers of a sequence: what its current instruction has loaded or computed.
 ghost use Rattle.std.specs.Prelude.{◌≡◌, ◌+◌, ◌<◌, ◌≤◌, ◌++◌, ◌∷◌, [], take, length, cond, pos, slice_index_or, IfOk, vec_len, map, sum};
-ghost use Rattle.level_meaning.specs.Level.{all_joined};
+ghost use Rattle.executive_program.specs.Level.{all_joined};
 ghost use Rattle.operation_desks.specs.Registers.{gathered};
 
-use body_lang::Ins;
+use executive_program::Ins;
 use std::alloc::Global;
 use std::marker::Model;
 use syn_base::OutOfMemory;

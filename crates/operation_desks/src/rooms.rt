@@ -4,8 +4,7 @@ ghost use Rattle.operation_desks.specs.Rooms.{outputs_len, top_load, top_store, 
 ghost use Rattle.operation_desks.specs.Rooms.{empty_registers, all_registers};
 
 use crate::registers::Registers;
-use executive_program::{MicroStep, OnLoad, OnStore, SeqSteps};
-use flat_graph::Flat;
+use executive_program::{Flat, MicroStep, OnLoad, OnStore, SeqSteps};
 use std::alloc::Global;
 use syn_base::OutOfMemory;
 

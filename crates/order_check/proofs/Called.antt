@@ -3,12 +3,12 @@ use Rattle.std.proofs.Common.{◌≡◌, ℕ, zero, suc, ◌+◌, ◌<◌, Bool,
 use Rattle.std.specs.Prelude.{slice_get, Option, Some, None, is_none, nat_lt, ℤ}
 use Rattle.std.specs.Cmp.Derive.{both_true}
 use Rattle.std.proofs.lemmas.Bool.{false≢true, and_parts, eqb-true, ltb-true, lt-ltb}
-use Rattle.flat_graph.specs.declared.vertex.Guard.{Guard}
-use Rattle.flat_graph.specs.declared.vertex.Kind.{Kind}
-use Rattle.flat_graph.specs.declared.vertex.Kind.TheVariants.{Get}
-use Rattle.flat_graph.specs.declared.vertex.Source.{Source}
-use Rattle.flat_graph.specs.declared.vertex.Vertex.{Vertex}
-use Rattle.flat_graph.specs.Graph.{Graph}
+use Rattle.executive_program.specs.declared.Guard.{Guard}
+use Rattle.executive_program.specs.declared.Kind.{Kind}
+use Rattle.executive_program.specs.declared.Kind.TheVariants.{Get}
+use Rattle.executive_program.specs.declared.Source.{Source}
+use Rattle.executive_program.specs.declared.Vertex.{Vertex}
+use Rattle.executive_program.specs.Graph.{Graph, same_source}
 use Rattle.executive_program.specs.declared.program.Buffer.{Buffer}
 use Rattle.executive_program.specs.declared.program.Instr.{Instr}
 use Rattle.executive_program.specs.declared.program.Instr.TheVariants.{Call}
@@ -19,7 +19,6 @@ use Rattle.executive_program.specs.WellFormed.{CarryInOrder, CarryOutputs, HasLe
 use Rattle.executive_program.proofs.Passing.{call_is}
 use Rattle.program_walks.specs.Walks.{all_at, every, implies}
 use Rattle.order_check.specs.Calls.{are_called, called_at, carries, carry_guards, carry_inputs, gives, gives_at, has_len, has_output, is_before_twin, is_called, takes}
-use Rattle.order_check.specs.Carries.{same_source}
 use Rattle.program_walks.specs.Acts.{is_only, passes}
 use Rattle.order_check.proofs.Kept.{is_same_source, same_source_is}
 use Rattle.program_walks.proofs.ListTests.{every_of, of_every, from_zero, to_zero, implied, implying}

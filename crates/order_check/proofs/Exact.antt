@@ -4,8 +4,8 @@ use Rattle.std.specs.Prelude.{slice_get, Option, Some, None, nat_lt}
 use Rattle.std.specs.List.{count_by}
 use Rattle.std.specs.Cmp.Derive.{both_true}
 use Rattle.std.proofs.lemmas.Bool.{and_parts, eqb-true, ltb-true, lt-ltb}
-use Rattle.flat_graph.specs.declared.vertex.Source.{Source}
-use Rattle.flat_graph.specs.Graph.{Graph}
+use Rattle.executive_program.specs.declared.Source.{Source}
+use Rattle.executive_program.specs.Graph.{Graph}
 use Rattle.executive_program.specs.declared.program.Instr.{Instr}
 use Rattle.executive_program.specs.declared.program.Instr.TheVariants.{Suc0, Suc1, Pre0, Pre1, Call, Send, Recv, Sync}
 use Rattle.executive_program.specs.declared.program.SeqCode.{SeqCode}

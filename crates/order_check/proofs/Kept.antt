@@ -3,7 +3,8 @@ use Rattle.std.proofs.Common.{◌≡◌, ℕ, zero, suc, ◌-◌, ◌<◌, true,
 use Rattle.std.specs.Prelude.{slice_get, Option, Some, None}
 use Rattle.std.specs.Cmp.Derive.{both_true}
 use Rattle.std.proofs.lemmas.Bool.{and_parts, eqb-true}
-use Rattle.flat_graph.specs.declared.vertex.Source.{Source}
+use Rattle.executive_program.specs.declared.Source.{Source}
+use Rattle.executive_program.specs.Graph.{same_source}
 use Rattle.executive_program.specs.declared.program.Instr.{Instr}
 use Rattle.executive_program.specs.declared.program.Instr.TheVariants.{Suc0, Suc1, Pre0, Pre1, Call, Send, Recv, Sync}
 use Rattle.executive_program.specs.declared.program.Program.{Program}
@@ -13,7 +14,7 @@ use Rattle.executive_program.specs.Places.{Writing, carried, carried_within, no_
 use Rattle.order_check.specs.declared.carrying.Origin.{Origin}
 use Rattle.order_check.specs.declared.carrying.Origin.TheVariants.{Made, Received, Nowhere}
 use Rattle.program_walks.specs.Walks.{all_below}
-use Rattle.order_check.specs.Carries.{are_kept, is_kept, origin, origin_of, received, same_source, sent_on, source_from}
+use Rattle.order_check.specs.Carries.{are_kept, is_kept, origin, origin_of, received, sent_on, source_from}
 use Rattle.order_check.specs.Transfers.{buffer_at, receiver_of, sender_of}
 use Rattle.program_walks.proofs.ListTests.{below_of, of_below}
 

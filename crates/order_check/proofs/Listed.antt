@@ -6,14 +6,16 @@ use Rattle.std.proofs.lemmas.Bool.{false≢true, and_parts, eqb-true, lt-ltb}
 use Rattle.std.proofs.lemmas.List.{drop_all, length-map}
 use Rattle.std.proofs.lemmas.Option.{slice_get_within}
 use Rattle.std.specs.List.{flat_map, range_with_len}
-use Rattle.archi_graph.specs.declared.medium.Medium.{Medium}
-use Rattle.archi_graph.specs.declared.medium.Seq.{Seq}
-use Rattle.archi_graph.specs.Archi.{Architecture}
-use Rattle.archi_graph.specs.Sequences.{sequences, sequences_of}
+use Rattle.executive_program.specs.declared.Medium.{Medium}
+use Rattle.executive_program.specs.declared.Seq.{Seq}
+use Rattle.executive_program.specs.Archi.{Architecture}
+use Rattle.executive_program.specs.Sequences.{sequences, sequences_of}
 use Rattle.executive_program.specs.declared.program.SeqCode.{SeqCode}
 use Rattle.program_walks.specs.Walks.{passed}
-use Rattle.order_check.specs.Sequenced.{are_sequences, ends_at, is_of, is_sequence, same_medium}
+use Rattle.order_check.specs.Sequenced.{are_sequences, is_of, is_sequence}
 use Rattle.program_walks.proofs.Readings.{same_numbers}
+use Rattle.executive_program.specs.Sizes.{is_last}
+use Rattle.executive_program.specs.Instructions.{same_medium}
 
 -- the parts of a sequence decide it
 medium_is : (m n : Option ℕ) → same_medium m n ≡ true → m ≡ n
@@ -56,16 +58,16 @@ module _ (codes : List SeqCode) where
   listed qs = map (λ (q : SeqCode). q.seq) qs
 
   abbrev passes_by : ℕ → Seq → List Seq → Bool → Bool
-  passes_by n x xs b = ends_at (length codes) (cond b (passed (is_sequence codes) (n + 1) xs) None)
+  passes_by n x xs b = is_last (length codes) (cond b (passed (is_sequence codes) (n + 1) xs) None)
 
   -- where the walk ends after the last code, what is left of the codes has these sequences
-  left_is : (n : ℕ) (xs : List Seq) → ends_at (length codes) (passed (is_sequence codes) n xs) ≡ true → listed (drop n codes) ≡ xs
+  left_is : (n : ℕ) (xs : List Seq) → is_last (length codes) (passed (is_sequence codes) n xs) ≡ true → listed (drop n codes) ≡ xs
   left_is n [] h =
       let e = eqb-true (length codes) n h in
       ap listed (drop_all n codes (let l : length codes ≤ n = omega (arith, e) in l))
   left_is n (x ∷ xs) h = by (is_sequence codes n x) refl h (λ e. left_is (n + 1) xs e)
     where
-      by : (b : Bool) → is_sequence codes n x ≡ b → passes_by n x xs b ≡ true → (ends_at (length codes) (passed (is_sequence codes) (n + 1) xs) ≡ true → listed (drop (n + 1) codes) ≡ xs) → listed (drop n codes) ≡ x ∷ xs
+      by : (b : Bool) → is_sequence codes n x ≡ b → passes_by n x xs b ≡ true → (is_last (length codes) (passed (is_sequence codes) (n + 1) xs) ≡ true → listed (drop (n + 1) codes) ≡ xs) → listed (drop n codes) ≡ x ∷ xs
       by false e h rest = absurd (false≢true h)
       by true e h rest =
           let parts = and_parts (nat_lt n (length codes)) (is_of (slice_get codes n) x) e in
@@ -74,13 +76,13 @@ module _ (codes : List SeqCode) where
           ap listed (drop_there codes n c.0 c.1) ∙ (λ i. c.2 i ∷ r i)
 
   -- where what is left of the codes has these sequences, the walk ends after the last code
-  is_left : (n : ℕ) (xs : List Seq) → n ≤ length codes → listed (drop n codes) ≡ xs → ends_at (length codes) (passed (is_sequence codes) n xs) ≡ true
+  is_left : (n : ℕ) (xs : List Seq) → n ≤ length codes → listed (drop n codes) ≡ xs → is_last (length codes) (passed (is_sequence codes) n xs) ≡ true
   is_left n [] l h =
       let none : length (drop n codes) ≡ 0 = sym (length-map (drop n codes) (λ (q : SeqCode). q.seq)) ∙ ap (λ (xs : List Seq). length xs) h in
       eq-eqb (length codes) n (omega (arith, l, none, length-drop n codes))
   is_left n (x ∷ xs) l h = by (slice_get codes n) refl (λ l e. is_left (n + 1) xs l e)
     where
-      by : (o : Option SeqCode) → slice_get codes n ≡ o → (n + 1 ≤ length codes → listed (drop (n + 1) codes) ≡ xs → ends_at (length codes) (passed (is_sequence codes) (n + 1) xs) ≡ true) → passes_by n x xs (is_sequence codes n x) ≡ true
+      by : (o : Option SeqCode) → slice_get codes n ≡ o → (n + 1 ≤ length codes → listed (drop (n + 1) codes) ≡ xs → is_last (length codes) (passed (is_sequence codes) (n + 1) xs) ≡ true) → passes_by n x xs (is_sequence codes n x) ≡ true
       by None e rest = let gone = sym (ap listed (drop_gone codes n e)) ∙ h in absurd (cc)
       by (Some q) e rest =
           let here : q.seq ∷ listed (drop (suc n) codes) ≡ x ∷ xs = sym (ap listed (drop_there codes n q e)) ∙ h in

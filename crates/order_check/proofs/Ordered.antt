@@ -3,8 +3,8 @@ use Rattle.std.proofs.Common.{◌≡◌, ℕ, true, ◌&&◌, List, length}
 use Rattle.std.specs.Bool.{Decides}
 use Rattle.std.specs.Cmp.Derive.{both_true}
 use Rattle.std.proofs.lemmas.Bool.{and_parts}
-use Rattle.archi_graph.specs.declared.medium.Seq.{Seq}
-use Rattle.flat_graph.specs.Graph.{Graph}
+use Rattle.executive_program.specs.declared.Seq.{Seq}
+use Rattle.executive_program.specs.Graph.{Graph}
 use Rattle.executive_program.specs.declared.program.Program.{Program}
 use Rattle.executive_program.specs.Places.{carried, places}
 use Rattle.executive_program.specs.WellFormed.{IsOrder}

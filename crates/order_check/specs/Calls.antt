@@ -18,18 +18,17 @@ use Rattle.std.specs.Prelude.{
   slice_get,
 }
 use Rattle.std.specs.List.{position_or_len}
-use Rattle.flat_graph.specs.declared.vertex.Guard.{Guard}
-use Rattle.flat_graph.specs.declared.vertex.Kind.{Kind}
-use Rattle.flat_graph.specs.declared.vertex.Kind.TheVariants.{Get}
-use Rattle.flat_graph.specs.declared.vertex.Source.{Source}
-use Rattle.flat_graph.specs.declared.vertex.Vertex.{Vertex}
+use Rattle.executive_program.specs.declared.Guard.{Guard}
+use Rattle.executive_program.specs.declared.Kind.{Kind}
+use Rattle.executive_program.specs.declared.Kind.TheVariants.{Get}
+use Rattle.executive_program.specs.declared.Source.{Source}
+use Rattle.executive_program.specs.declared.Vertex.{Vertex}
+use Rattle.executive_program.specs.Graph.{same_source}
 use Rattle.executive_program.specs.declared.program.Buffer.{Buffer}
 use Rattle.executive_program.specs.declared.program.Program.{Program}
 use Rattle.executive_program.specs.Instructions.{len_of, medium, turn}
 use Rattle.executive_program.specs.Places.{caller_of, calls, carried, ins_in, outs_in}
-use Rattle.program_walks.specs.Walks.{all_at}
-use Rattle.program_walks.specs.Walks.{names}
-use Rattle.order_check.specs.Carries.{same_source}
+use Rattle.program_walks.specs.Walks.{all_at, names}
 use Rattle.program_walks.specs.Acts.{is_only}
 
 -- the operation has an output of this number and length

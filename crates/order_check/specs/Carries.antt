@@ -1,6 +1,7 @@
 -- How the source that a buffer carries is found, and the test that transfers keep it.
-use Rattle.std.specs.Prelude.{ℕ, Bool, ◌&&◌, nat_eq, Option, Some, None, slice_get}
-use Rattle.flat_graph.specs.declared.vertex.Source.{Source}
+use Rattle.std.specs.Prelude.{ℕ, Bool, Option, Some, None, slice_get}
+use Rattle.executive_program.specs.declared.Source.{Source}
+use Rattle.executive_program.specs.Graph.{same_source}
 use Rattle.executive_program.specs.declared.program.Instr.{Instr}
 use Rattle.executive_program.specs.declared.program.Instr.TheVariants.{Call, Recv, Send}
 use Rattle.executive_program.specs.declared.program.Program.{Program}
@@ -21,10 +22,6 @@ sent_by_one _ = None
 abbrev pub received : Option ℕ → Origin
 received None = Nowhere
 received (Some b) = Received b
-
--- Both are the same output of the same operation.
-abbrev pub same_source : Source → Source → Bool
-same_source x y = nat_eq x.vertex y.vertex && nat_eq x.port y.port
 
 module _ (p : Program) where
   -- the buffer that communication t of a medium sends

@@ -1,7 +1,7 @@
 -- What makes a serial order right, as one test.
 use Rattle.std.specs.Prelude.{ℕ, Bool, ◌&&◌, List, length}
-use Rattle.archi_graph.specs.declared.medium.Seq.{Seq}
-use Rattle.flat_graph.specs.declared.vertex.Vertex.{Vertex}
+use Rattle.executive_program.specs.declared.Seq.{Seq}
+use Rattle.executive_program.specs.declared.Vertex.{Vertex}
 use Rattle.executive_program.specs.declared.program.Program.{Program}
 use Rattle.order_check.specs.Checked.{communicators, counts, follows_loops, named, on_media}
 use Rattle.program_walks.specs.Buffers.{are_buffers}

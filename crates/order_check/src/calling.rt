@@ -1,14 +1,13 @@
 //! The check of calls: each operation is called once, on what carries its inputs, into what carries its outputs.
 ghost use Rattle.std.specs.Prelude.{◌≡◌, ◌+◌, ◌≤◌, ◌&&◌, Some, drop, length, nat_eq, nat_lt, slice_get};
+ghost use Rattle.executive_program.specs.Graph.{same_source};
 ghost use Rattle.executive_program.specs.Instructions.{turn};
 ghost use Rattle.executive_program.specs.Places.{caller_of, carried, ins_in, outs_in};
 ghost use Rattle.program_walks.specs.Walks.{all_at};
-ghost use Rattle.order_check.specs.Carries.{same_source};
 ghost use Rattle.order_check.specs.Calls.{are_called, called_at, carries, carry_guards, carry_inputs, gives, gives_at, has_len, has_output, is_before_twin, is_called, is_called_at, takes};
 
 use crate::carrying::carried_by;
-use executive_program::{Instr, Program};
-use flat_graph::{Guard, Kind, Source, Vertex};
+use executive_program::{Guard, Instr, Kind, Program, Source, Vertex};
 use program_walks::{
     Act, Stand, caller_of, first_call, is_entry, is_only, len_of, medium_of, turn_of,
 };

@@ -1,10 +1,11 @@
 //! The source that a buffer carries: an output of an operation, over any number of transfers.
 ghost use Rattle.std.specs.Prelude.{◌≡◌, count_by, slice_get, take};
+ghost use Rattle.executive_program.specs.Graph.{same_source};
 ghost use Rattle.executive_program.specs.Instructions.{communications, is_communication, medium, turn};
 ghost use Rattle.executive_program.specs.MicroSteps.{sent, sent_in, transfers};
 ghost use Rattle.executive_program.specs.Places.{carried, output_at};
 ghost use Rattle.program_walks.specs.Walks.{all_below};
-ghost use Rattle.order_check.specs.Carries.{are_kept, is_kept, origin, origin_at, origin_of, received, same_source, sent_by_one, sent_on};
+ghost use Rattle.order_check.specs.Carries.{are_kept, is_kept, origin, origin_at, origin_of, received, sent_by_one, sent_on};
 
 use crate::transferring::{Crossing, buffer_at, receiver_of, sender_of};
 use executive_program::{Instr, Program};

@@ -1,9 +1,9 @@
 //! The checks with what they say of a well-formed program, which callers of the crate ask for.
 ghost use Rattle.std.specs.Prelude.{◌≡◌, ℕ, ◌<◌, Some, slice_get, true};
+ghost use Rattle.executive_program.specs.declared.Vertex.{Vertex};
 ghost use Rattle.executive_program.specs.MicroSteps.{transfers};
 ghost use Rattle.executive_program.specs.Places.{carried, places, transfer};
 ghost use Rattle.executive_program.specs.WellFormed.{IsCalled, IsTransfer};
-ghost use Rattle.flat_graph.specs.declared.vertex.Vertex.{Vertex};
 ghost use Rattle.order_check.specs.Calls.{are_called};
 ghost use Rattle.order_check.specs.Carries.{are_kept};
 ghost use Rattle.order_check.specs.Transfers.{are_transfers};
@@ -11,8 +11,7 @@ ghost use Rattle.order_check.specs.Transfers.{are_transfers};
 use crate::calling::are_called;
 use crate::carrying::are_kept;
 use crate::transferring::are_transfers;
-use executive_program::Program;
-use flat_graph::Flat;
+use executive_program::{Flat, Program};
 
 /// Whether each operation is called once, in a computation sequence, on buffers that carry its guards'
 /// sources and its inputs, into buffers that carry its outputs; and the get half of a delay before its

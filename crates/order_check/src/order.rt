@@ -2,7 +2,7 @@
 ghost use Rattle.std.specs.Prelude.{◌≡◌, length};
 ghost use Rattle.std.specs.Bool.{Decides};
 ghost use Rattle.std.specs.List.{flat_map, range_with_len};
-ghost use Rattle.archi_graph.specs.Sequences.{sequences, sequences_of};
+ghost use Rattle.executive_program.specs.Sequences.{sequences, sequences_of};
 ghost use Rattle.executive_program.specs.WellFormed.{IsOrder};
 ghost use Rattle.order_check.specs.Order.{are_guards_right, are_numbers_right, are_values_right, is_order};
 
@@ -10,9 +10,7 @@ use crate::clauses::{operations_are_called, transfers_are_right, transfers_keep_
 use crate::loops::are_followed;
 use crate::naming::{are_communicators, are_counted, are_named, are_on_media};
 use crate::sequencing::are_sequences;
-use archi_graph::{Archi, Medium};
-use executive_program::Program;
-use flat_graph::Flat;
+use executive_program::{Archi, Flat, Medium, Program};
 use program_walks::{buffers_are_right, pairs_guard, prologues_open};
 
 /// Whether what the instructions name is there, communications stand in communicators of this many media,

@@ -1,13 +1,13 @@
 //! The check that the sequences of a program are those of an architecture, in order.
 ghost use Rattle.std.specs.Prelude.{◌≡◌, ◌<◌, length, true};
 ghost use Rattle.std.specs.List.{flat_map, range_with_len};
-ghost use Rattle.archi_graph.specs.Archi.{stands_at};
-ghost use Rattle.archi_graph.specs.Sequences.{communicators, sequences_of};
 ghost use Rattle.program_walks.specs.Walks.{passed};
-ghost use Rattle.order_check.specs.Sequenced.{are_sequences, is_sequence, same_medium};
+ghost use Rattle.order_check.specs.Sequenced.{are_sequences, is_sequence};
+ghost use Rattle.executive_program.specs.Archi.{stands_at};
+ghost use Rattle.executive_program.specs.Sequences.{communicators, sequences_of};
+ghost use Rattle.executive_program.specs.Instructions.{same_medium};
 
-use archi_graph::Medium;
-use executive_program::SeqCode;
+use executive_program::{Medium, SeqCode};
 
 /// Whether an operator stands at a medium.
 fn stands_at(medium: &Medium, operator: usize) -> bool

@@ -3,19 +3,19 @@ use Rattle.std.proofs.Common.{◌≡◌, ℕ, zero, suc, ◌+◌, ◌<◌, ◌�
 use Rattle.std.specs.Prelude.{slice_get, nat_lt, if◌then◌else◌}
 use Rattle.std.proofs.lemmas.Bool.{and_parts, eqb-true, false≢true, cases_lt}
 use Rattle.std.proofs.lemmas.Option.{same_Some}
-use Rattle.flat_graph.specs.declared.vertex.Kind.{Kind}
-use Rattle.flat_graph.specs.declared.vertex.Kind.TheVariants.{Sensor, Actuator, Function, Constant, Get, Set, Explode, Implode, Merge}
-use Rattle.flat_graph.specs.declared.vertex.Vertex.{Vertex}
-use Rattle.flat_graph.specs.Graph.{Graph, with_vertex}
-use Rattle.flat_graph.specs.Order.{is_acyclic}
-use Rattle.flat_graph.specs.Valid.{is_flat, names, has_twin, has_get_half, is_get_half_of, is_get_half_by, actuators_from, kinds_of}
-use Rattle.flat_graph.specs.Meaning.{is_get, delay_number}
-use Rattle.flat_graph.proofs.Facts.{vertex_valid, twin_of}
-use Rattle.archi_graph.specs.declared.medium.Seq.{Seq}
+use Rattle.executive_program.specs.declared.Kind.{Kind}
+use Rattle.executive_program.specs.declared.Kind.TheVariants.{Sensor, Actuator, Function, Constant, Get, Set, Explode, Implode, Merge}
+use Rattle.executive_program.specs.declared.Vertex.{Vertex}
+use Rattle.executive_program.specs.Graph.{Graph, with_vertex}
+use Rattle.executive_program.specs.FlatOrder.{is_acyclic}
+use Rattle.executive_program.specs.FlatValid.{is_flat, has_twin, has_get_half, is_get_half_of, is_get_half_by, actuators_from, kinds_of, is_number}
+use Rattle.executive_program.specs.Meaning.{is_get, delay_number}
+use Rattle.executive_program.proofs.Facts.{vertex_valid, twin_of}
+use Rattle.executive_program.specs.declared.Seq.{Seq}
 use Rattle.executive_program.specs.declared.program.Program.{Program}
-use Rattle.operation_desks.specs.Operation.{delay_by, delay_of}
 use Rattle.executive_program.specs.Places.{calling}
 use Rattle.executive_program.specs.WellFormed.{IsOrder}
+use Rattle.semaphore_core.specs.Operation.{delay_by, delay_of}
 
 -- the number of get halves grows past a get half
 more_gets : (xs : List Vertex) (v u : ℕ) (x : Vertex) (z : List ℤ) → slice_get xs v ≡ Some x → x.kind ≡ Get z → v < u → delay_number xs v < delay_number xs u
@@ -105,7 +105,7 @@ module _ (p : Program) (g : Graph) (seqs : List Seq) (media : ℕ) (order : List
   of_get : (v u d : ℕ) (y : Vertex) → slice_get g.vertices u ≡ Some y → (q : Kind) → y.kind ≡ q → is_get_half_by v y q ≡ true → delay_number g.vertices u ≡ d → GetHalf p g v d
   of_get v u d y e (Get z) k t n = record { at = u; half = y; values = z; stands = e; kind = k; number = n; together = ((h.called u y e).twins z v k (twin y.twin t)).0 }
     where
-      twin : (o : Option ℕ) → names o v ≡ true → o ≡ Some v
+      twin : (o : Option ℕ) → is_number o v ≡ true → o ≡ Some v
       twin None t = absurd (false≢true t)
       twin (Some w) t = ap (λ (i : ℕ). Some i) (eqb-true w v t)
   of_get v u d y e (Sensor i) k t n = absurd (false≢true t)

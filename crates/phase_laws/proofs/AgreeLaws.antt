@@ -1,17 +1,17 @@
 -- From the theory's laws at the system of a job to the laws of every run of the job.
 use Rattle.std.proofs.Common.{◌≡◌, ℕ, ◌<◌, Bool, true, cond, List, [], ◌∷◌, ◌++◌, length, Option, Some, None, refl, sym, ap, subst, arith, ◌∙◌}
-use Rattle.interleavings.specs.System as theory
-use Rattle.interleavings.specs.System.{State}
-use Rattle.interleavings.specs.Fresh.{IsFresh}
-use Rattle.interleavings.specs.Laws as laws_of_theory
-use Rattle.interleavings.specs.Laws.{Discipline, IsDisciplined}
-use Rattle.interleavings.proofs.Synchronized.{have_laws}
+use Rattle.executive_program.specs.System as theory
+use Rattle.executive_program.specs.System.{State}
+use Rattle.executive_program.specs.Fresh.{IsFresh}
+use Rattle.executive_program.specs.InterleavingLaws as laws_of_theory
+use Rattle.executive_program.specs.InterleavingLaws.{Discipline, IsDisciplined}
+use Rattle.executive_program.proofs.Synchronized.{have_laws}
+use Rattle.executive_program.specs.FlatValid.{is_flat}
+use Rattle.executive_program.specs.Sequences.{sequences}
 use Rattle.executive_program.specs.declared.steps.MicroStep.{MicroStep}
 use Rattle.executive_program.specs.declared.steps.MicroStep.TheVariants.{Take, See, Lower, Signal, Await, Advance, Load, Store}
-use Rattle.operation_desks.specs.Registers.{Own}
+use Rattle.semaphore_core.specs.Registers.{Own}
 use Rattle.semaphore_core.specs.Job.{JobData, system}
-use Rattle.flat_graph.specs.Valid.{is_flat}
-use Rattle.archi_graph.specs.Sequences.{sequences}
 use Rattle.semaphore_core.specs.IsJob.{IsJob}
 use Rattle.semaphore_core.specs.Told.{told, stored_value, own_after}
 use Rattle.semaphore_core.specs.Laws.{HasLaws, IsFreshState, GoesOn, one_more}

@@ -3,7 +3,7 @@ use Rattle.std.proofs.Common.{◌≡◌, ℕ, zero, suc, ◌<◌, ◌≤◌, ◌
 use Rattle.std.specs.Prelude.{slice_index_or, slice_set}
 use Rattle.std.proofs.lemmas.Bool.{cases_eq, cases_lt, eq-eqb, ne_eqb}
 use Rattle.std.proofs.lemmas.List.{length-set, get_or-set_same, get_or-set_other, set_past, map-set, set-get_or, length-map}
-use Rattle.interleavings.specs.System.{put}
+use Rattle.executive_program.specs.System.{put}
 
 -- what a function gives after one of its values was put
 module _ {A : Type 0} (f : ℕ → A) (i : ℕ) (a : A) where

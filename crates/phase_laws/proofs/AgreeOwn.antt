@@ -2,22 +2,23 @@
 use Rattle.std.proofs.Common.{◌≡◌, ℕ, Bool, cond, List, [], ◌∷◌, length, map, Option, Some, None, refl, sym, ap, subst, ◌∙◌, ℤ}
 use Rattle.std.specs.Prelude.{slice_get, slice_index_or}
 use Rattle.std.proofs.lemmas.List.{length-set, get_or-set_other}
-use Rattle.level_meaning.specs.Level.{Values, Vector, element_at, vector_at, all_joined}
-use Rattle.flat_graph.specs.declared.vertex.Kind.{Kind}
-use Rattle.flat_graph.specs.declared.vertex.Kind.TheVariants.{Sensor, Actuator, Function, Constant, Get, Set, Explode, Implode, Merge}
-use Rattle.flat_graph.specs.declared.vertex.Vertex.{Vertex}
-use Rattle.flat_graph.specs.Fire.{fired, kept as kept_cell}
-use Rattle.flat_graph.specs.Meaning.{sensed}
+use Rattle.executive_program.specs.Level.{element_at, all_joined}
+use Rattle.executive_program.specs.declared.Kind.{Kind}
+use Rattle.executive_program.specs.declared.Kind.TheVariants.{Sensor, Actuator, Function, Constant, Get, Set, Explode, Implode, Merge}
+use Rattle.executive_program.specs.declared.Vertex.{Vertex}
+use Rattle.executive_program.specs.Fire.{fired, kept as kept_cell}
+use Rattle.executive_program.specs.Meaning.{sensed}
 use Rattle.executive_program.specs.declared.steps.OnLoad.{OnLoad}
 use Rattle.executive_program.specs.declared.steps.OnLoad.TheVariants.{Gather, Carry as CarryIn, Compute as ComputeIn}
 use Rattle.executive_program.specs.declared.steps.OnStore.{OnStore}
 use Rattle.executive_program.specs.declared.steps.OnStore.TheVariants.{Give, Carry as CarryOut, Compute as ComputeOut}
-use Rattle.operation_desks.specs.Operation.{vectors_from, lens_in, conditions_in, inputs_in, delay_of, cell_at, with_cell, rows_by}
-use Rattle.operation_desks.specs.Registers.{Own, with_registers, kept, gathered, compute_by, compute, absorb_by, emit_by, after_by}
+use Rattle.semaphore_core.specs.Operation.{vectors_from, lens_in, conditions_in, inputs_in, delay_of, cell_at, with_cell, rows_by}
+use Rattle.semaphore_core.specs.Registers.{Own, with_registers, kept, gathered, compute_by, compute, absorb_by, emit_by, after_by}
 use Rattle.semaphore_core.specs.Job.{JobData, zero_rows}
 use Rattle.phase_laws.specs.Agrees.{IsFormed, caller, row_at, LoadsHere, StoresHere}
 use Rattle.phase_laws.proofs.AgreeLists.{set_same, set_in_same, set_in_lens, get_in_there}
 use Rattle.phase_laws.proofs.AgreeDelays.{same_delay, same_actuator}
+use Rattle.syn_base.specs.Vectors.{Vector, Values, vector_at}
 
 module _ (j : JobData) (f : IsFormed j) (cells : Values) (rows : List Values) (s : ℕ) where
   -- Of shared cells and rows before a step of sequence s: c is what it finds and leaves there, o what it has of its own.

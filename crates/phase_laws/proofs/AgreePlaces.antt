@@ -6,9 +6,8 @@ use Rattle.std.proofs.lemmas.List.{length-map, length-replicate, get_or_append_l
 use Rattle.std.proofs.lemmas.Nat.{div-mul-add, mod-mul-add, mod_below}
 use Rattle.std.specs.Option.{option_map}
 use Rattle.std.proofs.lemmas.Option.{get_or_from_slice_get, slice_get-map}
-use Rattle.interleavings.specs.System.{put}
-use Rattle.interleavings.specs.Owners.{sum_below}
-use Rattle.level_meaning.specs.Level.{zeros}
+use Rattle.executive_program.specs.System.{put}
+use Rattle.executive_program.specs.Owners.{sum_below}
 use Rattle.executive_program.specs.declared.program.Program.{Program}
 use Rattle.executive_program.specs.declared.program.Buffer as declared
 use Rattle.executive_program.specs.declared.steps.Place.{Place}
@@ -22,6 +21,7 @@ use Rattle.phase_laws.specs.Agrees.{LiesAt}
 use Rattle.phase_laws.proofs.Blocks.{sum_inside, sum_same_block, block_at_is}
 use Rattle.phase_laws.proofs.Places.{slice_get_some}
 use Rattle.phase_laws.proofs.AgreeLists.{put_here, put_there, set_in, get_in, get_in_here, get_in_there, same_length, same_lengths}
+use Rattle.syn_base.specs.Vectors.{zeros}
 
 -- a number of two digits tells both
 two_digits : (w a b n m : ℕ) → n < w → m < w → a * w + n ≡ b * w + m → (a ≡ b) × (n ≡ m)

@@ -3,13 +3,13 @@ use Rattle.std.proofs.Common.{◌≡◌, ℕ, ◌+◌, ◌-◌, ◌*◌, ◌/◌
 use Rattle.std.specs.Prelude.{slice_get, slice_index_or, slice_set, replicate, nat_eq, nat_lt, nat_le}
 use Rattle.std.proofs.lemmas.Bool.{cases_eq, cases_lt, eq-eqb, ne_eqb, ltb-true}
 use Rattle.std.proofs.lemmas.List.{length-set, length-replicate, get_or-replicate, get_or_past}
-use Rattle.interleavings.specs.Sites.{step_at, reaction_at, place_at}
-use Rattle.interleavings.specs.Precedence.{one_more}
-use Rattle.interleavings.specs.System as theory
-use Rattle.interleavings.specs.System.{Micro, State, put, place_number, load, store}
-use Rattle.level_meaning.specs.Level.{Vector, element_at, vector_at}
-use Rattle.flat_graph.specs.declared.vertex.Vertex.{Vertex}
-use Rattle.flat_graph.specs.declared.vertex.Kind.TheVariants.{Actuator}
+use Rattle.executive_program.specs.Sites.{step_at, reaction_at, place_at}
+use Rattle.executive_program.specs.Precedence.{one_more}
+use Rattle.executive_program.specs.System as theory
+use Rattle.executive_program.specs.System.{Micro, State, put, place_number, load, store, turn_reached}
+use Rattle.executive_program.specs.Level.{element_at}
+use Rattle.executive_program.specs.declared.Vertex.{Vertex}
+use Rattle.executive_program.specs.declared.Kind.TheVariants.{Actuator}
 use Rattle.executive_program.specs.declared.steps.Place.{Place}
 use Rattle.executive_program.specs.declared.steps.Place.TheVariants.{Buffer, Wire}
 use Rattle.executive_program.specs.declared.steps.OnLoad.{OnLoad}
@@ -18,17 +18,18 @@ use Rattle.executive_program.specs.declared.steps.MicroStep.{MicroStep}
 use Rattle.executive_program.specs.declared.steps.MicroStep.TheVariants.{Take, See, Lower, Signal, Await, Advance, Load, Store}
 use Rattle.executive_program.specs.Instructions.{len_of, depth_of, HasPlaces}
 use Rattle.executive_program.specs.MicroSteps.{code, transfers, wire_len}
-use Rattle.operation_desks.specs.Operation.{delay_of}
-use Rattle.operation_desks.specs.Registers.{Own, absorb_by, emit_by, after_by, absorb_at, emit_at, after_at}
 use Rattle.executive_program.specs.Steps.{steps}
+use Rattle.semaphore_core.specs.Operation.{delay_of}
+use Rattle.semaphore_core.specs.Registers.{Own, absorb_by, emit_by, after_by, absorb_at, emit_at, after_at}
 use Rattle.semaphore_core.specs.Job.{JobData, reactions, zero_rows, system}
-use Rattle.semaphore_core.specs.Core.{Core, home_of, slot_of, turn_reached, opening, count, counted, reaction, full, next, own, enabled_by, is_enabled, element_of, with_own, done_by, step, run_from, run}
+use Rattle.semaphore_core.specs.Core.{Core, home_of, slot_of, opening, count, counted, reaction, full, next, own, enabled_by, is_enabled, element_of, with_own, done_by, step, run_from, run}
 use Rattle.executive_program.proofs.Formed.{formed_has_places}
 use Rattle.phase_laws.specs.Agrees.{IsFormed, IsMatched, LiesAt, LoadsHere, StoresHere, caller, row_at, Agrees, StepsTogether}
 use Rattle.phase_laws.proofs.AgreeSteps.{AtSame, matched_at, steps_matched}
 use Rattle.phase_laws.proofs.AgreeLists.{put_here, put_there, set_put, set_in, set_in_lens}
 use Rattle.phase_laws.proofs.AgreePlaces.{word_of, slot_at, AllSame, stored_same, Placed, placed, opening_elements, buffer_list, wire_list}
 use Rattle.phase_laws.proofs.AgreeOwn.{IsOwn, absorb_same, emit_same, after_same}
+use Rattle.syn_base.specs.Vectors.{Vector, vector_at}
 
 -- each entry of a list of one thing, and what is read past its end
 replicate_at : {A : Type 0} (n i : ℕ) (a : A) → slice_index_or (replicate n a) i a ≡ a
@@ -37,10 +38,6 @@ replicate_at {A = A} n i a = by (cases_lt i n)
     by : (i < n) ⊎ (n ≤ i) → slice_index_or (replicate n a) i a ≡ a
     by (inl l) = get_or-replicate n i a a l
     by (inr l) = get_or_past (replicate n a) i a (let e : length (replicate n a) ≡ n = length-replicate n a in omega arith)
-
-same_reached : (j : JobData) (e : Bool) (t a : ℕ) → turn_reached e t a ≡ theory.turn_reached (system j) e t a
-same_reached j true t a = refl
-same_reached j false t a = refl
 
 module _ (j : JobData) (f : IsFormed j) where
   -- buffers have places, and both codes the same reactions and ends
@@ -285,7 +282,7 @@ module _ (j : JobData) (f : IsFormed j) where
       one (Lower x) c h is = subst (λ (q : Micro). Together (Lower x) q) (sym h.1) (record { enabled = refl; steps = semaphore_step x (slice_index_or z.semaphores x 0 - 1) (w.semaphores x - 1) h.0 (ap (λ (n : ℕ). n - 1) (a.semaphores x h.0)) })
       one (Signal x) c h is = subst (λ (q : Micro). Together (Signal x) q) (sym h.1) (record { enabled = refl; steps = semaphore_step x (slice_index_or z.semaphores x 0 + 1) (w.semaphores x + 1) h.0 (ap (λ (n : ℕ). n + 1) (a.semaphores x h.0)) })
       one (Await m i n exact) c h is = subst (λ (q : Micro). Together (Await m i n exact) q) (sym h.2)
-          (record { enabled = (λ t. turn_reached exact (a.turns m h.0 t) (reactions_same t * h.1 t + i)) ∙ same_reached j exact (w.turns m) (R * (2 * transfers j.program m) + i); steps = waits })
+          (record { enabled = (λ t. turn_reached exact (a.turns m h.0 t) (reactions_same t * h.1 t + i)); steps = waits })
       one (Advance m) c h is = subst (λ (q : Micro). Together (Advance m) q) (sym h.2) (record { enabled = refl; steps = turn_step m h.0 })
       one (Load x then) c h is = subst (λ (q : Micro). Together (Load x then) q) (sym h.4) (record { enabled = refl; steps = load_step x h.1 h.2 h.3 then h.0 is })
       one (Store x what) c h is = subst (λ (q : Micro). Together (Store x what) q) (sym h.4) (record { enabled = refl; steps = store_step x h.1 h.2 h.3 what h.0 is })

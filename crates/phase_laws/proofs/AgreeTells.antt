@@ -4,26 +4,27 @@ use Rattle.std.specs.Prelude.{slice_get, slice_index_or, if◌then◌else◌}
 use Rattle.std.proofs.lemmas.Bool.{cases_eq, cases_lt, and_parts, eqb-true}
 use Rattle.std.proofs.lemmas.List.{length-map, length-replicate, get_or-replicate}
 use Rattle.std.proofs.lemmas.Nat.{div_below, mod_below}
-use Rattle.interleavings.specs.System.{State}
-use Rattle.level_meaning.specs.Level.{Values, Vector, element_at, vector_at, zeros}
-use Rattle.flat_graph.specs.declared.vertex.Kind.{Kind}
-use Rattle.flat_graph.specs.declared.vertex.Kind.TheVariants.{Sensor, Actuator, Function, Constant, Get, Set, Explode, Implode, Merge}
-use Rattle.flat_graph.specs.declared.vertex.Vertex.{Vertex}
-use Rattle.flat_graph.specs.Graph.{Graph, lens_of}
-use Rattle.flat_graph.specs.Valid.{is_flat, fits, actuators_from, kinds_of}
-use Rattle.flat_graph.specs.Meaning.{is_get, delay_number, initial_cell, initial_cells}
-use Rattle.flat_graph.proofs.Facts.{vertex_valid, fits_of}
+use Rattle.executive_program.specs.System.{State}
+use Rattle.executive_program.specs.Level.{element_at}
+use Rattle.executive_program.specs.declared.Kind.{Kind}
+use Rattle.executive_program.specs.declared.Kind.TheVariants.{Sensor, Actuator, Function, Constant, Get, Set, Explode, Implode, Merge}
+use Rattle.executive_program.specs.declared.Vertex.{Vertex}
+use Rattle.executive_program.specs.Graph.{Graph, lens_of}
+use Rattle.executive_program.specs.FlatValid.{is_flat, fits, actuators_from, kinds_of}
+use Rattle.executive_program.specs.Meaning.{is_get, delay_number, initial_cell, initial_cells}
+use Rattle.executive_program.proofs.Facts.{vertex_valid, fits_of}
+use Rattle.executive_program.specs.FlatLaws.{actuator_lens, actuator_len}
 use Rattle.executive_program.specs.Instructions.{len_of, depth_of}
 use Rattle.executive_program.specs.MicroSteps.{wire_len}
-use Rattle.operation_desks.specs.Operation.{delay_by, delay_of}
-use Rattle.operation_desks.specs.Registers.{Own}
+use Rattle.semaphore_core.specs.Operation.{delay_by, delay_of}
+use Rattle.semaphore_core.specs.Registers.{Own}
 use Rattle.semaphore_core.specs.Job.{JobData, reactions, zero_rows}
-use Rattle.operation_desks.specs.RowLens.{actuator_len, actuator_lens}
 use Rattle.semaphore_core.specs.Core.{Core}
 use Rattle.phase_laws.specs.Agrees.{IsFormed, Agrees}
 use Rattle.phase_laws.proofs.AgreeLists.{same_length, same_lengths}
 use Rattle.phase_laws.proofs.AgreeDelays.{numbered_rows}
 use Rattle.phase_laws.proofs.AgreePlaces.{opening_elements, lists_many, buffer_list, wire_list}
+use Rattle.syn_base.specs.Vectors.{Vector, Values, vector_at, zeros}
 
 -- the get half of delay d
 pub record GetAt (xs : List Vertex) (d : ℕ) : Type 0 where

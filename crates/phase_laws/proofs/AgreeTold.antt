@@ -7,26 +7,27 @@ use Rattle.std.proofs.lemmas.List.{length-map, length-replicate, get_or_append_l
 use Rattle.std.proofs.lemmas.List.FromFn.{length-map-range_with_len, get_or-map-range_with_len}
 use Rattle.std.proofs.lemmas.Nat.{div-mul-add, mod-mul-add}
 use Rattle.std.proofs.lemmas.Option.{same_Some}
-use Rattle.interleavings.specs.System as theory
-use Rattle.interleavings.specs.System.{is_signal, is_take, advances, total}
-use Rattle.level_meaning.specs.Level.{Values, Vector, element_at, vector_at, zeros}
-use Rattle.flat_graph.specs.declared.vertex.Kind.{Kind}
-use Rattle.flat_graph.specs.declared.vertex.Kind.TheVariants.{Sensor, Actuator, Function, Constant, Get, Set, Explode, Implode, Merge}
-use Rattle.flat_graph.specs.declared.vertex.Vertex.{Vertex}
-use Rattle.flat_graph.specs.Graph.{lens_of}
-use Rattle.flat_graph.specs.Valid.{actuators_from, kinds_of}
-use Rattle.flat_graph.specs.Meaning.{is_get, delay_number, initial_cell, initial_cells, flat_act, cells_after}
+use Rattle.executive_program.specs.System as theory
+use Rattle.executive_program.specs.System.{is_signal, is_take, advances, total}
+use Rattle.executive_program.specs.Level.{element_at}
+use Rattle.executive_program.specs.declared.Kind.{Kind}
+use Rattle.executive_program.specs.declared.Kind.TheVariants.{Sensor, Actuator, Function, Constant, Get, Set, Explode, Implode, Merge}
+use Rattle.executive_program.specs.declared.Vertex.{Vertex}
+use Rattle.executive_program.specs.Graph.{lens_of}
+use Rattle.executive_program.specs.FlatValid.{actuators_from, kinds_of}
+use Rattle.executive_program.specs.Meaning.{is_get, delay_number, initial_cell, initial_cells, flat_act, cells_after}
+use Rattle.executive_program.specs.FlatLaws.{actuator_lens, actuator_len}
 use Rattle.executive_program.specs.Instructions.{len_of, depth_of}
 use Rattle.executive_program.specs.MicroSteps.{element_of, wire_of, wire_len}
-use Rattle.operation_desks.specs.Operation.{delay_of}
+use Rattle.semaphore_core.specs.Operation.{delay_of}
 use Rattle.semaphore_core.specs.Job.{JobData, reactions, zero_rows, system}
-use Rattle.operation_desks.specs.RowLens.{actuator_len, actuator_lens}
 use Rattle.semaphore_core.specs.Told.{stored_value, registers_after, made, last_load, cell_by, cells_from, cells_by, row_by, row_of, rows_from, rows_by, done_in, done_by, own_after, element_told, buffer_told, wire_told, told}
 use Rattle.phase_laws.specs.Agrees.{IsFormed, Agrees, caller, row_at}
 use Rattle.phase_laws.proofs.AgreeLists.{same_length, length_at}
 use Rattle.phase_laws.proofs.AgreeDelays.{GetHalf, get_half, later_row, numbered_rows}
 use Rattle.phase_laws.proofs.AgreePlaces.{opening_elements, lists_many, buffer_list, wire_list}
 use Rattle.phase_laws.proofs.AgreeTells.{OneInput, one_input}
+use Rattle.syn_base.specs.Vectors.{Vector, Values, vector_at, zeros}
 
 -- entry i of a list made from a function
 made_at : {A : Type 0} (g : ℕ → A) (n i : ℕ) (d : A) → i < n → slice_index_or (map g (range_with_len 0 n)) i d ≡ g i

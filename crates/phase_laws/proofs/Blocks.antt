@@ -4,7 +4,7 @@ use Rattle.std.specs.Prelude.{slice_get, ◌-◌}
 use Rattle.std.proofs.lemmas.Bool.{lt-ltb, le-ltb, cases_lt, cases_eq}
 use Rattle.std.proofs.lemmas.Option.{slice_get_within}
 use native.Mathlib.Nat.{suc-mul, zero-mul, zero-add, suc-add}
-use Rattle.interleavings.specs.Owners.{sum_below}
+use Rattle.executive_program.specs.Owners.{sum_below}
 use Rattle.executive_program.specs.Blocks.{blocks, block_at}
 
 pub get-append_past : {A : Type 0} (xs ys : List A) (r : ℕ) → slice_get (xs ++ ys) (length xs + r) ≡ slice_get ys r

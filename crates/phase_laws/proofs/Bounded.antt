@@ -5,9 +5,9 @@ use Rattle.std.specs.List.{range_with_len}
 use Rattle.std.proofs.lemmas.Bool.{cases_lt}
 use Rattle.std.proofs.lemmas.List.{get_or_past}
 use Rattle.std.proofs.lemmas.List.FromFn.{length-map-range_with_len, get_or-map-range_with_len}
-use Rattle.interleavings.specs.Sites.{Code, hit, passes, step_at}
-use Rattle.interleavings.specs.System.{System, Micro, is_take, is_signal, advances, total, total_to}
-use Rattle.interleavings.specs.Owners.{sum_below}
+use Rattle.executive_program.specs.Sites.{Code, hit, passes, step_at}
+use Rattle.executive_program.specs.System.{System, Micro, is_take, is_signal, advances, total, total_to}
+use Rattle.executive_program.specs.Owners.{sum_below}
 use Rattle.semaphore_core.specs.Job.{JobData, system}
 use Rattle.semaphore_core.specs.Held.{made}
 use Rattle.semaphore_core.specs.Told.{told}

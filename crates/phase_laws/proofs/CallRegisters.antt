@@ -4,22 +4,23 @@ use Rattle.std.specs.Prelude.{slice_get}
 use Rattle.std.proofs.lemmas.Option.{same_Some}
 use Rattle.std.proofs.lemmas.Bool.{lt-ltb, le-ltb, ne_eqb}
 use Rattle.std.proofs.lemmas.List.{take-take, take_all}
-use Rattle.interleavings.specs.Owners.{sum_below}
-use Rattle.level_meaning.specs.Level.{Vector, element_at, vector_at, all_joined}
-use Rattle.flat_graph.specs.declared.vertex.Kind.TheVariants.{Get}
-use Rattle.flat_graph.specs.declared.vertex.Vertex.{Vertex}
-use Rattle.flat_graph.specs.Meaning.{delay_number, cell_of, cells_after, flat_outputs}
+use Rattle.executive_program.specs.Owners.{sum_below}
+use Rattle.executive_program.specs.Level.{element_at, all_joined}
+use Rattle.executive_program.specs.declared.Kind.TheVariants.{Get}
+use Rattle.executive_program.specs.declared.Vertex.{Vertex}
+use Rattle.executive_program.specs.Meaning.{delay_number, cell_of, cells_after, flat_outputs}
 use Rattle.executive_program.specs.declared.program.Instr.{Instr}
 use Rattle.executive_program.specs.declared.program.Instr.TheVariants.{Suc0, Suc1, Pre0, Pre1, Call, Send, Recv, Sync}
 use Rattle.executive_program.specs.Instructions.{len_of}
 use Rattle.executive_program.specs.Steps.{len_at, elements_in}
-use Rattle.operation_desks.specs.Registers.{Own, gathered, compute, compute_by}
+use Rattle.semaphore_core.specs.Registers.{Own, gathered, compute, compute_by}
 use Rattle.semaphore_core.specs.Job.{JobData, reactions}
 use Rattle.semaphore_core.specs.Told.{registers_in, buffer_value}
 use Rattle.phase_laws.specs.Values.{IsSupplied}
 use Rattle.phase_laws.proofs.Lengths.{Carry, Give, carried_sized, output_lens, given_lens, given_value}
 use Rattle.phase_laws.proofs.Joined.{take_snoc, element_is, elements_are, element_of_joined}
 use Rattle.phase_laws.proofs.Computing.{outputs_are}
+use Rattle.syn_base.specs.Vectors.{Vector, vector_at}
 
 -- before its first micro-step an instruction has no registers
 pub zero_registers : (j : JobData) (k : ℕ) (o : Option Instr) → registers_in j k o 0 ≡ []

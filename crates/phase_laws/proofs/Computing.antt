@@ -2,24 +2,25 @@
 use Rattle.std.proofs.Common.{◌≡◌, ℕ, suc, ◌<◌, ◌⊎◌, List, [], ◌∷◌, ◌++◌, length, map, take, drop, Option, Some, refl, sym, ap, inl, inr, ◌∙◌, ℤ}
 use Rattle.std.specs.Prelude.{slice_get, slice_index_or, if◌then◌else◌}
 use Rattle.std.proofs.lemmas.List.{set-get_or}
-use Rattle.body_lang.specs.Expr.{Expr}
-use Rattle.level_meaning.specs.Level.{Vector, Values, vector_at, zeros, all_joined}
-use Rattle.flat_graph.specs.declared.vertex.Source.{Source}
-use Rattle.flat_graph.specs.declared.vertex.Guard.{Guard}
-use Rattle.flat_graph.specs.declared.vertex.Kind.{Kind}
-use Rattle.flat_graph.specs.declared.vertex.Kind.TheVariants.{Sensor, Actuator, Function, Constant, Get, Set, Explode, Implode, Merge}
-use Rattle.flat_graph.specs.declared.vertex.Vertex.{Vertex}
-use Rattle.flat_graph.specs.Graph.{Graph, with_vertex}
-use Rattle.flat_graph.specs.Fire.{fired, kept, stored, guards_hold, kind_outputs}
-use Rattle.flat_graph.specs.Meaning.{sensed, delay_number, cell_of, value_in, conditions, inputs, reads, cells_after, flat_outputs}
-use Rattle.flat_graph.proofs.Settled.{fixed_point}
-use Rattle.flat_graph.proofs.Fired.{is_kept, first_reads, last_reads}
-use Rattle.operation_desks.specs.Operation.{conditions_in, inputs_in, vectors_from, lens_in, delay_of, delay_by, cell_at, with_cell, rows_by, outputs_of, cells_left, rows_left}
+use Rattle.executive_program.specs.Expr.{Expr}
+use Rattle.executive_program.specs.Level.{all_joined}
+use Rattle.executive_program.specs.declared.Source.{Source}
+use Rattle.executive_program.specs.declared.Guard.{Guard}
+use Rattle.executive_program.specs.declared.Kind.{Kind}
+use Rattle.executive_program.specs.declared.Kind.TheVariants.{Sensor, Actuator, Function, Constant, Get, Set, Explode, Implode, Merge}
+use Rattle.executive_program.specs.declared.Vertex.{Vertex}
+use Rattle.executive_program.specs.Graph.{Graph, with_vertex}
+use Rattle.executive_program.specs.Fire.{fired, kept, stored, guards_hold, kind_outputs}
+use Rattle.executive_program.specs.Meaning.{sensed, delay_number, cell_of, value_in, conditions, inputs, reads, cells_after, flat_outputs}
+use Rattle.executive_program.proofs.Settled.{fixed_point}
+use Rattle.executive_program.proofs.Fired.{is_kept, first_reads, last_reads}
+use Rattle.semaphore_core.specs.Operation.{conditions_in, inputs_in, vectors_from, lens_in, delay_of, delay_by, cell_at, with_cell, rows_by, outputs_of, cells_left, rows_left}
 use Rattle.semaphore_core.specs.Job.{JobData, reactions}
 use Rattle.semaphore_core.specs.Told.{source_value, buffer_value}
 use Rattle.phase_laws.specs.Values.{IsSupplied}
 use Rattle.phase_laws.proofs.Lengths.{Carry, carried_values, carried_sized, called_lens}
 use Rattle.phase_laws.proofs.Joined.{vectors_back}
+use Rattle.syn_base.specs.Vectors.{Vector, Values, vector_at, zeros}
 
 cell_unused : (bodies : List (List Expr)) (k : Kind) (outs : List ℕ) (c d seen : Vector) (ins : Values) → ((z : List ℤ) → k ≡ Get z → c ≡ d) → kind_outputs bodies k outs c seen ins ≡ kind_outputs bodies k outs d seen ins
 cell_unused bodies (Sensor i) outs c d seen ins h = refl

@@ -5,10 +5,10 @@ use Rattle.std.specs.List.{count_by}
 use Rattle.std.proofs.lemmas.Option.{same_Some}
 use Rattle.std.proofs.lemmas.Bool.{cases_eq, cases_Bool, both_ways}
 use Rattle.std.proofs.lemmas.List.Sums.{sum_by-cons}
-use Rattle.interleavings.specs.Sites.{hit}
-use Rattle.interleavings.specs.System.{Micro}
-use Rattle.interleavings.proofs.Sums.{none_below}
-use Rattle.interleavings.specs.Owners.{sum_below}
+use Rattle.executive_program.specs.Sites.{hit}
+use Rattle.executive_program.specs.System.{Micro}
+use Rattle.executive_program.proofs.InterleavingSums.{none_below}
+use Rattle.executive_program.specs.Owners.{sum_below}
 
 module _ {A : Type 0} (f : A → Bool) where
   abbrev pub one_if : A → ℕ

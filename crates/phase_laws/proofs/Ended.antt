@@ -5,20 +5,19 @@ use Rattle.std.specs.List.{range_with_len}
 use Rattle.std.proofs.lemmas.Bool.{lt-ltb, le-ltb, and_parts, eqb-true}
 use Rattle.std.proofs.lemmas.Option.{same_Some}
 use Rattle.std.proofs.lemmas.List.{drop_more, drop_all, length-map}
-use Rattle.interleavings.specs.Sites.{reaction_at, place_at, number_of}
-use Rattle.interleavings.proofs.Numbers.{reaction_number, place_number}
-use Rattle.level_meaning.specs.Level.{Values, Vector, vector_at, zeros}
-use Rattle.flat_graph.specs.declared.vertex.Source.{Source}
-use Rattle.flat_graph.specs.declared.vertex.Vertex.{Vertex}
-use Rattle.flat_graph.specs.declared.vertex.Kind.{Kind}
-use Rattle.flat_graph.specs.declared.vertex.Kind.TheVariants.{Sensor, Actuator, Function, Constant, Get, Set, Explode, Implode, Merge}
-use Rattle.flat_graph.specs.Graph.{lens_of}
-use Rattle.flat_graph.specs.Order.{is_acyclic}
-use Rattle.flat_graph.specs.Valid.{fits, actuators_from, kinds_of}
-use Rattle.flat_graph.specs.Laws.{delay_len, delay_lens}
-use Rattle.flat_graph.specs.Meaning.{is_get, initial_cell, initial_cells, value_in, taken, taken_by, cells_after, flat_act, flat_act_row}
-use Rattle.flat_graph.proofs.Facts.{vertex_valid, fits_of}
-use Rattle.flat_graph.proofs.KindLens.{one_is}
+use Rattle.executive_program.specs.Sites.{reaction_at, place_at, number_of}
+use Rattle.executive_program.proofs.Numbers.{reaction_number, place_number}
+use Rattle.executive_program.specs.declared.Source.{Source}
+use Rattle.executive_program.specs.declared.Vertex.{Vertex}
+use Rattle.executive_program.specs.declared.Kind.{Kind}
+use Rattle.executive_program.specs.declared.Kind.TheVariants.{Sensor, Actuator, Function, Constant, Get, Set, Explode, Implode, Merge}
+use Rattle.executive_program.specs.Graph.{lens_of}
+use Rattle.executive_program.specs.FlatOrder.{is_acyclic}
+use Rattle.executive_program.specs.FlatValid.{fits, actuators_from, kinds_of}
+use Rattle.executive_program.specs.FlatLaws.{delay_len, delay_lens}
+use Rattle.executive_program.specs.Meaning.{is_get, initial_cell, initial_cells, value_in, taken, taken_by, cells_after, flat_act, flat_act_row}
+use Rattle.executive_program.proofs.Facts.{vertex_valid, fits_of}
+use Rattle.executive_program.proofs.KindLens.{one_is}
 use Rattle.executive_program.specs.declared.program.Instr.TheVariants.{Call}
 use Rattle.executive_program.specs.MicroSteps.{code}
 use Rattle.executive_program.specs.Places.{calling}
@@ -37,6 +36,7 @@ use Rattle.phase_laws.proofs.Together.{have_laws}
 use Rattle.phase_laws.specs.Central.{RowsAreTaken}
 use Rattle.phase_laws.specs.Ended.{last_cells, all_acts, full_counts, RunsEnd, RunsTakeRows, FullIsEnded}
 use Rattle.std.proofs.lemmas.List.FromFn.{get_or-map-range_with_len}
+use Rattle.syn_base.specs.Vectors.{Vector, Values, vector_at, zeros}
 
 get_of : (k : Kind) → is_get k ≡ true → (z : List ℤ) × (k ≡ Get z)
 get_of (Get z) h = (z, refl)

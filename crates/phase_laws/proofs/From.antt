@@ -4,8 +4,8 @@ use Rattle.std.specs.Prelude.{slice_get}
 use Rattle.std.proofs.lemmas.Option.{same_Some, slice_get_within}
 use Rattle.std.proofs.lemmas.Bool.{cases_lt, cases_eq, eq-eqb, ne_eqb}
 use native.Mathlib.Nat.{mul-one}
-use Rattle.interleavings.specs.System.{Micro, take as taken, see, sub, signal, await, advance, load, store}
-use Rattle.interleavings.specs.Owners.{sum_below}
+use Rattle.executive_program.specs.System.{Micro, take as taken, see, sub, signal, await, advance, load, store}
+use Rattle.executive_program.specs.Owners.{sum_below}
 use Rattle.executive_program.specs.declared.program.Instr.{Instr}
 use Rattle.executive_program.specs.declared.program.Instr.TheVariants.{Suc0, Suc1, Pre0, Pre1, Call, Send, Recv, Sync}
 use Rattle.executive_program.specs.declared.program.Program.{Program}

@@ -2,12 +2,12 @@
 use Rattle.std.proofs.Common.{◌≡◌, ℕ, true, false, List, length, Option, Some, None, refl, sym, ap, ◌∙◌, ℤ}
 use Rattle.std.specs.Prelude.{slice_get, nat_lt}
 use Rattle.std.proofs.lemmas.Bool.{and_parts, eqb-true, false≢true}
-use Rattle.flat_graph.specs.declared.vertex.Kind.{Kind}
-use Rattle.flat_graph.specs.declared.vertex.Kind.TheVariants.{Sensor, Actuator, Function, Constant, Get, Set, Explode, Implode, Merge}
-use Rattle.flat_graph.specs.declared.vertex.Vertex.{Vertex}
-use Rattle.flat_graph.specs.Graph.{Graph, with_vertex, lens_of}
-use Rattle.flat_graph.specs.Valid.{is_flat, names, is_only, has_twin, has_set_half, has_get_half, is_set_half_of, is_set_half_by, is_get_half_of, is_get_half_by}
-use Rattle.flat_graph.proofs.Facts.{vertex_valid, twin_of}
+use Rattle.executive_program.specs.declared.Kind.{Kind}
+use Rattle.executive_program.specs.declared.Kind.TheVariants.{Sensor, Actuator, Function, Constant, Get, Set, Explode, Implode, Merge}
+use Rattle.executive_program.specs.declared.Vertex.{Vertex}
+use Rattle.executive_program.specs.Graph.{Graph, with_vertex, lens_of}
+use Rattle.executive_program.specs.FlatValid.{is_flat, is_only, has_twin, has_set_half, has_get_half, is_set_half_of, is_set_half_by, is_get_half_of, is_get_half_by, is_number}
+use Rattle.executive_program.proofs.Facts.{vertex_valid, twin_of}
 
 pub record SetHalf (g : Graph) (v : ℕ) (twin : Option ℕ) : Type 0 where
   pub at : ℕ
@@ -26,12 +26,12 @@ pub record GetHalf (g : Graph) (v : ℕ) (twin : Option ℕ) : Type 0 where
   pub kind : half.kind ≡ Get values
   pub back : half.twin ≡ Some v
 
-named : (o : Option ℕ) (v : ℕ) → names o v ≡ true → o ≡ Some v
+named : (o : Option ℕ) (v : ℕ) → is_number o v ≡ true → o ≡ Some v
 named None v e = absurd (false≢true e)
 named (Some w) v e = ap (λ (i : ℕ). Some i) (eqb-true w v e)
 
 set_by : (g : Graph) (v n : ℕ) (y : Vertex) (k : Kind) → is_set_half_by g.vertices v n y k ≡ true → (k ≡ Set) × (y.twin ≡ Some v)
-set_by g v n y Set e = (refl, named y.twin v (and_parts (names y.twin v) (is_only n (lens_of g.vertices y.ins)) e).0)
+set_by g v n y Set e = (refl, named y.twin v (and_parts (is_number y.twin v) (is_only n (lens_of g.vertices y.ins)) e).0)
 set_by g v n y (Sensor i) e = absurd (false≢true e)
 set_by g v n y (Actuator i) e = absurd (false≢true e)
 set_by g v n y (Function b) e = absurd (false≢true e)

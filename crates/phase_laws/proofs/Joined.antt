@@ -5,13 +5,14 @@ use Rattle.std.proofs.lemmas.Option.{same_Some}
 use Rattle.std.proofs.lemmas.List.{same_lists, get_or_append_left, get_or-append-add, get_or_default, length-map}
 use Rattle.std.proofs.lemmas.List.FromFn.{length-map-range_with_len, get_or-map-range_with_len}
 use native.Mathlib.Nat.{zero-add}
-use Rattle.interleavings.specs.Owners.{sum_below}
-use Rattle.level_meaning.specs.Level.{Vector, Values, element_at, vector_at, all_joined}
+use Rattle.executive_program.specs.Owners.{sum_below}
+use Rattle.executive_program.specs.Level.{element_at, all_joined}
 use Rattle.executive_program.specs.declared.program.Program.{Program}
-use Rattle.executive_program.specs.Instructions.{len_of}
-use Rattle.operation_desks.specs.Operation.{vector_in, vectors_from}
-use Rattle.executive_program.specs.Steps.{len_by, len_at, elements_in}
+use Rattle.executive_program.specs.Instructions.{len_of, len_by}
+use Rattle.executive_program.specs.Steps.{len_at, elements_in}
+use Rattle.semaphore_core.specs.Operation.{vector_in, vectors_from}
 use Rattle.phase_laws.proofs.Blocks.{get-append_past, get-append_within}
+use Rattle.syn_base.specs.Vectors.{Vector, Values, vector_at}
 
 pub sum_cons : (f : ℕ → ℕ) (n : ℕ) → sum_below f (suc n) ≡ f 0 + sum_below (λ i. f (suc i)) n
 sum_cons f zero = omega arith

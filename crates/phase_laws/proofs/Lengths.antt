@@ -4,27 +4,27 @@ use Rattle.std.specs.Prelude.{slice_get, slice_index_or, ◌==◌, replicate}
 use Rattle.std.specs.List.{list_all}
 use Rattle.std.proofs.lemmas.Option.{same_Some, get_or_from_slice_get}
 use Rattle.std.proofs.lemmas.Bool.{and_parts, eqb-true}
-use Rattle.level_meaning.specs.Level.{vector_at}
-use Rattle.flat_graph.specs.declared.vertex.Source.{Source}
-use Rattle.flat_graph.specs.declared.vertex.Guard.{Guard}
-use Rattle.flat_graph.specs.declared.vertex.Kind.{Kind}
-use Rattle.flat_graph.specs.declared.vertex.Kind.TheVariants.{Sensor, Actuator, Function, Constant, Get, Set, Explode, Implode, Merge}
-use Rattle.flat_graph.specs.declared.vertex.Vertex.{Vertex}
-use Rattle.flat_graph.specs.Graph.{with_vertex, len_of as source_len, lens_of}
-use Rattle.flat_graph.specs.Valid.{is_guard, has_twin, fits}
-use Rattle.flat_graph.specs.Meaning.{initial_cell, initial_cells, cells_after, flat_outputs}
-use Rattle.flat_graph.specs.Laws.{delay_lens, delay_len}
-use Rattle.flat_graph.proofs.Facts.{vertex_valid}
-use Rattle.flat_graph.proofs.Sizes.{keeps_lengths}
-use Rattle.flat_graph.proofs.KindLens.{length-vector_at}
+use Rattle.executive_program.specs.declared.Source.{Source}
+use Rattle.executive_program.specs.declared.Guard.{Guard}
+use Rattle.executive_program.specs.declared.Kind.{Kind}
+use Rattle.executive_program.specs.declared.Kind.TheVariants.{Sensor, Actuator, Function, Constant, Get, Set, Explode, Implode, Merge}
+use Rattle.executive_program.specs.declared.Vertex.{Vertex}
+use Rattle.executive_program.specs.Graph.{with_vertex, len_of as source_len, lens_of}
+use Rattle.executive_program.specs.FlatValid.{is_guard, has_twin, fits}
+use Rattle.executive_program.specs.Meaning.{initial_cell, initial_cells, cells_after, flat_outputs}
+use Rattle.executive_program.specs.FlatLaws.{delay_lens, delay_len}
+use Rattle.executive_program.proofs.Facts.{vertex_valid}
+use Rattle.executive_program.proofs.FlatSizes.{keeps_lengths}
+use Rattle.executive_program.proofs.KindLens.{length-vector_at}
 use Rattle.executive_program.specs.declared.program.Buffer.{Buffer}
 use Rattle.executive_program.specs.Instructions.{len_of, len_in}
-use Rattle.operation_desks.specs.Operation.{lens_in}
 use Rattle.executive_program.specs.Places.{places, carried}
 use Rattle.executive_program.specs.WellFormed.{HasLength, CarryInOrder, CarryOutputs, len_is}
+use Rattle.semaphore_core.specs.Operation.{lens_in}
 use Rattle.semaphore_core.specs.Job.{JobData, reactions}
 use Rattle.semaphore_core.specs.Told.{source_value, buffer_value}
 use Rattle.phase_laws.specs.Values.{IsSupplied}
+use Rattle.syn_base.specs.Vectors.{vector_at}
 
 initial_lens : (xs : List Vertex) → map length (initial_cells xs) ≡ delay_lens xs
 initial_lens [] = refl

@@ -43,3 +43,12 @@ mod Ended
 pub mod Reached
 mod Windows
 mod OneWord
+-- Lemmas from below, which proofs above cite with those of this crate.
+pub use Rattle.semaphore_core.proofs.Jobs
+pub use Rattle.semaphore_core.proofs.Numbered
+pub use Rattle.semaphore_core.proofs.OpenStates
+pub use Rattle.semaphore_core.proofs.Opened
+pub use Rattle.semaphore_core.proofs.Ready
+pub use Rattle.semaphore_core.proofs.RowFive
+pub use Rattle.semaphore_core.proofs.Runs
+pub use Rattle.semaphore_core.proofs.Standing as CoreStanding

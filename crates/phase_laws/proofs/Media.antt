@@ -3,10 +3,10 @@ use Rattle.std.proofs.Common.{◌≡◌, ℕ, suc, ◌+◌, ◌*◌, ◌/◌, �
 use Rattle.std.specs.Prelude.{slice_get}
 use Rattle.std.proofs.lemmas.Option.{same_Some}
 use Rattle.std.proofs.lemmas.Bool.{eqb-true, eq-eqb, cases_eq, cases_order, lt-ltb, le-ltb, cases_lt, and_parts, and_from}
-use Rattle.interleavings.specs.Sites.{step_at, place_at}
-use Rattle.interleavings.specs.System.{System, Micro, take as taken, see, sub, signal, await, advance, load, store, advances}
-use Rattle.interleavings.specs.Owners.{Owner, IsOwned}
-use Rattle.interleavings.specs.Media.{Half, owner_of, advances_half, IsMedium}
+use Rattle.executive_program.specs.Sites.{step_at, place_at}
+use Rattle.executive_program.specs.System.{System, Micro, take as taken, see, sub, signal, await, advance, load, store, advances}
+use Rattle.executive_program.specs.Owners.{Owner, IsOwned}
+use Rattle.executive_program.specs.Media.{Half, owner_of, advances_half, IsMedium}
 use Rattle.executive_program.specs.declared.program.Instr.{Instr}
 use Rattle.executive_program.specs.declared.program.Instr.TheVariants.{Send, Recv, Sync}
 use Rattle.executive_program.specs.declared.program.Program.{Program}

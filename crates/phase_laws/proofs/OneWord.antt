@@ -1,12 +1,13 @@
 -- A sequence is enabled by the one word that its next micro-step looks at.
 use Rattle.std.proofs.Common.{◌≡◌, ℕ, ◌*◌, ◌+◌, cond, ltb, length, Option, Some, None, refl, ap, ◌∙◌}
 use Rattle.std.specs.Prelude.{nat_eq, nat_le}
-use Rattle.interleavings.specs.Sites.{step_at, reaction_at}
+use Rattle.executive_program.specs.Sites.{step_at, reaction_at}
+use Rattle.executive_program.specs.System.{turn_reached}
 use Rattle.executive_program.specs.declared.steps.MicroStep.{MicroStep}
 use Rattle.executive_program.specs.declared.steps.MicroStep.TheVariants.{Take, See, Lower, Signal, Await, Advance, Load, Store}
 use Rattle.executive_program.specs.Steps.{steps}
 use Rattle.semaphore_core.specs.Job.{JobData}
-use Rattle.semaphore_core.specs.Core.{Core, full, next, reaction, enabled_in, enabled_by, turn_reached}
+use Rattle.semaphore_core.specs.Core.{Core, full, next, reaction, enabled_in, enabled_by}
 use Rattle.phase_laws.specs.OneWord.{HaveSameWord, looked_at, looked_at_by, EnabledByOneWord}
 
 -- in one reaction

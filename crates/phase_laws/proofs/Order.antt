@@ -6,12 +6,12 @@ use Rattle.std.proofs.lemmas.Option.{slice_get_within}
 use Rattle.std.proofs.lemmas.Bool.{ne_eqb, eq-eqb, cases_eq, cases_order, cases_lt}
 use Rattle.std.proofs.Math.Nat.{mul-le-mul_right}
 use native.Mathlib.Nat.{suc-mul}
-use Rattle.interleavings.specs.System.{System, Micro, take as taken, see, signal, await}
-use Rattle.interleavings.proofs.Sums.{member_below}
-use Rattle.interleavings.specs.Owners.{Owner}
-use Rattle.interleavings.specs.Media.{Half}
-use Rattle.interleavings.specs.Pairs.{IsSemaphore}
-use Rattle.interleavings.specs.Order.{IsOrdered}
+use Rattle.executive_program.specs.System.{System, Micro, take as taken, see, signal, await}
+use Rattle.executive_program.proofs.InterleavingSums.{member_below}
+use Rattle.executive_program.specs.Owners.{Owner}
+use Rattle.executive_program.specs.Media.{Half}
+use Rattle.executive_program.specs.Pairs.{IsSemaphore}
+use Rattle.executive_program.specs.InterleavingOrder.{IsOrdered}
 use Rattle.executive_program.specs.declared.program.Instr.{Instr}
 use Rattle.executive_program.specs.declared.program.Instr.TheVariants.{Suc0, Suc1, Pre1, Sync}
 use Rattle.executive_program.specs.declared.program.Program.{Program}

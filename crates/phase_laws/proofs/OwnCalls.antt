@@ -3,21 +3,21 @@ use Rattle.std.proofs.Common.{◌≡◌, ℕ, ◌+◌, ◌-◌, ◌<◌, ◌≤�
 use Rattle.std.specs.Prelude.{slice_get, nat_lt}
 use Rattle.std.proofs.lemmas.Option.{same_Some, slice_get_within}
 use Rattle.std.proofs.lemmas.Bool.{cases_eq, lt-ltb, le-ltb, eq-eqb, ne_eqb}
-use Rattle.interleavings.specs.Sites.{reaction_at}
-use Rattle.interleavings.specs.System.{Micro}
-use Rattle.interleavings.specs.Owners.{sum_below}
-use Rattle.level_meaning.specs.Level.{vector_at, element_at, all_joined}
-use Rattle.flat_graph.specs.declared.vertex.Kind.TheVariants.{Get}
-use Rattle.flat_graph.specs.declared.vertex.Vertex.{Vertex}
-use Rattle.flat_graph.specs.Meaning.{is_get, delay_number, cell_of, cells_after, flat_outputs}
+use Rattle.executive_program.specs.Sites.{reaction_at}
+use Rattle.executive_program.specs.System.{Micro}
+use Rattle.executive_program.specs.Owners.{sum_below}
+use Rattle.executive_program.specs.Level.{element_at, all_joined}
+use Rattle.executive_program.specs.declared.Kind.TheVariants.{Get}
+use Rattle.executive_program.specs.declared.Vertex.{Vertex}
+use Rattle.executive_program.specs.Meaning.{is_get, delay_number, cell_of, cells_after, flat_outputs}
 use Rattle.executive_program.specs.declared.program.Instr.{Instr}
 use Rattle.executive_program.specs.declared.program.Instr.TheVariants.{Call}
 use Rattle.executive_program.specs.Instructions.{turn, len_of}
 use Rattle.executive_program.specs.MicroSteps.{code, size, begins}
-use Rattle.operation_desks.specs.Operation.{vectors_from, lens_in, inputs_in}
 use Rattle.executive_program.specs.Places.{calling, places, carried, ins_in, outs_in}
 use Rattle.executive_program.specs.Steps.{len_at, elements_in, on_load, on_store}
-use Rattle.operation_desks.specs.Registers.{Own, with_registers, kept, gathered, compute, compute_by, absorb_by, emit_by, after_by}
+use Rattle.semaphore_core.specs.Operation.{vectors_from, lens_in, inputs_in}
+use Rattle.semaphore_core.specs.Registers.{Own, with_registers, kept, gathered, compute, compute_by, absorb_by, emit_by, after_by}
 use Rattle.semaphore_core.specs.Job.{JobData, reactions}
 use Rattle.semaphore_core.specs.Told.{index_at, registers_in, buffer_value, own_after}
 use Rattle.executive_program.specs.WellFormed.{Stands, IsCalled}
@@ -30,6 +30,7 @@ use Rattle.phase_laws.proofs.Computing.{cells_other, rows_other}
 use Rattle.phase_laws.proofs.CallRegisters.{zero_registers, loads_are, loaded_at, stored_at, more_loaded, computed, gathers, full_load, compute_is}
 use Rattle.phase_laws.proofs.Stateful.{Changes, fed, call_size}
 use Rattle.phase_laws.proofs.OwnSteps.{cell_found, kept_all, computed_cells, computed_rows}
+use Rattle.syn_base.specs.Vectors.{vector_at}
 
 pub same_own : (c d : Own) → c.registers ≡ d.registers → c.cells ≡ d.cells → c.rows ≡ d.rows → c ≡ d
 same_own c d a b e = λ i. record { registers = a i; cells = b i; rows = e i }

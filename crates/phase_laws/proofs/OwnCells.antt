@@ -3,13 +3,13 @@ use Rattle.std.proofs.Common.{◌≡◌, ℕ, zero, suc, ◌+◌, Bool, true, fa
 use Rattle.std.specs.Prelude.{slice_get, slice_set, if◌then◌else◌}
 use Rattle.std.proofs.lemmas.Option.{same_Some}
 use Rattle.std.proofs.lemmas.List.{drop_more, drop_all}
-use Rattle.level_meaning.specs.Level.{Vector, vector_at}
-use Rattle.flat_graph.specs.declared.vertex.Kind.{Kind}
-use Rattle.flat_graph.specs.declared.vertex.Kind.TheVariants.{Sensor, Actuator, Function, Constant, Get, Set, Explode, Implode, Merge}
-use Rattle.flat_graph.specs.declared.vertex.Vertex.{Vertex}
-use Rattle.flat_graph.specs.Meaning.{is_get, delay_number, initial_cell, initial_cells, cells_after}
+use Rattle.executive_program.specs.declared.Kind.{Kind}
+use Rattle.executive_program.specs.declared.Kind.TheVariants.{Sensor, Actuator, Function, Constant, Get, Set, Explode, Implode, Merge}
+use Rattle.executive_program.specs.declared.Vertex.{Vertex}
+use Rattle.executive_program.specs.Meaning.{is_get, delay_number, initial_cell, initial_cells, cells_after}
 use Rattle.semaphore_core.specs.Job.{JobData}
 use Rattle.semaphore_core.specs.Told.{cell_by, cells_from}
+use Rattle.syn_base.specs.Vectors.{Vector, vector_at}
 
 -- set half t of get half u, the operation x, among these
 abbrev pub HasTwin : List Vertex → ℕ → Vertex → ℕ → Type 0

@@ -2,15 +2,15 @@
 use Rattle.std.proofs.Common.{◌≡◌, ℕ, ◌+◌, ◌-◌, ◌*◌, ◌/◌, ◌%◌, ◌<◌, ◌⊎◌, Bool, true, false, cond, List, [], ◌∷◌, length, Some, refl, sym, ap, inl, inr, ⊎_elim, arith, ◌∙◌, ℤ, length-append}
 use Rattle.std.specs.Prelude.{nat_lt}
 use Rattle.std.proofs.lemmas.Bool.{lt-ltb, le-ltb, ne_eqb}
-use Rattle.interleavings.specs.Sites.{reaction_at}
-use Rattle.interleavings.specs.System.{Micro, load, store, advance}
-use Rattle.level_meaning.specs.Level.{element_at}
+use Rattle.executive_program.specs.Sites.{reaction_at}
+use Rattle.executive_program.specs.System.{Micro, load, store, advance}
+use Rattle.executive_program.specs.Level.{element_at}
 use Rattle.executive_program.specs.declared.program.Instr.{Instr}
 use Rattle.executive_program.specs.declared.program.Instr.TheVariants.{Call, Send, Recv}
 use Rattle.executive_program.specs.Blocks.{blocks}
 use Rattle.executive_program.specs.Instructions.{len_of, communications}
 use Rattle.executive_program.specs.MicroSteps.{code, size, element_of, wire_of, access, send_at, receive_at}
-use Rattle.operation_desks.specs.Registers.{with_registers}
+use Rattle.semaphore_core.specs.Registers.{with_registers}
 use Rattle.semaphore_core.specs.Job.{JobData}
 use Rattle.semaphore_core.specs.Told.{registers_in, copied, buffer_value, own_after}
 use Rattle.phase_laws.specs.Values.{IsSupplied}

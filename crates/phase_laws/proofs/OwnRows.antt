@@ -5,20 +5,20 @@ use Rattle.std.proofs.lemmas.Option.{same_Some}
 use Rattle.std.proofs.lemmas.Bool.{and_parts, eqb-true, cases_eq, le-ltb}
 use Rattle.std.proofs.lemmas.List.{same_lists, length-set, get_or-set_same, get_or-set_other, map-append, length-replicate, get_or-replicate}
 use Rattle.std.proofs.lemmas.List.FromFn.{length-map-range_with_len, get_or-map-range_with_len}
-use Rattle.level_meaning.specs.Level.{Vector, Values, vector_at, zeros}
-use Rattle.flat_graph.specs.declared.vertex.Source.{Source}
-use Rattle.flat_graph.specs.declared.vertex.Kind.{Kind}
-use Rattle.flat_graph.specs.declared.vertex.Kind.TheVariants.{Sensor, Actuator, Function, Constant, Get, Set, Explode, Implode, Merge}
-use Rattle.flat_graph.specs.declared.vertex.Vertex.{Vertex}
-use Rattle.flat_graph.specs.Graph.{Graph, lens_of}
-use Rattle.flat_graph.specs.Order.{is_acyclic}
-use Rattle.flat_graph.specs.Valid.{is_flat, fits, actuators_from, kinds_of}
-use Rattle.flat_graph.specs.Meaning.{inputs, value_in, taken, taken_by, cells_after, flat_act}
-use Rattle.flat_graph.proofs.Facts.{vertex_valid, fits_of}
-use Rattle.flat_graph.proofs.KindLens.{one_is}
+use Rattle.executive_program.specs.declared.Source.{Source}
+use Rattle.executive_program.specs.declared.Kind.{Kind}
+use Rattle.executive_program.specs.declared.Kind.TheVariants.{Sensor, Actuator, Function, Constant, Get, Set, Explode, Implode, Merge}
+use Rattle.executive_program.specs.declared.Vertex.{Vertex}
+use Rattle.executive_program.specs.Graph.{Graph, lens_of}
+use Rattle.executive_program.specs.FlatOrder.{is_acyclic}
+use Rattle.executive_program.specs.FlatValid.{is_flat, fits, actuators_from, kinds_of}
+use Rattle.executive_program.specs.Meaning.{inputs, value_in, taken, taken_by, cells_after, flat_act}
+use Rattle.executive_program.proofs.Facts.{vertex_valid, fits_of}
+use Rattle.executive_program.proofs.KindLens.{one_is}
+use Rattle.executive_program.specs.FlatLaws.{actuator_lens, actuator_len}
 use Rattle.semaphore_core.specs.Job.{JobData, reactions, zero_rows}
-use Rattle.operation_desks.specs.RowLens.{actuator_len, actuator_lens}
 use Rattle.semaphore_core.specs.Told.{row_by, row_of, rows_from, rows_by}
+use Rattle.syn_base.specs.Vectors.{Vector, Values, vector_at, zeros}
 
 numbered : (g : Graph) → is_flat g ≡ true → actuators_from 0 (kinds_of g.vertices) ≡ true
 numbered g h = (and_parts _ (actuators_from 0 (kinds_of g.vertices)) (and_parts _ (is_acyclic g.vertices) h).0).1

@@ -3,21 +3,21 @@ use Rattle.std.proofs.Common.{◌≡◌, ℕ, ◌+◌, ◌-◌, ◌<◌, ◌≤�
 use Rattle.std.specs.Prelude.{slice_get, slice_index_or, slice_set, nat_lt}
 use Rattle.std.proofs.lemmas.Option.{same_Some}
 use Rattle.std.proofs.lemmas.Bool.{cases_eq, cases_lt, lt-ltb, le-ltb, eq-eqb, ne_eqb}
-use Rattle.interleavings.specs.Sites.{place_at, reaction_at}
-use Rattle.interleavings.specs.System.{Micro}
-use Rattle.level_meaning.specs.Level.{Vector, Values, vector_at, all_joined}
-use Rattle.flat_graph.specs.declared.vertex.Kind.{Kind}
-use Rattle.flat_graph.specs.declared.vertex.Kind.TheVariants.{Actuator, Get, Set}
-use Rattle.flat_graph.specs.declared.vertex.Vertex.{Vertex}
-use Rattle.flat_graph.specs.Fire.{kept}
-use Rattle.flat_graph.specs.Meaning.{is_get, delay_number, cell_of, cells_after, flat_act}
+use Rattle.executive_program.specs.Sites.{place_at, reaction_at}
+use Rattle.executive_program.specs.System.{Micro}
+use Rattle.executive_program.specs.Level.{all_joined}
+use Rattle.executive_program.specs.declared.Kind.{Kind}
+use Rattle.executive_program.specs.declared.Kind.TheVariants.{Actuator, Get, Set}
+use Rattle.executive_program.specs.declared.Vertex.{Vertex}
+use Rattle.executive_program.specs.Fire.{kept}
+use Rattle.executive_program.specs.Meaning.{is_get, delay_number, cell_of, cells_after, flat_act}
 use Rattle.executive_program.specs.declared.program.Instr.{Instr}
 use Rattle.executive_program.specs.declared.program.Instr.TheVariants.{Call}
 use Rattle.executive_program.specs.Instructions.{turn}
 use Rattle.executive_program.specs.MicroSteps.{code, size, begins}
-use Rattle.operation_desks.specs.Operation.{vectors_from, lens_in, delay_by, delay_of, cell_at, with_cell, rows_by as rows_with, cells_left, rows_left, conditions_in, inputs_in}
 use Rattle.executive_program.specs.Places.{calling}
 use Rattle.executive_program.specs.Steps.{elements_in}
+use Rattle.semaphore_core.specs.Operation.{vectors_from, lens_in, delay_by, delay_of, cell_at, with_cell, rows_by as rows_with, cells_left, rows_left, conditions_in, inputs_in}
 use Rattle.semaphore_core.specs.Job.{JobData, reactions}
 use Rattle.semaphore_core.specs.Told.{made, last_load, done_by, own_after, cell_by, rows_from, cells_by, rows_by, buffer_value}
 use Rattle.executive_program.specs.WellFormed.{Stands}
@@ -30,6 +30,7 @@ use Rattle.phase_laws.proofs.Computing.{rows_are, kept_is, cells_other, rows_oth
 use Rattle.phase_laws.proofs.OwnCells.{HasTwin, cells_same, cells_set, cells_at}
 use Rattle.phase_laws.proofs.OwnRows.{SameAt, act_is, rows_same, row_set, rows_by_set, row_of_rows, rows_by_same}
 use Rattle.phase_laws.proofs.Stateful.{Stateful, fed, last_inner, last_low}
+use Rattle.syn_base.specs.Vectors.{Vector, Values, vector_at}
 
 get_is : (k : Kind) → is_get k ≡ true → (z : List ℤ) × (k ≡ Get z)
 get_is (Get z) e = (z, refl)

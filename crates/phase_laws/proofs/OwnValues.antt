@@ -5,14 +5,14 @@ use Rattle.std.specs.List.{count_by}
 use Rattle.std.proofs.lemmas.Bool.{cases_lt, lt-ltb, le-ltb}
 use Rattle.std.proofs.lemmas.List.{length-map}
 use Rattle.std.proofs.Math.Nat.{mul-le-mul_right}
-use Rattle.interleavings.specs.Sites.{step_at, place_at, reaction_at}
-use Rattle.interleavings.proofs.Numbers.{number_split}
-use Rattle.interleavings.specs.System.{Micro, take as taken, see, sub, signal, await, advance, load, store, round_number, full}
-use Rattle.interleavings.specs.Owners.{sum_below}
-use Rattle.interleavings.specs.Sound.{IsRightAt}
-use Rattle.level_meaning.specs.Level.{Vector, element_at}
-use Rattle.flat_graph.specs.declared.vertex.Source.{Source}
-use Rattle.flat_graph.specs.Meaning.{initial_cells}
+use Rattle.executive_program.specs.Sites.{step_at, place_at, reaction_at}
+use Rattle.executive_program.proofs.Numbers.{number_split}
+use Rattle.executive_program.specs.System.{Micro, take as taken, see, sub, signal, await, advance, load, store, round_number, full}
+use Rattle.executive_program.specs.Owners.{sum_below}
+use Rattle.executive_program.specs.Sound.{IsRightAt}
+use Rattle.executive_program.specs.Level.{element_at}
+use Rattle.executive_program.specs.declared.Source.{Source}
+use Rattle.executive_program.specs.Meaning.{initial_cells}
 use Rattle.executive_program.specs.declared.program.Instr.{Instr}
 use Rattle.executive_program.specs.declared.program.Instr.TheVariants.{Suc0, Suc1, Pre0, Pre1, Call, Send, Recv, Sync}
 use Rattle.executive_program.specs.declared.steps.Place.TheVariants.{Buffer, Wire}
@@ -20,11 +20,11 @@ use Rattle.executive_program.specs.declared.steps.OnLoad.TheVariants.{Carry as C
 use Rattle.executive_program.specs.declared.steps.OnStore.TheVariants.{Carry as CarryOut}
 use Rattle.executive_program.specs.declared.steps.MicroStep.{MicroStep}
 use Rattle.executive_program.specs.declared.steps.MicroStep.TheVariants.{Load, Store}
-use Rattle.executive_program.specs.Instructions.{is_communication, turn, medium, number_or, len_of, communications}
-use Rattle.executive_program.specs.MicroSteps.{code, transfers, transfer_len, len_sent, loads_at, stores_at}
+use Rattle.executive_program.specs.Instructions.{is_communication, turn, medium, number_or, len_of, communications, len_by}
+use Rattle.executive_program.specs.MicroSteps.{code, transfers, transfer_len, loads_at, stores_at}
 use Rattle.executive_program.specs.Places.{places, transfer, calling}
 use Rattle.executive_program.specs.Steps.{steps, steps_of, call_steps, on_load, on_store, len_at, elements_in}
-use Rattle.operation_desks.specs.Registers.{Own, absorb_at, emit_at, after_at}
+use Rattle.semaphore_core.specs.Registers.{Own, absorb_at, emit_at, after_at}
 use Rattle.semaphore_core.specs.Job.{JobData, reactions, system}
 use Rattle.semaphore_core.specs.Told.{index_at, source_value, buffer_value, stored_value, registers_in, made, last_load, done_by, own_after}
 use Rattle.executive_program.specs.WellFormed.{Stands, ReadsAt, WritesAt}
@@ -44,6 +44,7 @@ use Rattle.phase_laws.proofs.OwnRows.{rows_none}
 use Rattle.phase_laws.proofs.OwnCalls.{same_own, call_load, call_store, finds_load}
 use Rattle.phase_laws.proofs.OwnCopies.{copy_load, copy_store, idle, half_idle}
 use Rattle.phase_laws.proofs.StoredValues.{buffer_round, wire_round}
+use Rattle.syn_base.specs.Vectors.{Vector}
 
 module _ (j : JobData) (h : IsSupplied j) where
   abbrev C : Conditions j.program (places j.program)
@@ -100,7 +101,7 @@ module _ (j : JobData) (h : IsSupplied j) where
         by (Sync a q) e r at = absurd r
 
     sent_len : (t : ℕ) → MediumAt j.program s < j.media → t < transfers j.program (MediumAt j.program s) → transfer_len j.program (MediumAt j.program s) t ≡ len_of j.program (transfer j.program (MediumAt j.program s) t).sent
-    sent_len t a b = ap (len_sent j.program) (found j.program (places j.program) C (reactions j) (parts_of j) (MediumAt j.program s) t a b)
+    sent_len t a b = ap (len_by j.program) (found j.program (places j.program) C (reactions j) (parts_of j) (MediumAt j.program s) t a b)
 
     load_wire : (y i : ℕ) → LoadsWire j.program (MediumAt j.program s) (communications j.program s o.index) o.instr o.at y i → Loads y i
     load_wire y i f = copy_load j h s n m o f.buffer f.from f.number (inr f.receives) f.inside f.at (At y i) value

@@ -4,10 +4,10 @@ use Rattle.std.specs.Prelude.{slice_get, take}
 use Rattle.std.specs.List.{count_by}
 use Rattle.std.proofs.lemmas.Option.{same_Some, slice_get_within}
 use Rattle.std.proofs.lemmas.Bool.{cases_lt, cases_Bool, lt-ltb, le-ltb}
-use Rattle.interleavings.specs.Sites.{step_at, place_at, hit}
-use Rattle.interleavings.specs.System.{System, Micro, signal}
-use Rattle.interleavings.specs.Owners.{Owner, IsOwned, sum_below}
-use Rattle.interleavings.specs.Pairs.{late}
+use Rattle.executive_program.specs.Sites.{step_at, place_at, hit}
+use Rattle.executive_program.specs.System.{System, Micro, signal}
+use Rattle.executive_program.specs.Owners.{Owner, IsOwned, sum_below}
+use Rattle.executive_program.specs.Pairs.{late}
 use Rattle.executive_program.specs.declared.program.Instr.{Instr}
 use Rattle.executive_program.specs.declared.program.Instr.TheVariants.{Pre0}
 use Rattle.executive_program.specs.declared.program.Program.{Program}

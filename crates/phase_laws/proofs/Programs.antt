@@ -1,9 +1,9 @@
 -- Well-formed programs are synchronized and ordered.
 use Rattle.std.specs.Prelude.{ℕ, List}
-use Rattle.archi_graph.specs.declared.medium.Seq.{Seq}
-use Rattle.operation_desks.specs.Registers.{Own}
+use Rattle.executive_program.specs.declared.Seq.{Seq}
 use Rattle.executive_program.specs.Places.{places, carried}
 use Rattle.executive_program.specs.WellFormed.{IsOrder}
+use Rattle.semaphore_core.specs.Registers.{Own}
 use Rattle.semaphore_core.specs.Job.{JobData, reactions, system}
 use Rattle.phase_laws.specs.Discipline.{ProgramsAreDisciplined}
 use Rattle.phase_laws.proofs.Readers.{conditions}

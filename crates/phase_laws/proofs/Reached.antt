@@ -3,12 +3,12 @@ use Rattle.std.proofs.Common.{◌≡◌, ℕ, ◌<◌, ◌≤◌, ◌⊎◌, inl
 use Rattle.std.specs.Prelude.{slice_index_or}
 use Rattle.std.proofs.lemmas.Bool.{cases_lt, le-ltb}
 use Rattle.std.proofs.lemmas.Option.{none-some}
-use Rattle.interleavings.specs.System as theory
-use Rattle.interleavings.specs.System.{Micro}
-use Rattle.interleavings.specs.Laws as laws_of_theory
+use Rattle.executive_program.specs.System as theory
+use Rattle.executive_program.specs.System.{Micro}
+use Rattle.executive_program.specs.InterleavingLaws as laws_of_theory
 use Rattle.executive_program.specs.declared.steps.MicroStep.{MicroStep}
 use Rattle.executive_program.specs.declared.steps.MicroStep.TheVariants.{Take, See, Lower, Signal, Await, Advance, Load, Store}
-use Rattle.operation_desks.specs.Registers.{Own}
+use Rattle.semaphore_core.specs.Registers.{Own}
 use Rattle.semaphore_core.specs.Job.{JobData, system}
 use Rattle.semaphore_core.specs.Core.{next, full, AreReached}
 use Rattle.semaphore_core.specs.Told.{told, stored_value, own_after}

@@ -1,9 +1,9 @@
 -- What the lemmas speak of: the system of a program with any private state, and what holds of the places of a well-formed program.
 use Rattle.std.specs.Prelude.{◌≡◌, ◌≢◌, ℕ, ◌+◌, ◌*◌, ◌<◌, ◌≤◌, List, length, Some, slice_get, ℤ}
-use Rattle.interleavings.specs.System.{System}
-use Rattle.flat_graph.specs.declared.vertex.Source.{Source}
-use Rattle.flat_graph.specs.Graph.{Graph}
-use Rattle.archi_graph.specs.declared.medium.Seq.{Seq}
+use Rattle.executive_program.specs.System.{System}
+use Rattle.executive_program.specs.declared.Source.{Source}
+use Rattle.executive_program.specs.Graph.{Graph}
+use Rattle.executive_program.specs.declared.Seq.{Seq}
 use Rattle.executive_program.specs.declared.program.Instr.{Instr}
 use Rattle.executive_program.specs.declared.program.Instr.TheVariants.{Pre0}
 use Rattle.executive_program.specs.declared.program.Program.{Program}

@@ -5,9 +5,9 @@ use Rattle.std.proofs.lemmas.Option.{slice_get_within}
 use Rattle.std.proofs.lemmas.Bool.{cases_lt, lt-ltb, le-ltb}
 use Rattle.std.proofs.lemmas.Nat.{mod-mul-add, div-mul-add}
 use native.Mathlib.Nat.{suc-mul, zero-mul}
-use Rattle.interleavings.specs.Sites.{Code, step_at, place_at, reaction_at, number_of}
-use Rattle.interleavings.proofs.Numbers.{reaction_number, place_number, number_split}
-use Rattle.interleavings.specs.System.{Micro}
+use Rattle.executive_program.specs.Sites.{Code, step_at, place_at, reaction_at, number_of}
+use Rattle.executive_program.proofs.Numbers.{reaction_number, place_number, number_split}
+use Rattle.executive_program.specs.System.{Micro}
 use Rattle.executive_program.specs.declared.program.Instr.{Instr}
 use Rattle.executive_program.specs.declared.program.Program.{Program}
 use Rattle.executive_program.specs.Blocks.{block_at}

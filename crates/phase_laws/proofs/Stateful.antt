@@ -5,15 +5,15 @@ use Rattle.std.specs.List.{list_all}
 use Rattle.std.proofs.lemmas.Option.{slice_get_within}
 use Rattle.std.proofs.lemmas.Bool.{and_parts, leb-true}
 use Rattle.std.proofs.lemmas.List.{length-map, length-replicate, get_or_at}
-use Rattle.interleavings.specs.System.{Micro}
-use Rattle.interleavings.proofs.Sums.{member_below}
-use Rattle.flat_graph.specs.declared.vertex.Kind.{Kind}
-use Rattle.flat_graph.specs.declared.vertex.Kind.TheVariants.{Actuator, Set}
-use Rattle.flat_graph.specs.declared.vertex.Vertex.{Vertex}
-use Rattle.flat_graph.specs.Graph.{Graph, lens_of}
-use Rattle.flat_graph.specs.Valid.{is_flat, fits, has_twin}
-use Rattle.flat_graph.proofs.Facts.{vertex_valid, fits_of}
-use Rattle.flat_graph.proofs.KindLens.{one_is}
+use Rattle.executive_program.specs.System.{Micro}
+use Rattle.executive_program.proofs.InterleavingSums.{member_below}
+use Rattle.executive_program.specs.declared.Kind.{Kind}
+use Rattle.executive_program.specs.declared.Kind.TheVariants.{Actuator, Set}
+use Rattle.executive_program.specs.declared.Vertex.{Vertex}
+use Rattle.executive_program.specs.Graph.{Graph, lens_of}
+use Rattle.executive_program.specs.FlatValid.{is_flat, fits, has_twin}
+use Rattle.executive_program.proofs.Facts.{vertex_valid, fits_of}
+use Rattle.executive_program.proofs.KindLens.{one_is}
 use Rattle.executive_program.specs.declared.program.Instr.TheVariants.{Call}
 use Rattle.executive_program.specs.Blocks.{blocks}
 use Rattle.executive_program.specs.Instructions.{turn, len_of}

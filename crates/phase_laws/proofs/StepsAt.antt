@@ -5,10 +5,10 @@ use Rattle.std.specs.List.{count_by}
 use Rattle.std.proofs.lemmas.Option.{slice_get_within}
 use Rattle.std.proofs.lemmas.Bool.{le-ltb}
 use native.Mathlib.Nat.{mul-one}
-use Rattle.interleavings.specs.Sites.{step_at, place_at}
-use Rattle.interleavings.specs.System.{Micro, take as taken, see, sub, advance}
-use Rattle.interleavings.specs.Owners.{sum_below}
-use Rattle.interleavings.proofs.Sums.{same_below}
+use Rattle.executive_program.specs.Sites.{step_at, place_at}
+use Rattle.executive_program.specs.System.{Micro, take as taken, see, sub, advance}
+use Rattle.executive_program.specs.Owners.{sum_below}
+use Rattle.executive_program.proofs.InterleavingSums.{same_below}
 use Rattle.executive_program.specs.declared.program.Instr.{Instr}
 use Rattle.executive_program.specs.declared.program.Instr.TheVariants.{Suc0, Suc1, Pre0, Pre1, Call, Send, Recv, Sync}
 use Rattle.executive_program.specs.declared.program.Program.{Program}
@@ -19,9 +19,9 @@ use Rattle.executive_program.specs.declared.steps.OnStore.TheVariants.{Carry as 
 use Rattle.executive_program.specs.declared.steps.MicroStep.{MicroStep}
 use Rattle.executive_program.specs.declared.steps.MicroStep.TheVariants.{Take, See, Lower, Await, Advance, Load, Store}
 use Rattle.executive_program.specs.Blocks.{blocks}
-use Rattle.executive_program.specs.Instructions.{is_communication, turn, turn_of, prologue, prologue_of, medium, medium_in, number_or, len_of, pair_depth, communications}
+use Rattle.executive_program.specs.Instructions.{is_communication, turn, turn_of, prologue, prologue_of, medium, medium_in, number_or, len_of, pair_depth, communications, len_by}
 use Rattle.executive_program.specs.MicroSteps.{code, size, begins, block_in, takes, micros_of, micros_in, loads_of, stores_of, loads_at, stores_at, load_at, store_at, send_at, receive_at}
-use Rattle.executive_program.specs.Steps.{steps, steps_by, steps_of, steps_in, steps_at, steps_in_list, call_steps, take_steps, on_load, on_store, load_step, store_step, load_steps, store_steps, input_steps, output_steps, send_step, receive_step, len_by, len_at, elements_in}
+use Rattle.executive_program.specs.Steps.{steps, steps_by, steps_of, steps_in, steps_at, steps_in_list, call_steps, take_steps, on_load, on_store, load_step, store_step, load_steps, store_steps, input_steps, output_steps, send_step, receive_step, len_at, elements_in}
 use Rattle.phase_laws.proofs.Blocks.{blocks_length, blocks_at, get-append_past, get-append_within, sum_const, sum_inside}
 use Rattle.phase_laws.proofs.Standing.{Here}
 

@@ -4,13 +4,13 @@ use Rattle.std.specs.Prelude.{nat_lt}
 use Rattle.std.proofs.lemmas.Bool.{lt-ltb, le-ltb}
 use Rattle.std.proofs.lemmas.Nat.{mod-mul-add, div-mul-add}
 use native.Mathlib.Nat.{mul-one}
-use Rattle.interleavings.specs.Sites.{reaction_at}
-use Rattle.interleavings.specs.System.{round_number}
-use Rattle.interleavings.specs.Owners.{sum_below}
-use Rattle.level_meaning.specs.Level.{element_at}
+use Rattle.executive_program.specs.Sites.{reaction_at}
+use Rattle.executive_program.specs.System.{round_number}
+use Rattle.executive_program.specs.Owners.{sum_below}
+use Rattle.executive_program.specs.Level.{element_at}
 use Rattle.executive_program.specs.Blocks.{block_at}
-use Rattle.executive_program.specs.Instructions.{len_of}
-use Rattle.executive_program.specs.MicroSteps.{code, element_of, wire_of, buffer_elements, wire_len, transfers, transfer_len, len_sent, uses, access, sent}
+use Rattle.executive_program.specs.Instructions.{len_of, len_by}
+use Rattle.executive_program.specs.MicroSteps.{code, element_of, wire_of, buffer_elements, wire_len, transfers, transfer_len, uses, access, sent}
 use Rattle.executive_program.specs.Places.{places, transfer}
 use Rattle.semaphore_core.specs.Job.{JobData, reactions, buffer_at, wire_at, number_at, period_at, system}
 use Rattle.semaphore_core.specs.Told.{buffer_value, sent_value, wire_value, stored_value}
@@ -41,7 +41,7 @@ module _ (j : JobData) (h : IsSupplied j) where
 
   module _ (m t i : ℕ) (a : m < j.media) (b : t < transfers j.program m) (l : i < len_of j.program (transfer j.program m t).sent) where
     len : transfer_len j.program m t ≡ len_of j.program (transfer j.program m t).sent
-    len = ap (len_sent j.program) (found j.program (places j.program) C (reactions j) (parts_of j) m t a b)
+    len = ap (len_by j.program) (found j.program (places j.program) C (reactions j) (parts_of j) m t a b)
 
     long : i < wire_len j.program m
     long = let z = wire_holds j.program (places j.program) C (reactions j) (parts_of j) m t a b in let y = len in omega arith

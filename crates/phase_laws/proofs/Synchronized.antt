@@ -2,13 +2,13 @@
 use Rattle.std.proofs.Common.{◌≡◌, ℕ, ◌+◌, ◌*◌, ◌<◌, ◌≤◌, ◌⊎◌, length, Some, refl, sym, subst, inl, inr, ⊎_elim, arith, ◌∙◌}
 use Rattle.std.specs.Prelude.{slice_get}
 use Rattle.std.proofs.lemmas.Bool.{cases_lt, lt-ltb, le-ltb, ne_eqb}
-use Rattle.interleavings.specs.Sites.{step_at, place_at}
-use Rattle.interleavings.specs.System.{System, Micro, take as taken, see, sub, signal, load, store}
-use Rattle.interleavings.specs.Owners.{Owner}
-use Rattle.interleavings.specs.Media.{Half}
-use Rattle.interleavings.specs.Pairs.{IsSemaphore}
-use Rattle.interleavings.specs.Order.{IsJoined}
-use Rattle.interleavings.specs.Synchronized as V
+use Rattle.executive_program.specs.Sites.{step_at, place_at}
+use Rattle.executive_program.specs.System.{System, Micro, take as taken, see, sub, signal, load, store}
+use Rattle.executive_program.specs.Owners.{Owner}
+use Rattle.executive_program.specs.Media.{Half}
+use Rattle.executive_program.specs.Pairs.{IsSemaphore}
+use Rattle.executive_program.specs.InterleavingOrder.{IsJoined}
+use Rattle.executive_program.specs.Synchronized as V
 use Rattle.executive_program.specs.declared.program.Instr.{Instr}
 use Rattle.executive_program.specs.declared.program.Instr.TheVariants.{Suc0, Suc1, Pre0, Pre1}
 use Rattle.executive_program.specs.declared.program.Program.{Program}

@@ -1,11 +1,11 @@
 -- The parts put together: every job that is supplied has the laws of its runs.
 use Rattle.std.proofs.Common.{◌≡◌, ℕ, ◌<◌, [], map, length, true, subst, ◌∙◌}
 use Rattle.std.specs.Prelude.{slice_index_or}
-use Rattle.flat_graph.specs.Graph.{Graph}
-use Rattle.flat_graph.specs.Valid.{is_flat}
+use Rattle.executive_program.specs.Graph.{Graph}
+use Rattle.executive_program.specs.FlatValid.{is_flat}
+use Rattle.executive_program.specs.FlatLaws.{sensor_lens}
 use Rattle.semaphore_core.specs.IsJob.{IsJob}
 use Rattle.phase_laws.specs.Central.{JobsAreSupplied}
-use Rattle.flat_graph.specs.Laws.{sensor_lens}
 use Rattle.semaphore_core.specs.Job.{JobData, reactions}
 use Rattle.semaphore_core.specs.Laws.{HasLaws}
 use Rattle.phase_laws.specs.Agrees.{IsFormed}

@@ -4,15 +4,15 @@ use Rattle.std.specs.Prelude.{slice_index_or}
 use Rattle.std.specs.List.{range_with_len}
 use Rattle.std.proofs.lemmas.List.{get_or-drop, get_or-take}
 use Rattle.std.proofs.lemmas.List.FromFn.{length-map-range_with_len, get_or-map-range_with_len}
-use Rattle.level_meaning.specs.Level.{Values}
-use Rattle.flat_graph.specs.Graph.{Graph}
-use Rattle.flat_graph.specs.Meaning.{next_cells, value_in, taken, cells_after, flat_act_row}
+use Rattle.executive_program.specs.Graph.{Graph}
+use Rattle.executive_program.specs.Meaning.{next_cells, value_in, taken, cells_after, flat_act_row}
 use Rattle.semaphore_core.specs.Job.{JobData, reactions}
 use Rattle.semaphore_core.proofs.Limits.{fewer_meet_none}
 use Rattle.phase_laws.specs.Values.{IsSupplied}
 use Rattle.phase_laws.specs.Ended.{all_acts}
 use Rattle.phase_laws.specs.Windows.{window, window_job, WindowsMakeTheRun}
 use Rattle.phase_laws.proofs.Lengths.{cells_lens}
+use Rattle.syn_base.specs.Vectors.{Values}
 
 module _ {A : Type 0} (xs : List A) (s count : ℕ) (fits : s + count ≤ length xs) where
   long : length (window s count xs) ≡ count

@@ -4,19 +4,19 @@ use Rattle.std.specs.Prelude.{slice_get}
 use Rattle.std.proofs.lemmas.Bool.{eqb-true, eq-eqb, lt-ltb, le-ltb, cases_lt, and_parts, and_from}
 use Rattle.std.proofs.lemmas.Option.{same_Some}
 use Rattle.std.proofs.Math.Nat.{le-max_left, le-max_right}
-use Rattle.interleavings.specs.Sites.{step_at, place_at}
-use Rattle.interleavings.specs.System.{System, Micro, take as taken, see, sub, signal, await, advance, load, store, stores}
-use Rattle.interleavings.specs.Owners.{Owner, IsOwned, sum_below}
-use Rattle.interleavings.specs.Media.{Half, stores_access, writer_of, IsMedium, IsOwnWait, IsWire}
-use Rattle.interleavings.specs.Pairs.{late}
-use Rattle.interleavings.specs.Synchronized as V
+use Rattle.executive_program.specs.Sites.{step_at, place_at}
+use Rattle.executive_program.specs.System.{System, Micro, take as taken, see, sub, signal, await, advance, load, store, stores}
+use Rattle.executive_program.specs.Owners.{Owner, IsOwned, sum_below}
+use Rattle.executive_program.specs.Media.{Half, stores_access, writer_of, IsMedium, IsOwnWait, IsWire}
+use Rattle.executive_program.specs.Pairs.{late}
+use Rattle.executive_program.specs.Synchronized as V
 use Rattle.executive_program.specs.declared.program.Instr.{Instr}
 use Rattle.executive_program.specs.declared.program.Instr.TheVariants.{Send, Recv, Sync}
 use Rattle.executive_program.specs.declared.program.Program.{Program}
 use Rattle.executive_program.specs.declared.program.SeqCode.{SeqCode}
 use Rattle.executive_program.specs.Blocks.{block_at}
-use Rattle.executive_program.specs.Instructions.{is_communication, communications, len_of, operator, depth_of, medium_in, turn_of, turn}
-use Rattle.executive_program.specs.MicroSteps.{code, begins, transfers, wire_of, buffer_elements, uses, access, longest_sent, longest_in, longest_on, sent_len, is_on, wire_len, transfer_len, len_sent}
+use Rattle.executive_program.specs.Instructions.{is_communication, communications, len_of, operator, depth_of, medium_in, turn_of, turn, len_by}
+use Rattle.executive_program.specs.MicroSteps.{code, begins, transfers, wire_of, buffer_elements, uses, access, longest_sent, longest_in, longest_on, sent_len, is_on, wire_len, transfer_len}
 use Rattle.executive_program.specs.Places.{Places}
 use Rattle.executive_program.specs.WellFormed.{Stands, Communicates}
 use Rattle.semaphore_core.specs.Job.{buffer_at, wire_at, number_at}
@@ -110,7 +110,7 @@ module _ (p : Program) (w : Places) (c : Conditions p w) {P : Type 0} (reactions
   the_who = who p w c reactions own
 
   len_is : (m t : ℕ) → m < c.media → t < transfers p m → transfer_len p m t ≡ len_of p (w.transfer m t).sent
-  len_is m t a b = ap (len_sent p) (found p w c reactions own m t a b)
+  len_is m t a b = ap (len_by p) (found p w c reactions own m t a b)
 
   -- a transfer is no longer than the wire
   pub wire_holds : (m t : ℕ) → m < c.media → t < transfers p m → transfer_len p m t ≤ wire_len p m

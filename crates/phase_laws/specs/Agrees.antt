@@ -1,15 +1,15 @@
 -- The state of the core, whose cells and rows are shared, and the state
 -- of the theory, where each sequence has its own, say the same.
 use Rattle.std.specs.Prelude.{◌≡◌, ℕ, true, ◌+◌, ◌*◌, ◌<◌, List, [], ◌∷◌, map, length, Some, slice_get, slice_index_or}
-use Rattle.level_meaning.specs.Level.{Values, Vector, element_at, vector_at}
-use Rattle.flat_graph.specs.declared.vertex.Vertex.{Vertex}
-use Rattle.flat_graph.specs.declared.vertex.Kind.TheVariants.{Actuator}
-use Rattle.flat_graph.specs.Valid.{is_flat}
-use Rattle.flat_graph.specs.Meaning.{initial_cells}
-use Rattle.archi_graph.specs.declared.medium.Seq.{Seq}
-use Rattle.interleavings.specs.System as theory
-use Rattle.interleavings.specs.Laws.{Discipline, IsDisciplined}
-use Rattle.interleavings.specs.System.{Micro, State, take as taken, see, sub, signal, await, advance, load, store}
+use Rattle.executive_program.specs.Level.{element_at}
+use Rattle.executive_program.specs.declared.Vertex.{Vertex}
+use Rattle.executive_program.specs.declared.Kind.TheVariants.{Actuator}
+use Rattle.executive_program.specs.FlatValid.{is_flat}
+use Rattle.executive_program.specs.Meaning.{initial_cells}
+use Rattle.executive_program.specs.declared.Seq.{Seq}
+use Rattle.executive_program.specs.System as theory
+use Rattle.executive_program.specs.InterleavingLaws.{Discipline, IsDisciplined}
+use Rattle.executive_program.specs.System.{Micro, State, take as taken, see, sub, signal, await, advance, load, store}
 use Rattle.executive_program.specs.declared.program.Program.{Program}
 use Rattle.executive_program.specs.declared.steps.Place.{Place}
 use Rattle.executive_program.specs.declared.steps.Place.TheVariants.{Buffer, Wire}
@@ -31,15 +31,16 @@ use Rattle.executive_program.specs.declared.steps.MicroStep.TheVariants.{
 use Rattle.executive_program.specs.Instructions.{len_of, depth_of}
 use Rattle.executive_program.specs.MicroSteps.{code, transfers, element_of, wire_of, wire_len}
 use Rattle.executive_program.specs.Places.{calling}
-use Rattle.operation_desks.specs.Operation.{delay_of}
-use Rattle.operation_desks.specs.Registers.{Own}
 use Rattle.executive_program.specs.Steps.{steps}
+use Rattle.semaphore_core.specs.Operation.{delay_of}
+use Rattle.semaphore_core.specs.Registers.{Own}
 use Rattle.semaphore_core.specs.Job.{JobData, zero_rows, system}
 use Rattle.executive_program.specs.WellFormed.{IsWellFormed}
 use Rattle.semaphore_core.specs.IsJob.{IsJob}
 use Rattle.semaphore_core.specs.Told.{told, stored_value, own_after}
 use Rattle.semaphore_core.specs.Laws.{HasLaws}
 use Rattle.semaphore_core.specs.Core.{Core, opening, count, run, step, is_enabled}
+use Rattle.syn_base.specs.Vectors.{Vector, Values, vector_at}
 
 -- A job whose program is well formed, whose graph is valid, and
 -- whose delays open with a vector of the right length each.

@@ -1,16 +1,16 @@
 -- The central theorem: the laws of every run of a job.
 use Rattle.std.specs.Prelude.{◌≡◌, ℕ, ◌<◌, true, List, Some, slice_get}
-use Rattle.flat_graph.specs.Valid.{is_flat}
-use Rattle.flat_graph.specs.declared.vertex.Vertex.{Vertex}
-use Rattle.flat_graph.specs.declared.vertex.Kind.TheVariants.{Actuator}
-use Rattle.flat_graph.specs.Meaning.{flat_act}
-use Rattle.level_meaning.specs.Level.{Values}
+use Rattle.executive_program.specs.FlatValid.{is_flat}
+use Rattle.executive_program.specs.declared.Vertex.{Vertex}
+use Rattle.executive_program.specs.declared.Kind.TheVariants.{Actuator}
+use Rattle.executive_program.specs.Meaning.{flat_act}
 use Rattle.semaphore_core.specs.Job.{JobData, reactions}
 use Rattle.semaphore_core.specs.Core.{run, IsDone}
 use Rattle.phase_laws.specs.Agrees.{row_at}
 use Rattle.semaphore_core.specs.IsJob.{IsJob}
 use Rattle.semaphore_core.specs.Laws.{HasLaws}
 use Rattle.phase_laws.specs.Values.{IsSupplied}
+use Rattle.syn_base.specs.Vectors.{Values}
 
 -- In every interleaving each state is what its counts tell, no load finds an element of another round than its
 -- own, some sequence is enabled until all is done, and one more step of an enabled sequence goes on.

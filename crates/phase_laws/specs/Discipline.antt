@@ -1,13 +1,13 @@
 -- How a program with a serial order is synchronized: who signals each semaphore, what is
 -- each half of a reaction's transfers, and where each micro-step stands in the order.
 use Rattle.std.specs.Prelude.{ℕ, suc, ◌+◌, ◌*◌, ◌/◌, ◌%◌, cond, nat_eq, List, length}
-use Rattle.interleavings.specs.Owners.{Owner, sum_below}
-use Rattle.interleavings.specs.Media.{Half}
-use Rattle.interleavings.specs.Pairs.{late}
-use Rattle.interleavings.specs.Order.{IsOrdered}
-use Rattle.interleavings.specs.Synchronized.{IsSynchronized}
-use Rattle.interleavings.specs.Laws.{Discipline}
-use Rattle.archi_graph.specs.declared.medium.Seq.{Seq}
+use Rattle.executive_program.specs.Owners.{Owner, sum_below}
+use Rattle.executive_program.specs.Media.{Half}
+use Rattle.executive_program.specs.Pairs.{late}
+use Rattle.executive_program.specs.InterleavingOrder.{IsOrdered}
+use Rattle.executive_program.specs.Synchronized.{IsSynchronized}
+use Rattle.executive_program.specs.InterleavingLaws.{Discipline}
+use Rattle.executive_program.specs.declared.Seq.{Seq}
 use Rattle.executive_program.specs.declared.program.Program.{Program}
 use Rattle.executive_program.specs.Blocks.{block_at}
 use Rattle.executive_program.specs.Instructions.{turn, len_of, pair_depth}

@@ -1,16 +1,16 @@
 -- The cells and rows of a run, so far and when all is done.
 use Rattle.std.specs.Prelude.{◌≡◌, ℕ, ◌<◌, cond, nat_lt, List, map, length, Some, slice_get, slice_index_or}
 use Rattle.std.specs.List.{range_with_len}
-use Rattle.level_meaning.specs.Level.{Values, zeros}
-use Rattle.flat_graph.specs.declared.vertex.Vertex.{Vertex}
-use Rattle.flat_graph.specs.declared.vertex.Kind.TheVariants.{Actuator}
-use Rattle.flat_graph.specs.Graph.{lens_of}
-use Rattle.flat_graph.specs.Meaning.{cells_after, flat_act, flat_act_row}
+use Rattle.executive_program.specs.declared.Vertex.{Vertex}
+use Rattle.executive_program.specs.declared.Kind.TheVariants.{Actuator}
+use Rattle.executive_program.specs.Graph.{lens_of}
+use Rattle.executive_program.specs.Meaning.{cells_after, flat_act, flat_act_row}
 use Rattle.semaphore_core.specs.Job.{JobData, reactions}
 use Rattle.semaphore_core.specs.Core.{Core, run, count, full, IsDone}
 use Rattle.semaphore_core.specs.Told.{done_in, told}
 use Rattle.phase_laws.specs.Agrees.{row_at}
 use Rattle.phase_laws.specs.Values.{IsSupplied}
+use Rattle.syn_base.specs.Vectors.{Values, zeros}
 
 module _ (j : JobData) where
   -- the cells after all reactions, and what the actuators take in each

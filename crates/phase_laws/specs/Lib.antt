@@ -6,3 +6,17 @@ pub mod OneWord
 pub mod Reached
 pub mod Ended
 pub mod Windows
+-- What the definitions here speak of: jobs and their states.
+pub use Rattle.semaphore_core.specs.AtOpening
+pub use Rattle.semaphore_core.specs.Core
+pub use Rattle.semaphore_core.specs.Elements
+pub use Rattle.semaphore_core.specs.Held
+pub use Rattle.semaphore_core.specs.IsJob
+pub use Rattle.semaphore_core.specs.Job
+pub use Rattle.semaphore_core.specs.Laws
+pub use Rattle.semaphore_core.specs.Operation
+pub use Rattle.semaphore_core.specs.Parts
+pub use Rattle.semaphore_core.specs.Registers
+pub use Rattle.semaphore_core.specs.Rooms
+pub use Rattle.semaphore_core.specs.RowLens
+pub use Rattle.semaphore_core.specs.Told

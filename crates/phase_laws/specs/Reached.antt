@@ -1,20 +1,20 @@
 -- What holds in reached counts and what they tell.
 use Rattle.std.specs.Prelude.{◌≡◌, ℕ, ◌≤◌, List, [], length, Some, slice_get, slice_index_or}
-use Rattle.level_meaning.specs.Level.{vector_at}
-use Rattle.flat_graph.specs.declared.vertex.Vertex.{Vertex}
-use Rattle.flat_graph.specs.declared.vertex.Kind.TheVariants.{Actuator}
-use Rattle.interleavings.specs.Fresh.{IsFresh}
-use Rattle.interleavings.specs.System.{stores, total, round_number}
+use Rattle.executive_program.specs.declared.Vertex.{Vertex}
+use Rattle.executive_program.specs.declared.Kind.TheVariants.{Actuator}
+use Rattle.executive_program.specs.Fresh.{IsFresh}
+use Rattle.executive_program.specs.System.{stores, total, round_number}
 use Rattle.executive_program.specs.declared.steps.Place.{Place}
 use Rattle.executive_program.specs.declared.steps.MicroStep.{MicroStep}
 use Rattle.executive_program.specs.declared.steps.MicroStep.TheVariants.{Lower, Load, Store}
-use Rattle.operation_desks.specs.Operation.{delay_of}
+use Rattle.semaphore_core.specs.Operation.{delay_of}
 use Rattle.semaphore_core.specs.Job.{JobData, system}
 use Rattle.semaphore_core.specs.Core.{Core, full, next, reaction, element_of, AreReached}
 use Rattle.semaphore_core.specs.Held.{made}
 use Rattle.semaphore_core.specs.Told.{told, stored_value}
 use Rattle.phase_laws.specs.Agrees.{IsFormed, LiesAt, caller, row_at}
 use Rattle.phase_laws.specs.Values.{IsSupplied}
+use Rattle.syn_base.specs.Vectors.{vector_at}
 
 module _ (j : JobData) where
   -- Sequence s has this count, which is 0 if the list has none for it.

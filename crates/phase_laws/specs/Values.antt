@@ -1,10 +1,10 @@
 -- Each sequence by itself computes the flat values.
 use Rattle.std.specs.Prelude.{◌≡◌, ℕ, ◌<◌, true, List, [], map, length, slice_index_or}
-use Rattle.interleavings.specs.Sound.{AreValues}
-use Rattle.flat_graph.specs.Valid.{is_flat}
-use Rattle.flat_graph.specs.Meaning.{initial_cells}
-use Rattle.flat_graph.specs.Laws.{sensor_lens}
-use Rattle.archi_graph.specs.declared.medium.Seq.{Seq}
+use Rattle.executive_program.specs.Sound.{AreValues}
+use Rattle.executive_program.specs.FlatValid.{is_flat}
+use Rattle.executive_program.specs.Meaning.{initial_cells}
+use Rattle.executive_program.specs.FlatLaws.{sensor_lens}
+use Rattle.executive_program.specs.declared.Seq.{Seq}
 use Rattle.executive_program.specs.WellFormed.{IsOrder}
 use Rattle.semaphore_core.specs.Job.{JobData, reactions, system}
 use Rattle.semaphore_core.specs.Told.{stored_value, own_after}

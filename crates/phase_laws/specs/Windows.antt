@@ -1,7 +1,7 @@
 -- A run in windows: some reactions in succession are a job of their own,
 -- which begins with the cells that the reactions before them leave.
 use Rattle.std.specs.Prelude.{◌≡◌, ℕ, ◌+◌, ◌≤◌, List, take, drop, None}
-use Rattle.flat_graph.specs.Meaning.{cells_after}
+use Rattle.executive_program.specs.Meaning.{cells_after}
 use Rattle.semaphore_core.specs.Job.{JobData, reactions}
 use Rattle.semaphore_core.specs.IsJob.{limit_of}
 use Rattle.phase_laws.specs.Values.{IsSupplied}

@@ -22,7 +22,12 @@ ghost use Rattle.phase_laws.specs.Windows.{WindowsMakeTheRun};
 ghost use Rattle.phase_laws.specs.Values.{SequencesComputeTheirValues};
 
 pub use fresh::run_fresh;
-use semaphore_core::Job;
+
+// What the clauses here speak of: jobs and their states.
+pub use semaphore_core::{
+    Job, OwnParts, State, StepAnswer, cells_and_rows, home, opening_of, put_row, run_limit,
+    sensor_lens, slot, try_step, turn_reached, words_of, zero_elements,
+};
 
 /// Every well-formed program is synchronized, and its serial order puts each need before what waits for it.
 pub fn programs_are_disciplined()

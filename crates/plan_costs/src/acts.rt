@@ -1,14 +1,16 @@
 //! The acts of a plan in their order, transfers and runs, as a draft would place them: each with its line
 //! and with the acts in other lines that make what it reads.
-use crate::numbers::{NOBODY, date_at, number_at, put_date, put_number, put_numbers};
+use crate::numbers::{
+    MOST_OPERATORS, NOBODY, PLACES, date_at, number_at, place_of, put_date, put_number, put_numbers,
+};
 use crate::plan::Plan;
 use crate::tables::Tables;
-use archi_graph::Hop;
+use durations::Hop;
 use std::alloc::Global;
 use syn_base::OutOfMemory;
 
 /// Lines are operators and media: an operator has its own number, a medium its number after all of those.
-const FIRST_MEDIUM: u32 = 16;
+const FIRST_MEDIUM: u32 = MOST_OPERATORS;
 
 /// The most lines.
 pub(crate) const LINES: usize = 32;
@@ -43,7 +45,7 @@ impl Acts {
             .saturating_mul(tables.stands.operators() as usize);
         let most = copies.saturating_add(tables.operations as usize);
         let reads = tables.links.reads.total().saturating_add(copies);
-        let places = tables.outputs.len().saturating_mul(16);
+        let places = tables.outputs.len().saturating_mul(PLACES);
         Ok(Acts {
             count: 0,
             ops: vec![in alloc; NOBODY; most]?,
@@ -160,12 +162,4 @@ impl Acts {
     pub fn source(&self, place: u32) -> u32 {
         number_at(self.sources.as_slice(), place)
     }
-}
-
-/// The place of an output on an operator.
-fn place_of(output: u32, operator: u32) -> u32 {
-    if operator >= 16 {
-        return NOBODY;
-    }
-    output.saturating_mul(16).saturating_add(operator)
 }

@@ -1,14 +1,13 @@
 //! The dates of a plan: when each operation would end, as a draft would place it. Transfers go along the
 //! least routes as late as their first reader is placed, over media that are first come, first served.
-use crate::numbers::{NEVER, NOBODY, date_at, number_at, put_date, put_dates, put_number};
+use crate::numbers::{
+    NEVER, NOBODY, PLACES, date_at, number_at, place_of, put_date, put_dates, put_number,
+};
 use crate::plan::Plan;
 use crate::tables::Tables;
-use archi_graph::Hop;
+use durations::Hop;
 use std::alloc::Global;
 use syn_base::OutOfMemory;
-
-/// The most operators and the most media of an architecture.
-const PLACES: usize = 16;
 
 /// When a value is held, and which operation made it so late.
 #[derive(Clone, Copy)]
@@ -219,14 +218,6 @@ impl Dates {
         put_date(free, hop.medium, end);
         end
     }
-}
-
-/// The place of an output on an operator.
-fn place_of(output: u32, operator: u32) -> u32 {
-    if operator >= 16 {
-        return NOBODY;
-    }
-    output.saturating_mul(16).saturating_add(operator)
 }
 
 /// The later of two arrivals, the first where both come at once.

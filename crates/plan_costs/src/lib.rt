@@ -25,7 +25,7 @@ pub use dates::Dates;
 pub use judge::Judge;
 pub use links::Links;
 pub use lists::Lists;
-pub use numbers::{NEVER, NOBODY, date_at, number_at, put_date, put_number};
+pub use numbers::{NEVER, NOBODY, PLACES, date_at, number_at, put_date, put_number};
 pub use outputs::Outputs;
 pub use plan::Plan;
 pub use site::{Goal, Site, Stand};

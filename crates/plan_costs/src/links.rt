@@ -1,7 +1,7 @@
 //! Which operations depend on which, and which outputs they read.
 use crate::lists::Lists;
 use crate::outputs::Outputs;
-use flat_graph::{Kind, Source, Vertex};
+use durations::{Kind, Source, Vertex};
 use std::alloc::Global;
 use syn_base::OutOfMemory;
 

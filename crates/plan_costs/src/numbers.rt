@@ -7,6 +7,22 @@ pub const NOBODY: u32 = u32::MAX;
 /// The date of what does not happen.
 pub const NEVER: u64 = u64::MAX;
 
+/// The most operators of an architecture, and the most media of one: so long is a table of either.
+pub const PLACES: usize = 16;
+
+/// The same number, by which operators are counted.
+pub(crate) const MOST_OPERATORS: u32 = 16;
+
+/// The place of an output on an operator in a table of copies, which has `PLACES` places for each output.
+pub(crate) fn place_of(output: u32, operator: u32) -> u32 {
+    if operator >= MOST_OPERATORS {
+        return NOBODY;
+    }
+    output
+        .saturating_mul(MOST_OPERATORS)
+        .saturating_add(operator)
+}
+
 /// The number at a place, `NOBODY` where there is none.
 pub fn number_at(numbers: &[u32], place: u32) -> u32 {
     match numbers.get(place as usize) {

@@ -1,7 +1,6 @@
 //! The outputs of all operations, numbered one after another, with how long media carry them.
 use crate::numbers::{NEVER, NOBODY, date_at, number_at};
-use archi_graph::Medium;
-use flat_graph::{Source, Vertex};
+use durations::{Medium, Source, Vertex};
 use std::alloc::Global;
 use syn_base::{OutOfMemory, to_u32};
 

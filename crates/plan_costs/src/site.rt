@@ -1,7 +1,5 @@
 //! What is to be scheduled, on what, and what is to become short.
-use archi_graph::Archi;
-use durations::Durations;
-use flat_graph::Flat;
+use durations::{Archi, Durations, Flat};
 use route_table::Routes;
 use std::alloc::Global;
 

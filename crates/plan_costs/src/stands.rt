@@ -1,7 +1,6 @@
 //! Where operations may stand, and how long they last there.
 use crate::numbers::{NEVER, NOBODY, date_at, number_at};
-use durations::Durations;
-use flat_graph::{Kind, Vertex};
+use durations::{Durations, Kind, Vertex};
 use std::alloc::Global;
 use syn_base::OutOfMemory;
 

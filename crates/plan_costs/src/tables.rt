@@ -3,7 +3,7 @@ use crate::links::Links;
 use crate::outputs::Outputs;
 use crate::site::Site;
 use crate::stands::Stands;
-use archi_graph::Hop;
+use durations::Hop;
 use route_table::Routes;
 use syn_base::{OutOfMemory, to_u32};
 

@@ -1,12 +1,9 @@
 //! The operators on which clusters stand.
 use crate::clusters::Clusters;
 use crate::filling::Filling;
-use plan_costs::{NEVER, NOBODY, Plan, Tables, date_at, number_at, put_date, put_number};
+use plan_costs::{NEVER, NOBODY, PLACES, Plan, Tables, date_at, number_at, put_date, put_number};
 use std::alloc::Global;
 use syn_base::OutOfMemory;
-
-/// The most operators.
-const OPERATORS: usize = 16;
 
 /// By cluster its operator.
 #[derive(Drop)]
@@ -14,7 +11,7 @@ pub(crate) struct Homes<'a> {
     clusters: &'a Clusters,
     homes: Vec<u32>,
     /// By operator how long all clusters last that stand there.
-    loads: [u64; OPERATORS],
+    loads: [u64; PLACES],
     /// How many quarters of the time of what is carried to other clusters count as load.
     quarters: u64,
 }
@@ -31,7 +28,7 @@ impl<'a> Homes<'a> {
         let mut homes = Homes {
             clusters,
             homes: vec![in alloc; NOBODY; clusters.count()]?,
-            loads: [0; OPERATORS],
+            loads: [0; PLACES],
             quarters,
         };
         let mut number = 0u32;

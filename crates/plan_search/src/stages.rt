@@ -2,10 +2,7 @@
 //! own, next to that of the stage before.
 use crate::filling::Filling;
 use crate::listing::bit;
-use plan_costs::{NOBODY, Plan, Tables, number_at, put_number};
-
-/// The most operators.
-const OPERATORS: usize = 16;
+use plan_costs::{NOBODY, PLACES, Plan, Tables, number_at, put_number};
 
 /// A great number, by which rates are whole numbers.
 const WORK: u64 = 1 << 40;
@@ -13,7 +10,7 @@ const WORK: u64 = 1 << 40;
 /// The operators of a pipeline, by stage.
 #[derive(Clone, Copy)]
 pub(crate) struct Pipeline {
-    operators: [u32; OPERATORS],
+    operators: [u32; PLACES],
     /// How many stages there are.
     stages: u32,
     /// How long the operations of a stage last together on its operator before the next one begins.
@@ -86,8 +83,8 @@ fn equal_part(tables: &Tables, operators: &[u32], stages: u32) -> u64 {
 }
 
 /// All operators, this one first, and then each next to the one before, if one is left there.
-fn operators_from(tables: &Tables, first: u32) -> [u32; OPERATORS] {
-    let mut operators = [NOBODY; OPERATORS];
+fn operators_from(tables: &Tables, first: u32) -> [u32; PLACES] {
+    let mut operators = [NOBODY; PLACES];
     let mut used = 0u32;
     let mut next = first;
     for stage in 0..tables.stands.operators() {

@@ -9,3 +9,5 @@ pub mod Tasks
 pub mod Tight
 pub mod Unique
 pub mod Whole
+-- Lemmas from below, which proofs above cite with those of this crate.
+pub use Rattle.route_table.proofs.LeastRoutes

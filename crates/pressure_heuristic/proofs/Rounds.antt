@@ -3,14 +3,16 @@ use Rattle.std.proofs.Common.{◌≡◌, ℕ, zero, suc, ◌+◌, ◌<◌, ◌�
 use Rattle.std.specs.Prelude.{slice_get, slice_index_or}
 use Rattle.std.specs.List.{filter, list_any, range_with_len}
 use Rattle.std.proofs.lemmas.List.Elements.{filter-append}
-use Rattle.flat_graph.specs.declared.vertex.Vertex.{Vertex}
-use Rattle.flat_graph.specs.Graph.{with_vertex}
-use Rattle.flat_graph.specs.Order.{depends_on}
-use Rattle.durations.specs.Table.{Table, least_of, lesser, row_in, entry_in}
-use Rattle.comm_routing.specs.Placing.{greatest, ticks_in}
+use Rattle.schedule.specs.declared.Vertex.{Vertex}
+use Rattle.schedule.specs.Graph.{with_vertex}
+use Rattle.schedule.specs.FlatOrder.{depends_on}
+use Rattle.schedule.specs.Table.{Table, least_of, row_in, entry_in}
+use Rattle.comm_routing.specs.Placing.{ticks_in}
 use Rattle.comm_routing.specs.Task.{Task}
 use Rattle.pressure_heuristic.specs.Pressure.{least, tail_within, dependents}
-use Rattle.pressure_heuristic.specs.Tails.{least_in, needs_in, so_far, tails_in, raised}
+use Rattle.pressure_heuristic.specs.Tails.{least_in, so_far, tails_in, raised}
+use Rattle.comm_routing.specs.Candidates.{needs_of}
+use Rattle.syn_base.specs.Numbers.{greatest, lesser}
 
 range_last : (a n : ℕ) → range_with_len a (n + 1) ≡ range_with_len a n ++ (a + n) ∷ []
 range_last a zero = (let e : a ≡ a + 0 = omega arith in λ i. e i ∷ [])
@@ -32,14 +34,14 @@ module _ (vertices : List Vertex) (table : Table) where
   pub so_far_step : (before : ℕ → ℕ) (i v : ℕ) (x : Vertex) (date old new : ℕ) → slice_get vertices i ≡ Some x → date ≡ least_in table i + before i → old ≡ so_far vertices table before i v
       → new ≡ raised (depends_on x) v date old → new ≡ so_far vertices table before (i + 1) v
   so_far_step before i v x date old new is d o n =
-      let test = λ (s : ℕ). list_any (nat_eq v) (needs_in vertices s) in
+      let test = λ (s : ℕ). list_any (nat_eq v) (needs_of vertices s) in
       let value = λ (s : ℕ). least_in table s + before s in
       let z : 0 + i ≡ i = omega arith in
       n ∙ by (list_any (nat_eq v) (depends_on x))
-      ∙ sym (ap (λ (l : List ℕ). greatest (map (λ s. least_in table s + before s) (filter (λ s. list_any (nat_eq v) (needs_in vertices s)) l))) (range_last 0 i ∙ ap (λ (k : ℕ). range_with_len 0 i ++ k ∷ []) z)
-      ∙ ap (λ (l : List ℕ). greatest (map (λ s. least_in table s + before s) l)) (filter-append (λ s. list_any (nat_eq v) (needs_in vertices s)) (range_with_len 0 i) (i ∷ []))
-      ∙ ap greatest (map-append (λ s. least_in table s + before s) (filter (λ s. list_any (nat_eq v) (needs_in vertices s)) (range_with_len 0 i)) (filter (λ s. list_any (nat_eq v) (needs_in vertices s)) (i ∷ [])))
-      ∙ greatest-append (map (λ s. least_in table s + before s) (filter (λ s. list_any (nat_eq v) (needs_in vertices s)) (range_with_len 0 i))) (map (λ s. least_in table s + before s) (filter (λ s. list_any (nat_eq v) (needs_in vertices s)) (i ∷ [])))
+      ∙ sym (ap (λ (l : List ℕ). greatest (map (λ s. least_in table s + before s) (filter (λ s. list_any (nat_eq v) (needs_of vertices s)) l))) (range_last 0 i ∙ ap (λ (k : ℕ). range_with_len 0 i ++ k ∷ []) z)
+      ∙ ap (λ (l : List ℕ). greatest (map (λ s. least_in table s + before s) l)) (filter-append (λ s. list_any (nat_eq v) (needs_of vertices s)) (range_with_len 0 i) (i ∷ []))
+      ∙ ap greatest (map-append (λ s. least_in table s + before s) (filter (λ s. list_any (nat_eq v) (needs_of vertices s)) (range_with_len 0 i)) (filter (λ s. list_any (nat_eq v) (needs_of vertices s)) (i ∷ [])))
+      ∙ greatest-append (map (λ s. least_in table s + before s) (filter (λ s. list_any (nat_eq v) (needs_of vertices s)) (range_with_len 0 i))) (map (λ s. least_in table s + before s) (filter (λ s. list_any (nat_eq v) (needs_of vertices s)) (i ∷ [])))
       ∙ ap (λ (r : Option Vertex). max (so_far vertices table before i v) (greatest (map (λ s. least_in table s + before s) (cond (list_any (nat_eq v) (with_vertex r [] depends_on)) (i ∷ []) [])))) is)
     where
       by : (b : Bool) → cond b (max old date) old ≡ max (so_far vertices table before i v) (greatest (map (λ s. least_in table s + before s) (cond b (i ∷ []) [])))
@@ -51,17 +53,17 @@ module _ (vertices : List Vertex) (table : Table) where
   so_far_same f g n v h = ap greatest (by 0 n (λ i l. (let e : 0 + i ≡ i = omega arith in ap f e ∙ h i l ∙ ap g (sym e))))
     where
       by : (a m : ℕ) → ((i : ℕ) → i < m → f (a + i) ≡ g (a + i))
-          → map (λ s. least_in table s + f s) (filter (λ s. list_any (nat_eq v) (needs_in vertices s)) (range_with_len a m)) ≡ map (λ s. least_in table s + g s) (filter (λ s. list_any (nat_eq v) (needs_in vertices s)) (range_with_len a m))
+          → map (λ s. least_in table s + f s) (filter (λ s. list_any (nat_eq v) (needs_of vertices s)) (range_with_len a m)) ≡ map (λ s. least_in table s + g s) (filter (λ s. list_any (nat_eq v) (needs_of vertices s)) (range_with_len a m))
       by a zero h = refl
       by a (suc m) h =
           let z : a ≡ a + 0 = omega arith in
           let first : f a ≡ g a = ap f z ∙ h 0 (omega arith) ∙ ap g (sym z) in
-          one (list_any (nat_eq v) (needs_in vertices a)) first (by (a + 1) m (λ i l. (let e : a + 1 + i ≡ a + suc i = omega arith in ap f e ∙ h (suc i) (omega arith) ∙ ap g (sym e))))
+          one (list_any (nat_eq v) (needs_of vertices a)) first (by (a + 1) m (λ i l. (let e : a + 1 + i ≡ a + suc i = omega arith in ap f e ∙ h (suc i) (omega arith) ∙ ap g (sym e))))
         where
           one : (b : Bool) → f a ≡ g a
-              → map (λ s. least_in table s + f s) (filter (λ s. list_any (nat_eq v) (needs_in vertices s)) (range_with_len (a + 1) m)) ≡ map (λ s. least_in table s + g s) (filter (λ s. list_any (nat_eq v) (needs_in vertices s)) (range_with_len (a + 1) m))
-              → map (λ s. least_in table s + f s) (cond b (a ∷ filter (λ s. list_any (nat_eq v) (needs_in vertices s)) (range_with_len (a + 1) m)) (filter (λ s. list_any (nat_eq v) (needs_in vertices s)) (range_with_len (a + 1) m)))
-              ≡ map (λ s. least_in table s + g s) (cond b (a ∷ filter (λ s. list_any (nat_eq v) (needs_in vertices s)) (range_with_len (a + 1) m)) (filter (λ s. list_any (nat_eq v) (needs_in vertices s)) (range_with_len (a + 1) m)))
+              → map (λ s. least_in table s + f s) (filter (λ s. list_any (nat_eq v) (needs_of vertices s)) (range_with_len (a + 1) m)) ≡ map (λ s. least_in table s + g s) (filter (λ s. list_any (nat_eq v) (needs_of vertices s)) (range_with_len (a + 1) m))
+              → map (λ s. least_in table s + f s) (cond b (a ∷ filter (λ s. list_any (nat_eq v) (needs_of vertices s)) (range_with_len (a + 1) m)) (filter (λ s. list_any (nat_eq v) (needs_of vertices s)) (range_with_len (a + 1) m)))
+              ≡ map (λ s. least_in table s + g s) (cond b (a ∷ filter (λ s. list_any (nat_eq v) (needs_of vertices s)) (range_with_len (a + 1) m)) (filter (λ s. list_any (nat_eq v) (needs_of vertices s)) (range_with_len (a + 1) m)))
           one true e rest = λ i. (least_in table a + e i) ∷ rest i
           one false e rest = rest
 

@@ -1,11 +1,11 @@
 -- The pressure run computed on worked examples: one operator; two operators on a bus; a relay over two media; two transfers over a medium of four operators; a star; a speed controller.
 use Rattle.std.proofs.Common.{◌≡◌, ℕ, true, false, List, [], ◌∷◌, Option, Some, None, refl, pos}
 use Rattle.std.specs.Prelude.{slice_index_or}
-use Rattle.flat_graph.specs.declared.vertex.Kind.TheVariants.{Get, Set}
-use Rattle.flat_graph.specs.Graph.{Graph}
-use Rattle.flat_graph.specs.Valid.{is_flat}
-use Rattle.archi_graph.specs.declared.medium.Hop.{Hop}
-use Rattle.archi_graph.specs.Archi.{Architecture}
+use Rattle.schedule.specs.declared.Kind.TheVariants.{Get, Set}
+use Rattle.schedule.specs.Graph.{Graph}
+use Rattle.schedule.specs.FlatValid.{is_flat}
+use Rattle.schedule.specs.declared.Hop.{Hop}
+use Rattle.schedule.specs.Archi.{Architecture}
 use Rattle.schedule.specs.declared.decision.Schedule.{Schedule}
 use Rattle.schedule.specs.Acts.{Act, acts_of}
 use Rattle.schedule.specs.Tight.{is_tight}

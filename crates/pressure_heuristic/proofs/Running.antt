@@ -3,14 +3,14 @@ use Rattle.std.proofs.Common.{◌≡◌, ℕ, zero, suc, ◌<◌, ◌≤◌, Boo
 use Rattle.std.specs.Prelude.{All, IfOk, IsTrue, Result, nat_eq, slice_index_or}
 use Rattle.std.specs.List.{list_any}
 use Rattle.std.proofs.lemmas.Bool.{cases_lt}
-use Rattle.flat_graph.specs.declared.vertex.Vertex.{Vertex}
-use Rattle.flat_graph.specs.Graph.{Graph}
-use Rattle.archi_graph.specs.Archi.{Architecture}
 use Rattle.route_table.specs.Table.{RouteTable, IsTableOf}
 use Rattle.pressure_heuristic.specs.Tasks.{task}
 use Rattle.pressure_heuristic.proofs.Unique.{one_table}
-use Rattle.durations.specs.Table.{Table, IsRow, entry_in}
 use Rattle.syn_base.specs.declared.memory.OutOfMemory.{OutOfMemory}
+use Rattle.schedule.specs.declared.Vertex.{Vertex}
+use Rattle.schedule.specs.Graph.{Graph}
+use Rattle.schedule.specs.Archi.{Architecture}
+use Rattle.schedule.specs.Table.{Table, IsRow, entry_in}
 use Rattle.schedule.specs.declared.decision.Decision.{Decision}
 use Rattle.schedule.specs.declared.decision.Schedule.{Schedule}
 use Rattle.schedule.specs.Acts.{acts_of}

@@ -3,13 +3,14 @@ use Rattle.std.proofs.Common.{◌≡◌, ℕ, zero, suc, ◌+◌, ◌<◌, Bool,
 use Rattle.std.specs.Prelude.{IsTrue, slice_get, slice_index_or}
 use Rattle.std.specs.List.{list_any, list_all, filter, range_with_len}
 use Rattle.std.proofs.lemmas.Bool.{false≢true, true≢false, and_parts, eqb-true, or_cases, false_from_ne_true}
-use Rattle.flat_graph.specs.declared.vertex.Vertex.{Vertex}
-use Rattle.flat_graph.specs.Graph.{with_vertex}
-use Rattle.flat_graph.specs.Order.{depends_on, is_acyclic, is_done}
-use Rattle.durations.specs.Table.{Table}
-use Rattle.comm_routing.specs.Placing.{greatest}
-use Rattle.pressure_heuristic.specs.Tails.{least_in, needs_in, so_far, tails_in}
+use Rattle.schedule.specs.declared.Vertex.{Vertex}
+use Rattle.schedule.specs.Graph.{with_vertex}
+use Rattle.schedule.specs.FlatOrder.{depends_on, is_acyclic, is_done}
+use Rattle.schedule.specs.Table.{Table}
+use Rattle.pressure_heuristic.specs.Tails.{least_in, so_far, tails_in}
 use Rattle.pressure_heuristic.proofs.Whole.{all_of, in_range}
+use Rattle.comm_routing.specs.Candidates.{needs_of}
+use Rattle.syn_base.specs.Numbers.{greatest}
 
 pub same_where : (f g : ℕ → ℕ) (test : ℕ → Bool) (a n : ℕ) → ((s : ℕ) → s < a + n → test s ≡ true → f s ≡ g s) → map f (filter test (range_with_len a n)) ≡ map g (filter test (range_with_len a n))
 same_where f g test a zero same = refl
@@ -22,7 +23,7 @@ same_where f g test a (suc n) same = by (test a) refl (same_where f g test (a + 
 
 module _ (vertices : List Vertex) where
   -- what an operation depends on is done a round before it
-  pub done_before : (k s v : ℕ) → list_any (nat_eq v) (needs_in vertices s) ≡ true → is_done vertices (suc k) s ≡ true → is_done vertices k v ≡ true
+  pub done_before : (k s v : ℕ) → list_any (nat_eq v) (needs_of vertices s) ≡ true → is_done vertices (suc k) s ≡ true → is_done vertices k v ≡ true
   done_before k s v h e = by (slice_get vertices s) h e
     where
       among : (us : List ℕ) → list_any (nat_eq v) us ≡ true → list_all (is_done vertices k) us ≡ true → is_done vertices k v ≡ true
@@ -45,7 +46,7 @@ module _ (vertices : List Vertex) where
         absurd (true≢false (sym done ∙ ap (λ (r : ℕ). is_done vertices r v) (sym same) ∙ n))
     follows (suc m) k v l e n =
         solves v l
-        ∙ ap greatest (same_where (λ s. least_in table s + f s) (λ s. least_in table s + tails_in vertices table m s) (λ s. list_any (nat_eq v) (needs_in vertices s)) 0 (length vertices)
+        ∙ ap greatest (same_where (λ s. least_in table s + f s) (λ s. least_in table s + tails_in vertices table m s) (λ s. list_any (nat_eq v) (needs_of vertices s)) 0 (length vertices)
         (λ s b i. let later = false_from_ne_true (is_done vertices (suc k) s) (λ d. true≢false (sym (done_before k s v i d) ∙ n)) in
         let r = follows m (suc k) s (omega arith) (omega arith) later in omega arith))
 

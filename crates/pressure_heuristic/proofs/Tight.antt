@@ -7,13 +7,13 @@ use Rattle.std.proofs.lemmas.Bool.{and_parts, eqb-true, not-true, or_left, or_ri
 use Rattle.std.proofs.lemmas.List.{append-nil, append_assoc, map-append}
 use Rattle.std.proofs.lemmas.List.Folds.{list_any-append}
 use Rattle.std.proofs.lemmas.List.Elements.{filter-append, filter_agree}
-use Rattle.flat_graph.specs.declared.vertex.Source.{Source}
-use Rattle.flat_graph.specs.Graph.{Graph, with_vertex}
-use Rattle.archi_graph.specs.declared.medium.Hop.{Hop}
-use Rattle.archi_graph.specs.Archi.{Architecture}
 use Rattle.route_table.specs.Table.{RouteTable}
-use Rattle.durations.specs.Table.{Table}
 use Rattle.syn_base.specs.declared.memory.OutOfMemory.{OutOfMemory}
+use Rattle.schedule.specs.declared.Source.{Source}
+use Rattle.schedule.specs.Graph.{Graph, with_vertex}
+use Rattle.schedule.specs.declared.Hop.{Hop}
+use Rattle.schedule.specs.Archi.{Architecture}
+use Rattle.schedule.specs.Table.{Table}
 use Rattle.schedule.specs.declared.decision.Decision.{Decision}
 use Rattle.schedule.specs.declared.decision.Schedule.{Schedule}
 use Rattle.schedule.specs.Acts.{Act, carry, run, acts_of, start_of, end_of, is_over, is_on, runs, copy, read_by, latest}
@@ -24,12 +24,13 @@ use Rattle.schedule.proofs.Tight.{tight-append}
 use Rattle.comm_routing.specs.Task.{Task}
 use Rattle.comm_routing.specs.Given.{IsTask}
 use Rattle.comm_routing.specs.Draft.{Drafted, IsSite, task_of}
-use Rattle.comm_routing.specs.Placing.{last_end, is_placed, operator_of, greatest, makes, holds, held_from, sources, halves, half_end, transfer, along, fetched, fetched_all, transfers, arrival, start, decision, may_stand}
+use Rattle.comm_routing.specs.Placing.{last_end, is_placed, operator_of, makes, holds, held_from, sources, halves, half_end, transfer, along, fetched, fetched_all, transfers, arrival, start, decision, may_stand}
 use Rattle.comm_routing.proofs.Done.{any_more, end_carried}
 use Rattle.comm_routing.proofs.Right.{good, right, with_decision}
 use Rattle.pressure_heuristic.specs.Pressure.{with_some, next, run_after, pressure_run}
 use Rattle.pressure_heuristic.specs.Runs.{RunsAreTight}
 use Rattle.pressure_heuristic.proofs.Whole.{chosen, still_good}
+use Rattle.syn_base.specs.Numbers.{greatest}
 
 -- two acts in one line have the same acts in their line
 one_line : (z x y : Act) → same_line z x ≡ true → same_line z y ≡ same_line x y

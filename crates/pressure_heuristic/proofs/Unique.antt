@@ -2,10 +2,10 @@
 use Rattle.std.proofs.Common.{◌≡◌, ℕ, zero, suc, ◌+◌, ◌-◌, ◌*◌, ◌<◌, Bool, true, false, ◌&&◌, ◌||◌, ◌==◌, List, [], ◌∷◌, length, refl, sym, ap, subst, arith, ◌∙◌, inl, inr}
 use Rattle.std.specs.Prelude.{nat_lt, slice_index_or}
 use Rattle.std.proofs.lemmas.Bool.{false≢true, or_parts, ltb-false, eq-eqb, cases_lt}
-use Rattle.archi_graph.specs.declared.medium.Hop.{Hop}
-use Rattle.archi_graph.specs.Archi.{Architecture}
 use Rattle.route_table.specs.Least.{comes_before, are_equal, media_of, operators_of, is_less}
 use Rattle.route_table.specs.Table.{RouteTable, route_in, IsTableOf}
+use Rattle.schedule.specs.declared.Hop.{Hop}
+use Rattle.schedule.specs.Archi.{Architecture}
 
 after_and : (e x : Bool) → e ≡ true → (e && x) ≡ false → x ≡ false
 after_and true x h k = k

@@ -1,9 +1,9 @@
 -- What adequation returns.
 use Rattle.std.specs.Prelude.{◌≡◌}
-use Rattle.flat_graph.specs.Graph.{Graph}
-use Rattle.archi_graph.specs.Archi.{Architecture}
 use Rattle.route_table.specs.Table.{RouteTable, IsTableOf}
-use Rattle.durations.specs.Table.{Table}
+use Rattle.schedule.specs.Graph.{Graph}
+use Rattle.schedule.specs.Archi.{Architecture}
+use Rattle.schedule.specs.Table.{Table}
 use Rattle.schedule.specs.declared.decision.Schedule.{Schedule}
 use Rattle.pressure_heuristic.specs.Pressure.{pressure_run}
 use Rattle.pressure_heuristic.specs.Tasks.{task}

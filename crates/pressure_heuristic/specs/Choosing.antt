@@ -16,7 +16,7 @@ use Rattle.std.specs.Prelude.{
   None,
   slice_index_or,
 }
-use Rattle.durations.specs.Table.{Table}
+use Rattle.schedule.specs.Table.{Table}
 use Rattle.schedule.specs.Acts.{Act}
 use Rattle.comm_routing.specs.Task.{Task}
 use Rattle.comm_routing.specs.Placing.{decision, may_place}

@@ -1,13 +1,14 @@
 -- The pressure run: the list of decisions in which each decision is the choice after the decisions before it.
 use Rattle.std.specs.Prelude.{ℕ, zero, suc, ◌+◌, nat_eq, List, [], ◌∷◌, ◌++◌, map, length, Option, Some, None}
 use Rattle.std.specs.List.{filter, list_any, range_with_len}
-use Rattle.durations.specs.Table.{least_of}
+use Rattle.schedule.specs.Table.{least_of}
 use Rattle.schedule.specs.declared.decision.Decision.{Decision}
 use Rattle.schedule.specs.declared.decision.Schedule.{Schedule}
 use Rattle.schedule.specs.Acts.{Act, acts_of}
 use Rattle.comm_routing.specs.Task.{Task}
-use Rattle.comm_routing.specs.Placing.{greatest, ticks_in, needs, start, decision, is_candidate, may_stand}
+use Rattle.comm_routing.specs.Placing.{ticks_in, needs, start, decision, is_candidate, may_stand}
 use Rattle.pressure_heuristic.specs.Choice.{first_least, first_greatest}
+use Rattle.syn_base.specs.Numbers.{greatest}
 
 -- what is made of an element, or else this
 abbrev pub with_some : {A B : Type 0} → Option A → B → (A → B) → B

@@ -1,17 +1,14 @@
 -- Tails by operations and their table of durations, round by round.
-use Rattle.std.specs.Prelude.{ℕ, zero, suc, ◌+◌, List, [], map, length, max, if◌then◌else◌, nat_eq, slice_get}
+use Rattle.std.specs.Prelude.{ℕ, zero, suc, ◌+◌, List, map, length, max, if◌then◌else◌, nat_eq}
 use Rattle.std.specs.List.{filter, list_any, range_with_len}
-use Rattle.flat_graph.specs.declared.vertex.Vertex.{Vertex}
-use Rattle.flat_graph.specs.Graph.{with_vertex}
-use Rattle.flat_graph.specs.Order.{depends_on}
-use Rattle.durations.specs.Table.{Table, least_of, row_in}
-use Rattle.comm_routing.specs.Placing.{greatest, ticks_in}
+use Rattle.schedule.specs.declared.Vertex.{Vertex}
+use Rattle.schedule.specs.Table.{Table, least_of, row_in}
+use Rattle.comm_routing.specs.Placing.{ticks_in}
+use Rattle.comm_routing.specs.Candidates.{needs_of}
+use Rattle.syn_base.specs.Numbers.{greatest}
 
 abbrev pub least_in : Table → ℕ → ℕ
 least_in table v = ticks_in (least_of (row_in table v))
-
-abbrev pub needs_in : List Vertex → ℕ → List ℕ
-needs_in vertices v = with_vertex (slice_get vertices v) [] depends_on
 
 module _ (vertices : List Vertex) (table : Table) where
   -- of the operations below this number, those that depend on this one: the greatest sum of such a one's least
@@ -19,7 +16,7 @@ module _ (vertices : List Vertex) (table : Table) where
   abbrev pub so_far : (ℕ → ℕ) → ℕ → ℕ → ℕ
   so_far before count v =
       greatest (map (λ s. least_in table s + before s)
-      (filter (λ s. list_any (nat_eq v) (needs_in vertices s)) (range_with_len 0 count)))
+      (filter (λ s. list_any (nat_eq v) (needs_of vertices s)) (range_with_len 0 count)))
 
   abbrev pub tails_in : ℕ → ℕ → ℕ
   tails_in zero v = 0

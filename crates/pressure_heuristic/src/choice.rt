@@ -10,7 +10,7 @@ ghost use Rattle.pressure_heuristic.specs.Choosing.{IsBest, IsChoice, IsGreatest
 
 use crate::proposals::Proposals;
 use comm_routing::Draft;
-use durations::Durations;
+use schedule::Durations;
 
 /// An operator, and the pressure of an operation there.
 #[derive(Clone, Copy, Debug, PartialEq, Eq)]

@@ -17,3 +17,6 @@ pub use laws::{
     tasks_are_given,
 };
 pub use steps::adequation;
+
+// What the clauses here speak of: routes.
+pub use route_table::{Routes, routes_are_least, routes_of};

@@ -3,7 +3,7 @@
 ghost use Rattle.std.specs.Prelude.{◌≡◌};
 
 use comm_routing::Draft;
-use durations::Durations;
+use schedule::Durations;
 use std::alloc::Global;
 use syn_base::OutOfMemory;
 

@@ -1,7 +1,7 @@
 //! The run from its first decision to its last: `adequation`, which the commands call.
 ghost use Rattle.std.specs.Prelude.{◌≡◌, [], IfOk, IsTrue, length};
-ghost use Rattle.durations.specs.Fitting.{IsOf};
-ghost use Rattle.durations.specs.Table.{entry_in};
+ghost use Rattle.schedule.specs.Fitting.{IsOf};
+ghost use Rattle.schedule.specs.Table.{entry_in};
 ghost use Rattle.schedule.specs.Tight.{is_tight};
 ghost use Rattle.schedule.specs.Valid.{is_valid};
 ghost use Rattle.schedule.specs.Acts.{acts_of};
@@ -13,12 +13,9 @@ ghost use Rattle.pressure_heuristic.specs.Pressure.{pressure_run};
 use crate::choice::{Next, decide};
 use crate::proposals::{Proposals, propose_all};
 use crate::tails::all_tails;
-use archi_graph::Archi;
 use comm_routing::Draft;
-use durations::Durations;
-use flat_graph::Flat;
 use route_table::routes_of;
-use schedule::Schedule;
+use schedule::{Archi, Durations, Flat, Schedule};
 use std::alloc::Global;
 use syn_base::OutOfMemory;
 

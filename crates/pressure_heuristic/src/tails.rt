@@ -1,11 +1,10 @@
 //! The tails: the longest times from the ends of operations on, by which the run chooses.
 ghost use Rattle.std.specs.Prelude.{◌≡◌, ℕ, ◌+◌, ◌*◌, ◌<◌, ◌≤◌, IfOk, length, map, slice_index_or, ◌∷◌, [], IsTrue};
 ghost use Rattle.syn_base.specs.Limits.{most_operations};
-ghost use Rattle.flat_graph.specs.Order.{depends_on, get_half, is_acyclic};
+ghost use Rattle.schedule.specs.FlatOrder.{depends_on, get_half, is_acyclic};
 ghost use Rattle.pressure_heuristic.specs.Tails.{raised, so_far, tails_in};
 
-use durations::Durations;
-use flat_graph::{Guard, Kind, Source, Vertex};
+use schedule::{Durations, Guard, Kind, Source, Vertex};
 use std::alloc::Global;
 use syn_base::OutOfMemory;
 

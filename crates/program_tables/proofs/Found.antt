@@ -13,9 +13,9 @@ use Rattle.executive_program.specs.Instructions.{turn, turn_of, writes}
 use Rattle.executive_program.specs.Places.{output_at, sequence_where}
 use Rattle.program_tables.specs.declared.roles.Role.{Role}
 use Rattle.program_tables.specs.declared.roles.Role.TheVariants.{Written}
-use Rattle.program_tables.specs.Marks.{named, names, marks_of, test_of}
+use Rattle.program_tables.specs.Marks.{named, names, marks_of}
 use Rattle.program_tables.proofs.Naming.{IsFirst, first_is, named_in, port_in}
-use Rattle.program_tables.proofs.Lone.{names_is, names_are}
+use Rattle.program_tables.proofs.Lone.{names_is, names_are, test_of}
 
 none_found : {X : Type 0} (test : X → Bool) (xs : List X) → list_any test xs ≡ false → position_or_len test xs ≡ length xs
 none_found test [] e = refl

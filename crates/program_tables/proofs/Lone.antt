@@ -8,15 +8,25 @@ use Rattle.program_tables.specs.declared.mark_table.Mark.{Mark}
 use Rattle.executive_program.specs.declared.program.Instr.{Instr}
 use Rattle.executive_program.specs.declared.program.Instr.TheVariants.{Suc0, Suc1, Pre0, Pre1, Call, Send, Recv, Sync}
 use Rattle.executive_program.specs.declared.program.Program.{Program}
-use Rattle.executive_program.specs.Instructions.{turn}
-use Rattle.executive_program.specs.Places.{sequence_where}
+use Rattle.executive_program.specs.Instructions.{turn, reads, writes}
+use Rattle.executive_program.specs.Places.{sequence_where, calls, signals_empty, signals_full, takes_empty, takes_full}
 use Rattle.program_walks.specs.Acts.{is_only, passes}
 use Rattle.program_walks.specs.Walks.{every, implies}
 use Rattle.program_walks.proofs.ListTests.{every_of, of_every, implied, implying}
 use Rattle.program_tables.specs.declared.roles.Role.{Role}
 use Rattle.program_tables.specs.declared.roles.Role.TheVariants.{Called, Written, Read, EmptyTaken, FullSignalled, FullTaken, EmptySignalled}
-use Rattle.program_tables.specs.Marks.{names, marks_of, test_of, lone, first_at}
+use Rattle.program_tables.specs.Marks.{names, marks_of, lone, first_at}
 use Rattle.program_tables.proofs.Naming.{all_stands, IsFirst, first_is, port_in}
+
+-- The test of an instruction by which other definitions ask whether it names a number in this role.
+abbrev pub test_of : Role → ℕ → Instr → Bool
+test_of Called = calls
+test_of Written = writes
+test_of Read = reads
+test_of EmptyTaken = takes_empty
+test_of FullSignalled = signals_full
+test_of FullTaken = takes_full
+test_of EmptySignalled = signals_empty
 
 -- two tests that are true together are one
 pub same_tests : (a b : Bool) → (a ≡ true → b ≡ true) → (b ≡ true → a ≡ true) → a ≡ b

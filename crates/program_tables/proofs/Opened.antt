@@ -11,11 +11,11 @@ use Rattle.executive_program.specs.declared.program.Instr.TheVariants.{Pre0}
 use Rattle.executive_program.specs.declared.program.Program.{Program}
 use Rattle.executive_program.specs.Blocks.{blocks, repeated}
 use Rattle.executive_program.specs.Instructions.{depth_of, prologue, readers}
-use Rattle.executive_program.specs.Places.{opening_signals, reader, signals_empty, signals_of}
+use Rattle.executive_program.specs.Places.{opening_signals, reader, signals_empty, signals_of, AreOpened}
 use Rattle.executive_program.proofs.Passing.{empty_signalled}
 use Rattle.program_walks.specs.Walks.{all_below}
 use Rattle.program_walks.proofs.ListTests.{below_of, of_below}
-use Rattle.program_tables.specs.Openings.{AreOpened, IsPassed, is_at_end, opens_next}
+use Rattle.program_tables.specs.Openings.{IsPassed, is_at_end, opens_next}
 
 -- lists that begin alike
 take_none : {A : Type 0} (k : ℕ) → ◌≡◌ {A = List A} (take k []) []

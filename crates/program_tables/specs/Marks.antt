@@ -6,8 +6,6 @@ use Rattle.executive_program.specs.declared.program.Instr.{Instr}
 use Rattle.executive_program.specs.declared.program.Instr.TheVariants.{Suc0, Suc1, Pre0, Pre1, Call, Send, Recv}
 use Rattle.executive_program.specs.declared.program.SeqCode.{SeqCode}
 use Rattle.executive_program.specs.declared.program.Program.{Program}
-use Rattle.executive_program.specs.Instructions.{reads, writes}
-use Rattle.executive_program.specs.Places.{calls, signals_empty, signals_full, takes_empty, takes_full}
 use Rattle.program_tables.specs.declared.roles.Role.{Role}
 use Rattle.program_tables.specs.declared.roles.Role.TheVariants.{
   Called,
@@ -54,16 +52,6 @@ marks_from role s (q ∷ qs) = marks_in role s 0 q.turn ++ marks_from role (s + 
 -- the places at which this number is named in this role
 abbrev pub marks_of : Program → Role → ℕ → List Mark
 marks_of p role n = filter (λ m. nat_eq m.number n) (marks_from role 0 p.seqs)
-
--- the test for it that other definitions speak of
-abbrev pub test_of : Role → ℕ → Instr → Bool
-test_of Called = calls
-test_of Written = writes
-test_of Read = reads
-test_of EmptyTaken = takes_empty
-test_of FullSignalled = signals_full
-test_of FullTaken = takes_full
-test_of EmptySignalled = signals_empty
 
 -- there is such a place, and all are one instruction of sequence s
 abbrev pub lone : ℕ → List Mark → Bool

@@ -5,17 +5,13 @@ use Rattle.executive_program.specs.declared.program.Instr.{Instr}
 use Rattle.executive_program.specs.declared.program.Program.{Program}
 use Rattle.executive_program.specs.Blocks.{blocks}
 use Rattle.executive_program.specs.Instructions.{prologue}
-use Rattle.executive_program.specs.Places.{opening_of, reader, signals_empty, signals_of}
+use Rattle.executive_program.specs.Places.{reader, signals_empty, signals_of}
 use Rattle.program_tables.specs.declared.readings.Reading.{Reading}
 use Rattle.program_tables.specs.Readings.{reading_of}
 
 -- the list begins with this many signals of the empty semaphore of pair q
 abbrev pub opens_next : ℕ → ℕ → List Instr → Bool
 opens_next q n xs = nat_le n (length xs) && list_all (signals_empty q) (take n xs)
-
--- each prologue is that which its sequence has
-abbrev pub AreOpened : Program → Type 0
-AreOpened p = (s : ℕ) → s < length p.seqs → prologue p s ≡ opening_of p s
 
 -- Of each prologue this many instructions were passed: the signals for the pairs before q.
 pub record IsPassed (p : Program) (q : ℕ) (passed : List ℕ) : Type 0 where

@@ -2,9 +2,9 @@
 ghost use Rattle.std.specs.Prelude.{◌≡◌, ◌+◌, ◌<◌, true, false, length, replicate, IfOk};
 ghost use Rattle.std.specs.List.{list_all};
 ghost use Rattle.executive_program.specs.Instructions.{prologue, readers};
-ghost use Rattle.executive_program.specs.Places.{signals_empty};
+ghost use Rattle.executive_program.specs.Places.{signals_empty, AreOpened};
 ghost use Rattle.program_walks.specs.Walks.{all_below};
-ghost use Rattle.program_tables.specs.Openings.{AreOpened, IsPassed, is_at_end, opens_next, reading_at};
+ghost use Rattle.program_tables.specs.Openings.{IsPassed, is_at_end, opens_next, reading_at};
 ghost use Rattle.program_tables.specs.Readings.{readings};
 
 use crate::readings::Reading;

@@ -3,14 +3,14 @@ use Rattle.std.proofs.Common.{◌≡◌, ◌≢◌, ℕ, zero, suc, ◌+◌, ◌
 use Rattle.std.specs.Prelude.{replicate}
 use Rattle.std.proofs.lemmas.Bool.{cases_eq, cases_lt}
 use Rattle.std.proofs.lemmas.List.{length-set, length-replicate, get_or-set_same, get_or-set_other, get_or-replicate, get_or_past}
-use Rattle.interleavings.specs.Owners.{sum_below}
-use Rattle.interleavings.proofs.Sums.{le_below, more_below, none_below}
+use Rattle.executive_program.specs.Owners.{sum_below}
+use Rattle.executive_program.proofs.InterleavingSums.{le_below, more_below, none_below}
 use Rattle.executive_program.specs.declared.steps.MicroStep.{MicroStep}
 use Rattle.executive_program.specs.declared.steps.MicroStep.TheVariants.{Take, See, Lower, Signal, Await, Advance, Load, Store}
-use Rattle.semaphore_core.specs.Job.{JobData, reactions, total_steps}
-use Rattle.semaphore_core.specs.Core.{Core, opening, count, counted, full, next, reaction, done_in, done_by, enabled_by, is_enabled, step, run, run_from, IsDone}
-use Rattle.semaphore_core.specs.Held.{made}
-use Rattle.semaphore_core.proofs.Opened.{full_total}
+use Rattle.phase_laws.specs.Job.{JobData, reactions, total_steps}
+use Rattle.phase_laws.specs.Core.{Core, opening, count, counted, full, next, reaction, done_in, done_by, enabled_by, is_enabled, step, run, run_from, IsDone}
+use Rattle.phase_laws.specs.Held.{made}
+use Rattle.phase_laws.proofs.Opened.{full_total}
 use Rattle.progress_laws.specs.Bound.{AllEnabledFrom, AllEnabled, IsBound}
 use Rattle.progress_laws.proofs.Enabled.{enabled_there, enabled_pending}
 

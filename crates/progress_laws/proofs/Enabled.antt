@@ -1,8 +1,8 @@
 -- A sequence that is enabled is one of the program, and has more micro-steps to make.
 use Rattle.std.proofs.Common.{◌≡◌, ℕ, ◌<◌, ◌≤◌, ◌⊎◌, inl, inr, true, false, length, None, refl, sym, ap, ◌∙◌}
 use Rattle.std.proofs.lemmas.Bool.{cases_lt, lt-ltb, le-ltb}
-use Rattle.semaphore_core.specs.Job.{JobData}
-use Rattle.semaphore_core.specs.Core.{Core, count, full, next, enabled_by, is_enabled}
+use Rattle.phase_laws.specs.Job.{JobData}
+use Rattle.phase_laws.specs.Core.{Core, count, full, next, enabled_by, is_enabled}
 
 module _ (j : JobData) (z : Core) where
   -- a sequence that has made all, or that is not there, is not enabled

@@ -1,7 +1,7 @@
 -- How many steps a list may have in which each named sequence is enabled.
 use Rattle.std.specs.Prelude.{◌≡◌, ℕ, ◌≤◌, true, List, [], ◌∷◌, length}
-use Rattle.semaphore_core.specs.Job.{JobData}
-use Rattle.semaphore_core.specs.Core.{Core, opening, is_enabled, step, run, IsDone}
+use Rattle.phase_laws.specs.Job.{JobData}
+use Rattle.phase_laws.specs.Core.{Core, opening, is_enabled, step, run, IsDone}
 
 module _ (j : JobData) where
   -- From state z on each listed sequence is enabled when its entry comes, after the

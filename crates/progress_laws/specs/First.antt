@@ -1,7 +1,7 @@
 -- The least sequence that is enabled.
 use Rattle.std.specs.Prelude.{◌≡◌, ℕ, ◌<◌, true, false, length}
-use Rattle.semaphore_core.specs.Job.{JobData}
-use Rattle.semaphore_core.specs.Core.{Core, is_enabled}
+use Rattle.phase_laws.specs.Job.{JobData}
+use Rattle.phase_laws.specs.Core.{Core, is_enabled}
 
 -- Sequence s is enabled in state z, and none with a lower number is.
 pub record IsFirstEnabled (j : JobData) (z : Core) (s : ℕ) : Type 0 where

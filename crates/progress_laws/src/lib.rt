@@ -3,14 +3,13 @@
 #![tactic(auto)]
 
 ghost use Rattle.std.specs.Prelude.{◌≡◌, None, IfSome};
-ghost use Rattle.semaphore_core.specs.Job.{reactions, total_steps};
-ghost use Rattle.semaphore_core.specs.Core.{IsDone};
-ghost use Rattle.semaphore_core.specs.Held.{IsOpened};
+ghost use Rattle.phase_laws.specs.Job.{reactions, total_steps};
+ghost use Rattle.phase_laws.specs.Core.{IsDone};
+ghost use Rattle.phase_laws.specs.Held.{IsOpened};
 ghost use Rattle.progress_laws.specs.First.{IsFirstEnabled};
 ghost use Rattle.progress_laws.specs.Bound.{IsBound};
 
-use phase_laws::job_has_laws;
-use semaphore_core::{Job, State};
+use phase_laws::{Job, State, job_has_laws};
 
 /// The least sequence that is enabled. There is none exactly where every sequence has made all its
 /// micro-steps, whatever list of sequence numbers led to the state. It takes no memory.

@@ -3,10 +3,10 @@ use Rattle.std.proofs.Common.{◌≡◌, ℕ, zero, suc, ◌≤◌, Bool, true, 
 use Rattle.std.specs.Prelude.{slice_get, nat_le, ◌-◌}
 use Rattle.std.proofs.lemmas.Bool.{leb-true, le-leb}
 use Rattle.std.proofs.lemmas.Option.{same_Some}
-use Rattle.flat_graph.specs.declared.vertex.Vertex.{Vertex}
-use Rattle.schedule.specs.Acts.{Act}
-use Rattle.schedule.specs.Tight.{same_line, reads_from}
-use Rattle.sequence_build_laws.specs.Serial.{numbers_where}
+use Rattle.self_timed.specs.declared.Vertex.{Vertex}
+use Rattle.self_timed.specs.Acts.{Act}
+use Rattle.self_timed.specs.Tight.{same_line, reads_from}
+use Rattle.self_timed.specs.Serial.{numbers_where}
 use Rattle.self_timed.specs.Dates.{Event, event, last_where, latest_of, ago, has_reader, needs}
 use Rattle.rates.specs.Arcs.{Arc, arc, latest_arc, arcs, back_from}
 

@@ -5,13 +5,13 @@ use Rattle.std.specs.List.{list_any}
 use Rattle.std.proofs.lemmas.Bool.{false≢true, and_parts, eqb-true}
 use Rattle.std.proofs.lemmas.Option.{same_Some}
 use Rattle.std.proofs.Math.Nat.{mul-le-mul_left}
-use Rattle.flat_graph.specs.Graph.{Graph, len_of}
-use Rattle.archi_graph.specs.declared.medium.Medium.{Medium}
-use Rattle.archi_graph.specs.Archi.{Architecture, stands_at}
-use Rattle.schedule.specs.declared.decision.Schedule.{Schedule}
-use Rattle.schedule.specs.Acts.{Act, carry, run, acts, start_of, end_of, is_over, is_on, runs, copy, latest, length_of}
-use Rattle.schedule.specs.Valid.{is_valid, is_there, have_ended, lasts, is_carried}
-use Rattle.sequence_build_laws.proofs.Works.{right_at}
+use Rattle.self_timed.specs.Graph.{Graph, len_of}
+use Rattle.self_timed.specs.declared.Medium.{Medium}
+use Rattle.self_timed.specs.Archi.{Architecture, stands_at}
+use Rattle.self_timed.specs.declared.Schedule.{Schedule}
+use Rattle.self_timed.specs.Acts.{Act, carry, run, acts, start_of, end_of, is_over, is_on, runs, copy, latest, length_of}
+use Rattle.self_timed.specs.ScheduleValid.{is_valid, is_there, have_ended, lasts, is_carried}
+use Rattle.self_timed.proofs.Works.{right_at}
 use Rattle.self_timed.specs.Dates.{event, with_act}
 use Rattle.self_timed.specs.Entries.{stated}
 use Rattle.self_timed.proofs.Needs.{needs_are}

@@ -4,8 +4,8 @@ use Rattle.std.specs.Prelude.{◌-◌, ◌/◌, ◌%◌}
 use Rattle.std.proofs.lemmas.Bool.{cases_lt}
 use Rattle.std.proofs.lemmas.List.Sums.{sum_by-cons}
 use Rattle.std.proofs.Math.Nat.{mul-le-mul_left}
-use Rattle.flat_graph.specs.declared.vertex.Vertex.{Vertex}
-use Rattle.schedule.specs.Acts.{Act}
+use Rattle.self_timed.specs.declared.Vertex.{Vertex}
+use Rattle.self_timed.specs.Acts.{Act}
 use Rattle.self_timed.specs.Dates.{event, needs}
 use Rattle.self_timed.proofs.Needs.{needs_are}
 use Rattle.self_timed.proofs.Lined.{greatest_above}

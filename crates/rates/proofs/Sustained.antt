@@ -3,9 +3,10 @@ use Rattle.std.proofs.Common.{◌≡◌, ℕ, suc, ◌+◌, ◌*◌, ◌<◌, �
 use Rattle.std.specs.Prelude.{slice_get, ◌-◌}
 use Rattle.std.proofs.lemmas.Bool.{cases_lt}
 use Rattle.std.proofs.Math.Nat.{mul-le-mul_left}
-use Rattle.flat_graph.specs.declared.vertex.Vertex.{Vertex}
-use Rattle.schedule.specs.Acts.{Act}
-use Rattle.self_timed.specs.Dates.{Event, event, greatest, needs, AreDates}
+use Rattle.self_timed.specs.declared.Vertex.{Vertex}
+use Rattle.self_timed.specs.Acts.{Act}
+use Rattle.self_timed.specs.Dates.{Event, event, needs, AreDates}
+use Rattle.syn_base.specs.Numbers.{greatest}
 use Rattle.self_timed.proofs.Needs.{needs_are}
 use Rattle.self_timed.proofs.Ranks.{by_reaction}
 use Rattle.rates.specs.Arcs.{Arc, arcs}

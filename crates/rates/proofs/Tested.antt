@@ -4,9 +4,9 @@ use Rattle.std.specs.Prelude.{slice_get, nat_le}
 use Rattle.std.specs.List.{list_all}
 use Rattle.std.proofs.lemmas.Bool.{and_parts, leb-true, le-leb}
 use Rattle.std.proofs.lemmas.Option.{same_Some}
-use Rattle.flat_graph.specs.declared.vertex.Vertex.{Vertex}
-use Rattle.schedule.specs.Acts.{Act}
-use Rattle.sequence_build_laws.proofs.Lists.{all_at}
+use Rattle.self_timed.specs.declared.Vertex.{Vertex}
+use Rattle.self_timed.specs.Acts.{Act}
+use Rattle.self_timed.proofs.Lists.{all_at}
 use Rattle.rates.specs.Arcs.{Arc, arcs}
 use Rattle.rates.specs.Rates.{Sustains, is_sustained, is_sustained_from}
 

@@ -2,9 +2,9 @@
 use Rattle.std.proofs.Common.{◌≡◌, ℕ, ◌*◌, true, ◌&&◌, List, [], ◌∷◌, Option, Some, None, refl, sym, ap, ◌∙◌, eq-eqb}
 use Rattle.std.specs.Prelude.{slice_get, nat_le, ◌==◌}
 use Rattle.std.proofs.lemmas.Bool.{false≢true, and_parts, eqb-true, leb-true, le-leb}
-use Rattle.flat_graph.specs.declared.vertex.Vertex.{Vertex}
-use Rattle.schedule.specs.Acts.{Act}
-use Rattle.executive_program.proofs.Reading.{any_of, any_at}
+use Rattle.self_timed.specs.declared.Vertex.{Vertex}
+use Rattle.self_timed.specs.Acts.{Act}
+use Rattle.self_timed.proofs.Reading.{any_of, any_at}
 use Rattle.rates.specs.Arcs.{Arc, arcs}
 use Rattle.rates.specs.Rates.{Precedes, IsWayTo, IsCycle, IsCriticalCycle, begin_or, lags, length_over, same_arc, has_arc, is_way_to, is_cycle, is_critical_cycle}
 use Rattle.rates.proofs.Tested.{both}

@@ -1,8 +1,8 @@
 -- The laws of rates, each as its contract states it.
 use Rattle.std.proofs.Common.{◌≡◌, ℕ, ◌<◌, List, [], ◌∷◌, Some, arith}
 use Rattle.std.specs.Prelude.{slice_get}
-use Rattle.flat_graph.specs.declared.vertex.Vertex.{Vertex}
-use Rattle.schedule.specs.Acts.{Act}
+use Rattle.self_timed.specs.declared.Vertex.{Vertex}
+use Rattle.self_timed.specs.Acts.{Act}
 use Rattle.rates.specs.Arcs.{Arc}
 use Rattle.rates.specs.Rates.{lags, IsWayTo}
 use Rattle.rates.specs.Laws.{ArcsAreNeeds, SustainsIsOfNeeds, RatesAreSustained, ChartIsSustained, NoExecutiveIsFaster, NoRateIsBelowACycle, CriticalCyclesAreExact, CyclesTakeReactions, SustainedIsTested, CycleIsTested, ClockKeepsOrder}

@@ -1,10 +1,10 @@
 -- Arcs computed on worked examples: one operator, a chain over two operators, a bus, a delay, and operators that wait for nothing.
 use Rattle.std.proofs.Common.{◌≡◌, ℕ, suc, List, [], ◌∷◌, None, Some, refl, pos}
-use Rattle.flat_graph.specs.Graph.{Graph}
-use Rattle.flat_graph.specs.declared.vertex.Kind.TheVariants.{Sensor, Actuator, Function, Get, Set}
-use Rattle.schedule.specs.declared.decision.Schedule.{Schedule}
-use Rattle.schedule.specs.Acts.{Act, acts}
-use Rattle.schedule.proofs.Examples.{carried, operation, placed, schedule, source, plain_graph, plain_schedule, bus_graph, bus_schedule, multi_graph}
+use Rattle.self_timed.specs.Graph.{Graph}
+use Rattle.self_timed.specs.declared.Kind.TheVariants.{Sensor, Actuator, Function, Get, Set}
+use Rattle.self_timed.specs.declared.Schedule.{Schedule}
+use Rattle.self_timed.specs.Acts.{Act, acts}
+use Rattle.self_timed.proofs.Examples.{carried, operation, placed, schedule, source, plain_graph, plain_schedule, bus_graph, bus_schedule, multi_graph}
 use Rattle.self_timed.specs.Dates.{event}
 use Rattle.rates.specs.Arcs.{Arc, arc, arcs, back_from}
 

@@ -1,13 +1,13 @@
 -- Rates computed on worked examples: one operator, a chain, a delay, operators that wait for nothing; two operators on a bus, faster than the chart repeated; and two operators that wait for each other over two media, two reactions in fifteen ticks.
 use Rattle.std.proofs.Common.{◌≡◌, ◌≤◌, ◌*◌, ℕ, Bool, true, false, List, [], ◌∷◌, Option, Some, refl, ap, arith}
 use Rattle.std.specs.Prelude.{slice_get, slice_index_or}
-use Rattle.flat_graph.specs.Graph.{Graph}
-use Rattle.archi_graph.specs.declared.medium.Medium.{Medium}
-use Rattle.archi_graph.specs.Archi.{Architecture}
-use Rattle.schedule.specs.declared.decision.Schedule.{Schedule}
-use Rattle.schedule.specs.Acts.{Act, acts, end_of, length_of}
-use Rattle.schedule.specs.Valid.{is_valid}
-use Rattle.schedule.proofs.Examples.{archi, carried, placed, schedule, bus_graph, bus_schedule, multi_graph, plain_graph, plain_schedule}
+use Rattle.self_timed.specs.Graph.{Graph}
+use Rattle.self_timed.specs.declared.Medium.{Medium}
+use Rattle.self_timed.specs.Archi.{Architecture}
+use Rattle.self_timed.specs.declared.Schedule.{Schedule}
+use Rattle.self_timed.specs.Acts.{Act, acts, end_of, length_of}
+use Rattle.self_timed.specs.ScheduleValid.{is_valid}
+use Rattle.self_timed.proofs.Examples.{archi, carried, placed, schedule, bus_graph, bus_schedule, multi_graph, plain_graph, plain_schedule}
 use Rattle.self_timed.specs.Dates.{with_act}
 use Rattle.self_timed.specs.Entries.{stated}
 use Rattle.self_timed.specs.Laws.{NoLaterThanStated}

@@ -15,10 +15,10 @@ use Rattle.std.specs.Prelude.{
   Some,
   None,
 }
-use Rattle.flat_graph.specs.declared.vertex.Vertex.{Vertex}
-use Rattle.schedule.specs.Acts.{Act}
-use Rattle.schedule.specs.Tight.{same_line, reads_from}
-use Rattle.sequence_build_laws.specs.Serial.{numbers_where}
+use Rattle.self_timed.specs.declared.Vertex.{Vertex}
+use Rattle.self_timed.specs.Acts.{Act}
+use Rattle.self_timed.specs.Tight.{same_line, reads_from}
+use Rattle.self_timed.specs.Serial.{numbers_where}
 use Rattle.self_timed.specs.Dates.{Event, event, last_where, has_reader}
 
 -- An arc leads back to an act, by its number from 0, this many reactions before.

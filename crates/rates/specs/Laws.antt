@@ -17,12 +17,12 @@ use Rattle.std.specs.Prelude.{
   Some,
   slice_get,
 }
-use Rattle.flat_graph.specs.declared.vertex.Vertex.{Vertex}
-use Rattle.flat_graph.specs.Graph.{Graph}
-use Rattle.archi_graph.specs.Archi.{Architecture}
-use Rattle.schedule.specs.declared.decision.Schedule.{Schedule}
-use Rattle.schedule.specs.Acts.{Act, acts, end_of, length_of}
-use Rattle.schedule.specs.Valid.{is_valid}
+use Rattle.self_timed.specs.declared.Vertex.{Vertex}
+use Rattle.self_timed.specs.Graph.{Graph}
+use Rattle.self_timed.specs.Archi.{Architecture}
+use Rattle.self_timed.specs.declared.Schedule.{Schedule}
+use Rattle.self_timed.specs.Acts.{Act, acts, end_of, length_of}
+use Rattle.self_timed.specs.ScheduleValid.{is_valid}
 use Rattle.self_timed.specs.Dates.{Event, needs, with_act, AreDates}
 use Rattle.rates.specs.Arcs.{Arc, arcs, back_from}
 use Rattle.rates.specs.Rates.{

@@ -24,8 +24,8 @@ use Rattle.std.specs.Prelude.{
   sum_by,
 }
 use Rattle.std.specs.List.{list_all, list_any}
-use Rattle.flat_graph.specs.declared.vertex.Vertex.{Vertex}
-use Rattle.schedule.specs.Acts.{Act}
+use Rattle.self_timed.specs.declared.Vertex.{Vertex}
+use Rattle.self_timed.specs.Acts.{Act}
 use Rattle.self_timed.specs.Dates.{start_by, with_act}
 use Rattle.self_timed.specs.Entries.{stated}
 use Rattle.rates.specs.Arcs.{Arc, arcs}

@@ -4,10 +4,15 @@ use Rattle.std.specs.Prelude.{slice_index}
 use Rattle.std.specs.List.{All, range_with_len}
 use Rattle.std.proofs.lemmas.List.Elements.{All-contains, All-head, All-tail}
 use Rattle.std.proofs.lemmas.List.FromFn.{fill_by_all, get_or-map-range_with_len, length-map-range_with_len}
-use Rattle.reference_graph.specs.Links.{Links, from, greatest, depth_within, numbers}
+use Rattle.reference_graph.specs.Links.{Links, from, depth_within, numbers}
 use Rattle.reference_graph.specs.Answer.{AreInside}
-use Rattle.reference_graph.specs.Settled.{depths_within, depth_by}
+use Rattle.reference_graph.specs.Settled.{depth_by}
 use Rattle.reference_graph.proofs.SettledDepths.{same_greatest, greatest_below}
+use Rattle.syn_base.specs.Numbers.{greatest}
+
+-- How deep references go below each vertex, followed so often.
+abbrev pub depths_within : Links → ℕ → List ℕ
+depths_within links n = map (depth_within links n) (numbers links)
 
 -- one round more
 pub deeper_within : (g : Links) → AreInside g → (n a : ℕ) → a < length g → depth_by g (depths_within g n) a ≡ depth_within g (n + 1) a

@@ -9,10 +9,11 @@ use Rattle.std.proofs.Math.ListN.{get_or-eq_default}
 use Rattle.std.proofs.lemmas.List.Elements.{All-contains}
 use Rattle.std.proofs.lemmas.List.FromFn.{get_or-range_with_len, length-range_with_len}
 use Rattle.std.proofs.lemmas.List.Sums.{fails_before_first}
-use Rattle.reference_graph.specs.Links.{Links, from, leads_within, reaches_itself, first_recursive, greatest, depth, depth_within}
+use Rattle.reference_graph.specs.Links.{Links, from, leads_within, reaches_itself, first_recursive, depth, depth_within}
 use Rattle.reference_graph.specs.Answer.{AreInside, Refers}
 use Rattle.reference_graph.proofs.Paths.{longer_to, longer_up, or_left, or_right, passes, refers_within}
 use Rattle.reference_graph.proofs.SettledDepths.{same_greatest}
+use Rattle.syn_base.specs.Numbers.{greatest}
 
 -- ---- how many numbers below another pass
 

@@ -6,10 +6,11 @@ use Rattle.std.proofs.Math.Dec.{eqb}
 use Rattle.std.proofs.lemmas.Bool.{eqb-true, eqb-false}
 use Rattle.std.proofs.lemmas.List.Elements.{Contains-get_or, Contains-append_right}
 use Rattle.std.proofs.lemmas.List.FromFn.{fill_by_all}
-use Rattle.reference_graph.specs.Links.{Links, from, greatest, depth_within, depth, depths, reaches_itself, first_recursive}
+use Rattle.reference_graph.specs.Links.{Links, from, depth_within, depth, depths, reaches_itself, first_recursive}
 use Rattle.reference_graph.specs.Answer.{Refers}
 use Rattle.reference_graph.specs.Settled.{IsSettled}
 use Rattle.reference_graph.proofs.Paths.{no_return, none_is}
+use Rattle.syn_base.specs.Numbers.{greatest}
 
 -- ---- the greatest
 

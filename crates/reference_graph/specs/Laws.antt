@@ -1,7 +1,8 @@
 -- That paths and depths are followed far enough.
 use Rattle.std.specs.Prelude.{◌≡◌, ℕ, ◌<◌, suc, true, length, map, None}
-use Rattle.reference_graph.specs.Links.{Links, from, leads_within, first_recursive, greatest, depth}
+use Rattle.reference_graph.specs.Links.{Links, from, leads_within, first_recursive, depth}
 use Rattle.reference_graph.specs.Answer.{AreInside}
+use Rattle.syn_base.specs.Numbers.{greatest}
 
 -- Longer paths lead nowhere else.
 abbrev pub LinksAreEnough : Links → Type 0

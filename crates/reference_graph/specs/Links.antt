@@ -1,22 +1,7 @@
 -- Vertices by number, each with the numbers of those that it refers to: which reach themselves, and how deep each is.
-use Rattle.std.specs.Prelude.{
-  ℕ,
-  zero,
-  suc,
-  max,
-  Bool,
-  ◌||◌,
-  ◌==◌,
-  List,
-  [],
-  ◌∷◌,
-  length,
-  map,
-  Option,
-  slice_index_or,
-  position,
-}
+use Rattle.std.specs.Prelude.{ℕ, zero, suc, Bool, ◌||◌, ◌==◌, List, [], length, map, Option, slice_index_or, position}
 use Rattle.std.specs.List.{list_any, range_with_len}
+use Rattle.syn_base.specs.Numbers.{greatest}
 
 -- For each vertex, by number from 0, the numbers of the vertices to which it refers.
 abbrev pub Links : Type 0
@@ -42,11 +27,6 @@ numbers links = range_with_len 0 (length links)
 -- The first vertex that reaches itself.
 abbrev pub first_recursive : Links → Option ℕ
 first_recursive links = position (reaches_itself links) (numbers links)
-
--- The greatest of these numbers, 0 if there are none.
-abbrev pub greatest : List ℕ → ℕ
-greatest [] = 0
-greatest (n ∷ ns) = max n (greatest ns)
 
 -- How deep references go below a vertex, followed so often.
 abbrev pub depth_within : Links → ℕ → ℕ → ℕ

@@ -1,7 +1,8 @@
 -- Tables of depths: those that are settled one by one, and those that are followed in rounds.
 use Rattle.std.specs.Prelude.{◌≡◌, ℕ, ◌+◌, ◌<◌, ◌≤◌, List, map, slice_index}
-use Rattle.reference_graph.specs.Links.{Links, from, greatest, depth_within, numbers}
+use Rattle.reference_graph.specs.Links.{Links, from}
 use Rattle.reference_graph.specs.Answer.{Refers}
+use Rattle.syn_base.specs.Numbers.{greatest}
 
 -- The depth of a vertex by these depths of the others: one more than that of the deepest reference.
 abbrev pub depth_by : Links → List ℕ → ℕ → ℕ
@@ -13,7 +14,3 @@ pub record IsSettled (links : Links) (depths : List ℕ) (bound : ℕ) : Type 0 
   pub deeper : (a : ℕ) → 0 < slice_index depths a → slice_index depths a ≡ depth_by links depths a
   pub closed : (a b : ℕ) → 0 < slice_index depths a → Refers links a b → 0 < slice_index depths b
   pub bounded : (a : ℕ) → slice_index depths a ≤ bound
-
--- How deep references go below each vertex, followed so often.
-abbrev pub depths_within : Links → ℕ → List ℕ
-depths_within links n = map (depth_within links n) (numbers links)

@@ -2,9 +2,9 @@
 ghost use Rattle.std.specs.Prelude.{◌≡◌, ◌+◌, ◌<◌, ◌≤◌, ℕ, length, map, replicate, slice_index, IsTrue, IfOk, Contains};
 ghost use Rattle.std.specs.List.{All};
 ghost use Rattle.syn_base.specs.Limits.{most_in_text};
-ghost use Rattle.reference_graph.specs.Links.{greatest};
 ghost use Rattle.reference_graph.specs.Answer.{AreInside};
 ghost use Rattle.reference_graph.specs.Settled.{IsSettled, depth_by};
+ghost use Rattle.syn_base.specs.Numbers.{greatest};
 
 use crate::links::references;
 use std::alloc::Global;

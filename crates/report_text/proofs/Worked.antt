@@ -2,11 +2,11 @@
 use Rattle.std.proofs.Common.{◌≡◌, ℕ, List, [], ◌∷◌, Option, None, Some, false, refl, codes}
 use Rattle.std.specs.Fmt.{digits}
 use Rattle.syn_base.specs.Bytes.{Bytes}
-use Rattle.flat_graph.specs.declared.vertex.Vertex.{Vertex}
-use Rattle.flat_graph.specs.declared.vertex.Kind.TheVariants.{Sensor, Actuator}
-use Rattle.archi_graph.specs.Archi.{Architecture}
-use Rattle.schedule.proofs.Examples.{archi, medium, source, vertex}
 use Rattle.timing_chart.specs.Chart.{line_text, text_of}
+use Rattle.self_timed.specs.declared.Vertex.{Vertex}
+use Rattle.self_timed.specs.declared.Kind.TheVariants.{Sensor, Actuator}
+use Rattle.self_timed.specs.Archi.{Architecture}
+use Rattle.self_timed.proofs.Examples.{archi, medium, source, vertex}
 use Rattle.self_timed.specs.declared.period.Period.{Period}
 use Rattle.self_timed.specs.declared.latency.Latency.{Latency}
 use Rattle.lower_bound.specs.declared.links.Link.{Link}

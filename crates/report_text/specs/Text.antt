@@ -9,7 +9,6 @@ use Rattle.std.specs.Prelude.{
   ◌∷◌,
   ◌++◌,
   map,
-  min,
   Option,
   Some,
   None,
@@ -20,10 +19,12 @@ use Rattle.std.specs.Prelude.{
 }
 use Rattle.std.specs.Fmt.{decimal}
 use Rattle.syn_base.specs.Bytes.{Bytes}
-use Rattle.flat_graph.specs.declared.vertex.Vertex.{Vertex}
-use Rattle.archi_graph.specs.declared.medium.Medium.{Medium}
-use Rattle.archi_graph.specs.Archi.{Architecture}
-use Rattle.timing_chart.specs.Chart.{Line, operation_name, operator_name, text_of}
+use Rattle.timing_chart.specs.Chart.{Line, text_of}
+use Rattle.self_timed.specs.declared.Vertex.{Vertex}
+use Rattle.self_timed.specs.declared.Medium.{Medium}
+use Rattle.self_timed.specs.Archi.{Architecture, operator_name}
+use Rattle.self_timed.specs.Windows.{lesser_date}
+use Rattle.self_timed.specs.Graph.{operation_name}
 use Rattle.self_timed.specs.declared.period.Period.{Period}
 use Rattle.self_timed.specs.declared.latency.Latency.{Latency}
 use Rattle.lower_bound.specs.declared.links.Link.{Link}
@@ -91,16 +92,11 @@ reaction_lines a r t =
     (load_lines (codes "medium") (map (λ m. m.name) a.media) r.media ++
     transfers_line t ∷ alone_lines a.operators r.alone))
 
--- the less of a time and the best one before it, if there is one
-abbrev pub sooner : Option ℕ → ℕ → ℕ
-sooner None t = t
-sooner (Some best) t = min best t
-
 -- the least time of operators where all operations may stand, with the best one before them
 abbrev pub best_from : Option ℕ → List (Option Alone) → Option ℕ
 best_from best [] = best
 best_from best (None ∷ xs) = best_from best xs
-best_from best (Some x ∷ xs) = best_from (Some (sooner best x.time)) xs
+best_from best (Some x ∷ xs) = best_from (Some (lesser_date best x.time)) xs
 
 -- The least time that all operations take one after another on one operator, among the operators on
 -- which all of them may stand, and None if there is no such operator.
@@ -137,7 +133,7 @@ line_word (busy_line.Medium m) = codes "medium"
 -- The name of an operator or a medium, and the empty text if the architecture has none of this
 -- number.
 abbrev pub line_name : Architecture → busy.Line → Bytes
-line_name a (busy_line.Operator o) = operator_name [] a.operators o
+line_name a (busy_line.Operator o) = operator_name a.operators o
 line_name a (busy_line.Medium m) = medium_name a.media m
 
 -- busiest WORD NAME share RATIO
@@ -152,7 +148,7 @@ busiest_line a b = share_line (line_word b.line) (line_name a b.line) b.share
 module _ (vertices : List Vertex) where
   -- The name of operation v, and the empty text if there is no operation v.
   abbrev pub name_of : ℕ → Bytes
-  name_of v = operation_name vertices [] v
+  name_of v = operation_name vertices v
 
   -- latency SENSOR ACTUATOR TICKS
   abbrev pub latency_line : Latency → Line

@@ -1,7 +1,8 @@
 //! The lines of a report on what a schedule that was searched stands beside.
 ghost use Rattle.std.specs.Prelude.{◌≡◌, ◌++◌, ◌∷◌, [], OnOk};
 ghost use Rattle.timing_chart.specs.Chart.{line_text, text_of};
-ghost use Rattle.report_text.specs.Text.{beside_lines, best_alone, best_from, best_lines, run_line, sooner};
+ghost use Rattle.report_text.specs.Text.{beside_lines, best_alone, best_from, best_lines, run_line};
+ghost use Rattle.self_timed.specs.Windows.{lesser_date};
 
 use crate::figures::Pace;
 use crate::line::{append_number, append_period_word};
@@ -69,7 +70,7 @@ fn better(best: Option<u64>, entry: Option<Alone>) -> Option<u64>
 
 /// The less of a time and the best one before it, if there is one.
 fn sooner(best: Option<u64>, time: u64) -> u64
-    ensures { result ≡ sooner best time }
+    ensures { result ≡ lesser_date best time }
 {
     match best {
         Some(least) => least.min(time),

@@ -5,8 +5,8 @@ ghost use Rattle.report_text.specs.Text.{bound_line, bound_lines, chain_line};
 
 use crate::figures::Figures;
 use crate::line::{append_end, append_ratio, name_of};
-use flat_graph::Vertex;
 use lower_bound::{Link, Ratio};
+use self_timed::Vertex;
 use syn_base::{OutOfMemory, append, append_count};
 
 /// Appends the bound, and the operations of a longest chain.

@@ -14,9 +14,8 @@ ghost use Rattle.report_text.specs.Text.{
   transfers_line,
 };
 
-use flat_graph::Vertex;
 use lower_bound::{Alone, Load, Ratio, Transfers, ratio_of};
-use self_timed::Period;
+use self_timed::{Period, Vertex};
 use syn_base::{OutOfMemory, append, append_count};
 
 /// Appends a line of a word and a number.

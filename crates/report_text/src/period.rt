@@ -1,6 +1,6 @@
 //! The lines of a report on many reactions.
 ghost use Rattle.std.specs.Prelude.{◌≡◌, ◌++◌, ◌∷◌, [], OnOk, map};
-ghost use Rattle.timing_chart.specs.Chart.{line_text, operator_name, text_of};
+ghost use Rattle.timing_chart.specs.Chart.{line_text, text_of};
 ghost use Rattle.report_text.specs.Text.{
   busiest_line,
   latency_line,
@@ -10,13 +10,12 @@ ghost use Rattle.report_text.specs.Text.{
   period_line,
   period_lines,
 };
+ghost use Rattle.self_timed.specs.Archi.{operator_name};
 
 use crate::figures::Figures;
 use crate::line::{append_end, append_period_word, append_share, name_of};
-use archi_graph::{Archi, Medium};
-use flat_graph::Vertex;
 use lower_bound::{Busiest, Line};
-use self_timed::{Latency, Period};
+use self_timed::{Archi, Latency, Medium, Period, Vertex};
 use syn_base::{Name, OutOfMemory, append};
 
 /// Appends the period, the operator or medium that is busiest in it, and the latency from each sensor to
@@ -75,7 +74,7 @@ fn line_name(archi: &Archi, line: Line) -> &[u8]
 
 /// The name of an operator, empty where there is none of this number.
 fn operator_name(operators: &[Name], operator: u32) -> &[u8]
-    ensures { result.now ≡ operator_name [] operators.now operator }
+    ensures { result.now ≡ operator_name operators.now operator }
 {
     let operator = operator as usize;
     if operator < operators.len() {

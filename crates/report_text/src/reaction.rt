@@ -4,8 +4,8 @@ ghost use Rattle.timing_chart.specs.Chart.{text_of};
 ghost use Rattle.report_text.specs.Text.{alone_lines, load_lines, reaction_lines};
 
 use crate::line::{append_alone, append_load, append_number, append_transfers};
-use archi_graph::{Archi, Medium};
 use lower_bound::{Alone, Load, Report, Transfers};
+use self_timed::{Archi, Medium};
 use syn_base::{Name, OutOfMemory};
 
 /// Appends the length, how busy each operator and each medium is, the transfers, and the time of each

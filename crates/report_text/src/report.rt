@@ -7,8 +7,7 @@ use crate::bound::append_bound;
 use crate::figures::Figures;
 use crate::period::append_many;
 use crate::reaction::append_reaction;
-use archi_graph::Archi;
-use flat_graph::{Flat, Vertex};
+use self_timed::{Archi, Flat, Vertex};
 use std::alloc::Global;
 use syn_base::OutOfMemory;
 

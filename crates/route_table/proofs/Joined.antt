@@ -7,7 +7,7 @@ use Rattle.std.proofs.lemmas.List.FromFn.{get_or-range_with_len, length-range_wi
 use Rattle.std.proofs.lemmas.List.Sums.{AllPass-from_list_all}
 use Rattle.archi_graph.specs.declared.medium.Medium.{Medium}
 use Rattle.archi_graph.specs.declared.medium.Hop.{Hop}
-use Rattle.archi_graph.specs.Archi.{Architecture, reached_within, stands_at, stands_in_all, is_archi, is_medium, are_joined, are_bounded, are_distinct, names_of}
+use Rattle.archi_graph.specs.Archi.{Architecture, reached_within, stands_at, is_archi, is_medium, are_joined, are_bounded, are_distinct, names_of, connections_in}
 use Rattle.archi_graph.specs.Routes.{AreOperators, IsHop, IsRoute}
 use Rattle.archi_graph.proofs.Bounds.{operators_below}
 use Rattle.route_table.proofs.Picks.{some_with, stands_of}
@@ -94,7 +94,7 @@ facts a e =
     let outer = and_parts ((are_bounded a.operators a.media && list_all (is_medium n) a.media) && are_distinct (names_of a.operators a.media)) (are_joined n a.media) e in
     let inner = and_parts (are_bounded a.operators a.media && list_all (is_medium n) a.media) (are_distinct (names_of a.operators a.media)) outer.0 in
     let both = and_parts (are_bounded a.operators a.media) (list_all (is_medium n) a.media) inner.0 in
-    let stands = and_parts ((nat_le 1 n && nat_le n 16) && nat_le (length a.media) 16) (nat_le (stands_in_all a.media) 64) both.0 in
+    let stands = and_parts ((nat_le 1 n && nat_le n 16) && nat_le (length a.media) 16) (nat_le (connections_in a.media) 64) both.0 in
     let sizes = and_parts (nat_le 1 n && nat_le n 16) (nat_le (length a.media) 16) stands.0 in
     let bounds = and_parts (nat_le 1 n) (nat_le n 16) sizes.0 in
     record { few = leb-true n 16 bounds.1; few_media = leb-true (length a.media) 16 sizes.1; known = operators_below n n a.media (omega arith) both.1; joined = outer.1 }

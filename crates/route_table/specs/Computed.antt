@@ -65,7 +65,8 @@ or_no_hop (Some r) = r
 abbrev pub least_route : List Medium → ℕ → ℕ → ℕ → List Hop
 least_route media hops from to = or_no_hop (least_among (routes_within media hops from to))
 
--- Over operator 0 each two are joined by at most twice as many hops as there are operators.
+-- The least route from this operator to each operator, in their order. Twice as many hops as there
+-- are operators are enough, since any two of them are joined by way of operator 0.
 abbrev pub routes_from : Architecture → ℕ → List (List Hop)
 routes_from a from = map (least_route a.media (2 * length a.operators) from) (range_with_len 0 (length a.operators))
 

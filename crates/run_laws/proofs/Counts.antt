@@ -1,6 +1,6 @@
 -- What is driven after jobs.
 use Rattle.std.proofs.Common.{◌≡◌, ℕ, ◌+◌, ◌≤◌, min, [], ◌∷◌, sum, refl, arith, ◌∙◌}
-use Rattle.phase_laws.specs.Ended.{full_counts}
+use Rattle.word_rule.specs.Ended.{full_counts}
 use Rattle.word_rule.specs.Driven.{last_number, driven_by}
 use Rattle.run_laws.specs.Drives.{NumbersRise, LastIsKept, steps_of_all}
 

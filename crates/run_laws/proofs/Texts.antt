@@ -2,10 +2,10 @@
 use Rattle.std.proofs.Common.{◌≡◌, ℕ, zero, suc, ◌+◌, ◌-◌, ◌*◌, ◌≤◌, List, [], ◌∷◌, ◌++◌, map, take, drop, length, refl, sym, ap, ap₂, arith, ◌∙◌, add-zero, zero-add, min, length-drop}
 use Rattle.std.specs.List.{range_with_len, flat_map}
 use Rattle.std.proofs.lemmas.List.{append_assoc, take_min}
-use Rattle.level_meaning.specs.Level.{Values}
 use Rattle.act_text.specs.Text.{reaction_text, text_from}
-use Rattle.phase_laws.specs.Windows.{window}
+use Rattle.word_rule.specs.Windows.{window}
 use Rattle.run_laws.specs.Windows.{window_bound, windows_in, starts, reactions_from, window_text, WindowsTellTheRun, WindowsAreFull, WindowsAreShort}
+use Rattle.level_meaning.specs.Vectors.{Values}
 
 -- the lines of at most 256 reactions from one on
 abbrev full_text : List (List ℕ) → List Values → ℕ → List ℕ

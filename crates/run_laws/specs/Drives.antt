@@ -1,9 +1,9 @@
 -- What jobs that are run to their ends leave of what is driven.
 use Rattle.std.specs.Prelude.{◌≡◌, ℕ, ◌+◌, ◌≤◌, List, [], ◌∷◌, ◌++◌, min, sum}
-use Rattle.semaphore_core.specs.Job.{JobData}
-use Rattle.semaphore_core.specs.Told.{told}
-use Rattle.phase_laws.specs.Ended.{full_counts}
 use Rattle.command_plan.specs.Stage.{after_jobs}
+use Rattle.word_rule.specs.Job.{JobData}
+use Rattle.word_rule.specs.Told.{told}
+use Rattle.word_rule.specs.Ended.{full_counts}
 use Rattle.word_rule.specs.Driven.{Driven, last_number, driven_by}
 use Rattle.word_rule.specs.Words.{words_of}
 

@@ -1,10 +1,10 @@
 -- A run in windows of 256 reactions: where each begins, its job, and its lines.
 use Rattle.std.specs.Prelude.{◌≡◌, ℕ, ◌+◌, ◌-◌, ◌*◌, ◌/◌, ◌<◌, ◌≤◌, min, List, map, length}
 use Rattle.std.specs.List.{range_with_len, flat_map}
-use Rattle.level_meaning.specs.Level.{Values}
-use Rattle.semaphore_core.specs.Job.{JobData, reactions}
-use Rattle.phase_laws.specs.Windows.{window, window_job}
 use Rattle.act_text.specs.Text.{text_from, output_text}
+use Rattle.level_meaning.specs.Vectors.{Values}
+use Rattle.word_rule.specs.Job.{JobData, reactions}
+use Rattle.word_rule.specs.Windows.{window, window_job}
 
 -- the most reactions of a window
 abbrev pub window_bound : ℕ

@@ -4,9 +4,9 @@ use Rattle.std.specs.Prelude.{nat_eq, nat_le, nat_lt, slice_get}
 use Rattle.std.specs.List.{list_all, list_any}
 use Rattle.std.proofs.lemmas.Bool.{false≢true, and_parts, or_cases, leb-true, ltb-true, eqb-true}
 use Rattle.std.proofs.lemmas.Option.{same_Some}
-use Rattle.archi_graph.specs.declared.medium.Medium.{Medium}
-use Rattle.archi_graph.specs.Archi.{Architecture, are_bounded, are_distinct, are_joined, is_archi, is_medium, names_of, stands_at, stands_in_all}
-use Rattle.archi_graph.proofs.Bounds.{stands_below}
+use Rattle.durations.specs.declared.Medium.{Medium}
+use Rattle.durations.specs.Archi.{Architecture, are_bounded, are_distinct, are_joined, is_archi, is_medium, names_of, stands_at, connections_in}
+use Rattle.durations.proofs.Bounds.{stands_below}
 
 module _ (a : Architecture) (valid : is_archi a.operators a.media ≡ true) where
   parts : (are_bounded a.operators a.media ≡ true) × (list_all (is_medium (length a.operators)) a.media ≡ true)
@@ -20,13 +20,13 @@ module _ (a : Architecture) (valid : is_archi a.operators a.media ≡ true) wher
 
   pub few_operators : length a.operators ≤ 16
   few_operators =
-      let p = and_parts (nat_le 1 (length a.operators) && nat_le (length a.operators) 16 && nat_le (length a.media) 16) (nat_le (stands_in_all a.media) 64) parts.0 in
+      let p = and_parts (nat_le 1 (length a.operators) && nat_le (length a.operators) 16 && nat_le (length a.media) 16) (nat_le (connections_in a.media) 64) parts.0 in
       let q = and_parts (nat_le 1 (length a.operators) && nat_le (length a.operators) 16) (nat_le (length a.media) 16) p.0 in
       leb-true (length a.operators) 16 (and_parts (nat_le 1 (length a.operators)) (nat_le (length a.operators) 16) q.0).1
 
   pub few_media : length a.media ≤ 16
   few_media =
-      let p = and_parts (nat_le 1 (length a.operators) && nat_le (length a.operators) 16 && nat_le (length a.media) 16) (nat_le (stands_in_all a.media) 64) parts.0 in
+      let p = and_parts (nat_le 1 (length a.operators) && nat_le (length a.operators) 16 && nat_le (length a.media) 16) (nat_le (connections_in a.media) 64) parts.0 in
       leb-true (length a.media) 16 (and_parts (nat_le 1 (length a.operators) && nat_le (length a.operators) 16) (nat_le (length a.media) 16) p.0).1
 
   -- at a medium stand operators that are there

@@ -5,12 +5,12 @@ use Rattle.std.specs.List.{list_any, list_all, range_with_len}
 use Rattle.std.specs.Cmp.Derive.{both_true}
 use Rattle.std.proofs.lemmas.Bool.{false≢true, and_parts, or_cases, or_left, or_right, le-leb, lt-ltb, ltb-true}
 use Rattle.std.proofs.lemmas.List.Folds.{list_any-append}
-use Rattle.flat_graph.specs.declared.vertex.Source.{Source}
-use Rattle.flat_graph.specs.declared.vertex.Vertex.{Vertex}
-use Rattle.flat_graph.specs.Graph.{Graph, with_vertex, len_of}
-use Rattle.flat_graph.specs.Valid.{is_flat}
-use Rattle.archi_graph.specs.declared.medium.Medium.{Medium}
-use Rattle.archi_graph.specs.Archi.{Architecture, is_archi, stands_at}
+use Rattle.durations.specs.declared.Source.{Source}
+use Rattle.durations.specs.declared.Vertex.{Vertex}
+use Rattle.durations.specs.Graph.{Graph, with_vertex, len_of}
+use Rattle.durations.specs.FlatValid.{is_flat}
+use Rattle.durations.specs.declared.Medium.{Medium}
+use Rattle.durations.specs.Archi.{Architecture, is_archi, stands_at}
 use Rattle.schedule.specs.declared.decision.Transfer.{Transfer}
 use Rattle.schedule.specs.Acts.{Act, carry, run, start_of, end_of, is_over, is_on, runs, Copy, copy, same_copy, outputs_of, sources_of, read_by, made_by}
 use Rattle.schedule.specs.Valid.{have_ended, lasts, is_carried, follows_get, is_held, is_there, is_transfer, is_placement, is_act, is_right, are_right, are_placed}

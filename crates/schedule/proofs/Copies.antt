@@ -4,12 +4,12 @@ use Rattle.std.specs.Prelude.{slice_get, slice_index_or, nat_le}
 use Rattle.std.specs.List.{list_any, list_all}
 use Rattle.std.specs.Cmp.Derive.{both_true}
 use Rattle.std.proofs.lemmas.Bool.{false≢true, and_parts, or_cases, le-leb, leb-true, eqb-true}
-use Rattle.flat_graph.specs.declared.vertex.Source.{Source}
-use Rattle.flat_graph.specs.declared.vertex.Guard.{Guard}
-use Rattle.flat_graph.specs.declared.vertex.Vertex.{Vertex}
-use Rattle.flat_graph.specs.Graph.{Graph, with_vertex, len_of, lens_of}
-use Rattle.flat_graph.specs.Valid.{is_flat, is_len, is_path, is_guard, fits, has_twin}
-use Rattle.flat_graph.proofs.Facts.{vertex_valid}
+use Rattle.durations.specs.declared.Source.{Source}
+use Rattle.durations.specs.declared.Guard.{Guard}
+use Rattle.durations.specs.declared.Vertex.{Vertex}
+use Rattle.durations.specs.Graph.{Graph, with_vertex, len_of, lens_of}
+use Rattle.durations.specs.FlatValid.{is_flat, is_len, is_path, is_guard, fits, has_twin}
+use Rattle.durations.proofs.Facts.{vertex_valid}
 use Rattle.schedule.specs.Acts.{Copy, copy, same_copy, outputs_from, sources_of}
 
 pub same_bool : (a b : Bool) → (a ≡ true → b ≡ true) → (b ≡ true → a ≡ true) → a ≡ b

@@ -3,10 +3,10 @@ use Rattle.std.proofs.Common.{◌≡◌, ◌+◌, ◌/◌, ◌≤◌, Bool, true
 use Rattle.std.specs.Prelude.{IsTrue, nat_le}
 use Rattle.std.proofs.lemmas.Bool.{and_parts, leb-true}
 use Rattle.std.specs.List.{list_all, range_with_len}
-use Rattle.flat_graph.specs.Graph.{Graph}
-use Rattle.flat_graph.specs.Order.{is_acyclic}
-use Rattle.flat_graph.specs.Valid.{is_flat, is_vertex, all_from, are_named_apart, sensors_from, actuators_from, kinds_of}
-use Rattle.archi_graph.specs.Archi.{Architecture, is_archi}
+use Rattle.durations.specs.Graph.{Graph}
+use Rattle.durations.specs.FlatOrder.{is_acyclic}
+use Rattle.durations.specs.FlatValid.{is_flat, is_vertex, all_from, are_named_apart, sensors_from, actuators_from, kinds_of}
+use Rattle.durations.specs.Archi.{Architecture, is_archi}
 use Rattle.durations.specs.Table.{Table, entry_in}
 use Rattle.schedule.specs.declared.decision.Decision.{Decision}
 use Rattle.schedule.specs.declared.decision.Schedule.{Schedule}

@@ -1,16 +1,16 @@
 -- Worked schedules that further rows are computed on: one operator; two operators on a bus; a relay over two media; two transfers over a medium of four operators; a speed controller.
 use Rattle.std.proofs.Common.{ℕ, Bool, true, false, List, [], ◌∷◌, Option, Some, None, pos, ℤ}
 use Rattle.std.specs.Prelude.{slice_index_or}
-use Rattle.flat_graph.specs.declared.vertex.Source.{Source}
-use Rattle.flat_graph.specs.declared.vertex.Vertex.{Vertex}
-use Rattle.flat_graph.specs.declared.vertex.Kind.{Kind}
-use Rattle.flat_graph.specs.declared.vertex.Guard.{Guard}
-use Rattle.flat_graph.specs.declared.vertex.Kind.TheVariants.{Sensor, Actuator, Function, Get, Set, Merge}
 use Rattle.syn_base.specs.declared.arithmetic.Op.TheVariants.{Add}
-use Rattle.body_lang.specs.Expr.{literal, element, index, apply}
-use Rattle.flat_graph.specs.Graph.{Graph}
-use Rattle.archi_graph.specs.declared.medium.Medium.{Medium}
-use Rattle.archi_graph.specs.Archi.{Architecture}
+use Rattle.durations.specs.declared.Source.{Source}
+use Rattle.durations.specs.declared.Vertex.{Vertex}
+use Rattle.durations.specs.declared.Kind.{Kind}
+use Rattle.durations.specs.declared.Guard.{Guard}
+use Rattle.durations.specs.declared.Kind.TheVariants.{Sensor, Actuator, Function, Get, Set, Merge}
+use Rattle.durations.specs.Expr.{literal, element, index, apply}
+use Rattle.durations.specs.Graph.{Graph}
+use Rattle.durations.specs.declared.Medium.{Medium}
+use Rattle.durations.specs.Archi.{Architecture}
 use Rattle.schedule.specs.declared.decision.Transfer.{Transfer}
 use Rattle.schedule.specs.declared.decision.Decision.{Decision}
 use Rattle.schedule.specs.declared.decision.Schedule.{Schedule}

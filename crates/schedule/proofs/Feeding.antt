@@ -6,7 +6,7 @@ use Rattle.std.proofs.lemmas.Bool.{false≢true, and_parts, or_cases, le-leb, le
 use Rattle.std.proofs.lemmas.List.{get_or-set_same, get_or-set_other, length-set}
 use Rattle.std.proofs.lemmas.List.Folds.{list_any-append}
 use Rattle.std.proofs.Math.Bool.{and-true, and-false, or-false}
-use Rattle.flat_graph.specs.declared.vertex.Vertex.{Vertex}
+use Rattle.durations.specs.declared.Vertex.{Vertex}
 use Rattle.schedule.specs.Acts.{Act, carry, run, start_of, end_of, Copy, copy, same_copy, read_by, made_by}
 use Rattle.schedule.specs.Windows.{covers, place, since, is_by, lesser_date, noted, noted_all, held_by, is_made, are_fed, fed_after, is_fresh, brings_new, is_in_time}
 use Rattle.schedule.specs.declared.window.Window.{Window}

@@ -11,3 +11,15 @@ pub mod Starts
 pub mod Tight
 pub mod Worked
 pub mod Examples
+-- Lemmas from below, which proofs above cite with those of this crate.
+pub use Rattle.durations.proofs.Bounds
+pub use Rattle.durations.proofs.Entries
+pub use Rattle.durations.proofs.Facts
+pub use Rattle.durations.proofs.Few
+pub use Rattle.durations.proofs.Fitted
+pub use Rattle.durations.proofs.Kept
+pub use Rattle.durations.proofs.KindLens
+pub use Rattle.durations.proofs.Least
+pub use Rattle.durations.proofs.Rounds
+pub use Rattle.durations.proofs.SetHalves
+pub use Rattle.durations.proofs.Settled

@@ -1,8 +1,8 @@
 -- Acts in line: each may follow those before it, as far as its operator, its medium and its duration go.
 use Rattle.std.proofs.Common.{ℕ, Bool, true, ◌&&◌, List, [], ◌∷◌, ◌++◌, Option}
 use Rattle.std.specs.Prelude.{slice_get, nat_le}
-use Rattle.flat_graph.specs.Graph.{Graph, len_of}
-use Rattle.archi_graph.specs.Archi.{Architecture}
+use Rattle.durations.specs.Graph.{Graph, len_of}
+use Rattle.durations.specs.Archi.{Architecture}
 use Rattle.schedule.specs.Acts.{Act, carry, run, is_over}
 use Rattle.schedule.specs.Valid.{have_ended, is_carried, is_placement}
 

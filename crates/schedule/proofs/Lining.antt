@@ -7,13 +7,13 @@ use Rattle.std.proofs.lemmas.Bool.{false≢true, and_parts, le-leb, leb-true, lt
 use Rattle.std.proofs.lemmas.List.{append-nil, append_assoc, get_or-set_same, get_or-set_other, length-set}
 use Rattle.std.proofs.lemmas.List.Folds.{list_any-append, list_all-append}
 use Rattle.std.proofs.Math.Bool.{and-true, or-false}
-use Rattle.flat_graph.specs.declared.vertex.Kind.{Kind}
-use Rattle.flat_graph.specs.declared.vertex.Kind.TheVariants.{Set}
-use Rattle.flat_graph.specs.declared.vertex.Vertex.{Vertex}
-use Rattle.flat_graph.specs.Graph.{Graph, with_vertex, len_of}
-use Rattle.flat_graph.specs.Valid.{names}
-use Rattle.archi_graph.specs.declared.medium.Medium.{Medium}
-use Rattle.archi_graph.specs.Archi.{Architecture, stands_at}
+use Rattle.durations.specs.declared.Kind.{Kind}
+use Rattle.durations.specs.declared.Kind.TheVariants.{Set}
+use Rattle.durations.specs.declared.Vertex.{Vertex}
+use Rattle.durations.specs.Graph.{Graph, with_vertex, len_of}
+use Rattle.durations.specs.declared.Medium.{Medium}
+use Rattle.durations.specs.Archi.{Architecture, stands_at}
+use Rattle.durations.specs.FlatValid.{is_number}
 use Rattle.durations.specs.Table.{Table, entry_in}
 use Rattle.schedule.specs.declared.decision.Transfer.{Transfer}
 use Rattle.schedule.specs.declared.decision.Decision.{Decision}
@@ -64,7 +64,7 @@ module _ (s : Setting) (g : Graph) (a : Architecture) (table : Table)
   pub record Told (l : Lines) (before : List Act) : Type 0 where
     pub sizes : HasPlaces l
     pub placed : (v : ℕ) → is_some (slice_index_or l.places v None) ≡ list_any (runs v) before
-    pub on : (v o : ℕ) → names (slice_index_or l.places v None) o ≡ list_any (λ y. runs v y && is_on o y) before
+    pub on : (v o : ℕ) → is_number (slice_index_or l.places v None) o ≡ list_any (λ y. runs v y && is_on o y) before
     pub busy : (o date : ℕ) → nat_le (slice_index_or l.busy o 0) date ≡ have_ended (is_on o) before date
     pub ends : (m date : ℕ) → nat_le (slice_index_or l.ends m 0) date ≡ have_ended (is_over m) before date
 
@@ -72,7 +72,7 @@ module _ (s : Setting) (g : Graph) (a : Architecture) (table : Table)
   told_at_start l start = record {
     sizes = start.sizes;
     placed = λ v. ap is_some (start.places v);
-    on = λ v o. ap (λ (p : Option ℕ). names p o) (start.places v);
+    on = λ v o. ap (λ (p : Option ℕ). is_number p o) (start.places v);
     busy = λ o date. ap (λ (n : ℕ). nat_le n date) (start.busy o) ∙ le-leb 0 date (omega arith);
     ends = λ m date. ap (λ (n : ℕ). nat_le n date) (start.ends m) ∙ le-leb 0 date (omega arith);
   }
@@ -168,7 +168,7 @@ module _ (s : Setting) (g : Graph) (a : Architecture) (table : Table)
       by (x ∷ xs) zero h = ((omega arith), (and_parts (follows l d.operator x.kind x.twin) (runs_in_time s l d) h).1)
       by (x ∷ xs) (suc v) h = let r = by xs v h in ((let z = r.0 in omega arith), r.1)
 
-  no_name : (o : Option ℕ) (p : ℕ) → is_none o ≡ true → names o p ≡ false
+  no_name : (o : Option ℕ) (p : ℕ) → is_none o ≡ true → is_number o p ≡ false
   no_name None p h = refl
   no_name (Some n) p h = absurd (false≢true h)
 
@@ -183,7 +183,7 @@ module _ (s : Setting) (g : Graph) (a : Architecture) (table : Table)
       record {
         sizes = record { places = length-set l.places d.op (Some d.operator) ∙ sizes.places; busy = length-set l.busy d.operator d.end ∙ sizes.busy; ends = sizes.ends };
         placed = λ v. at_place is_some (runs v) v (t.placed v) (λ e. sym e) (λ e. e) (not_some (slice_index_or l.places d.op None) r.fresh) r;
-        on = λ v o. at_place (λ p. names p o) (λ y. runs v y && is_on o y) v (t.on v o) (λ e. ap (λ (b : Bool). b && nat_eq d.operator o) (sym e)) (λ e. ap (λ (b : Bool). b && nat_eq d.operator o) e) (no_name (slice_index_or l.places d.op None) o r.fresh) r;
+        on = λ v o. at_place (λ p. is_number p o) (λ y. runs v y && is_on o y) v (t.on v o) (λ e. ap (λ (b : Bool). b && nat_eq d.operator o) (sym e)) (λ e. ap (λ (b : Bool). b && nat_eq d.operator o) e) (no_name (slice_index_or l.places d.op None) o r.fresh) r;
         busy = λ o date. by o date (nat_eq d.operator o) refl r;
         ends = λ m date. t.ends m date ∙ sym (and-true (have_ended (is_over m) before date)) ∙ sym (ended_more (is_over m) before (run d) date);
       }

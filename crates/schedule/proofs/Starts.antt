@@ -4,8 +4,8 @@ use Rattle.std.specs.Prelude.{slice_index_or, slice_set, nat_le, nat_lt, is_some
 use Rattle.std.specs.List.{list_all}
 use Rattle.std.proofs.lemmas.Bool.{le-ltb, and_left, and_right}
 use Rattle.std.proofs.lemmas.List.Folds.{list_all-append, list_all-map}
-use Rattle.flat_graph.specs.declared.vertex.Guard.{Guard}
-use Rattle.flat_graph.specs.declared.vertex.Vertex.{Vertex}
+use Rattle.durations.specs.declared.Guard.{Guard}
+use Rattle.durations.specs.declared.Vertex.{Vertex}
 use Rattle.schedule.specs.declared.decision.Decision.{Decision}
 use Rattle.schedule.specs.declared.window.Window.{Window}
 use Rattle.schedule.specs.Acts.{Act, acts_of, carry, Copy, copy, latest, outputs_from, sources_of}

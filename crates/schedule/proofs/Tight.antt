@@ -5,7 +5,7 @@ use Rattle.std.specs.Cmp.Derive.{both_true}
 use Rattle.std.proofs.lemmas.Bool.{and_parts, eqb-true}
 use Rattle.std.proofs.lemmas.List.{append-nil, append_assoc}
 use Rattle.std.proofs.lemmas.Option.{same_Some}
-use Rattle.flat_graph.specs.declared.vertex.Vertex.{Vertex}
+use Rattle.durations.specs.declared.Vertex.{Vertex}
 use Rattle.schedule.specs.Acts.{Act, acts, start_of}
 use Rattle.schedule.specs.Tight.{earliest, are_tight, TightActByAct}
 

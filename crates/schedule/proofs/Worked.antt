@@ -1,12 +1,12 @@
 -- Validity and tightness computed on worked schedules: one that is valid and tight, and each condition broken alone.
 use Rattle.std.proofs.Common.{◌≡◌, ℕ, Bool, true, false, List, [], ◌∷◌, ◌++◌, Option, Some, None, refl, pos}
 use Rattle.std.specs.Prelude.{slice_index_or}
-use Rattle.flat_graph.specs.declared.vertex.Source.{Source}
-use Rattle.flat_graph.specs.declared.vertex.Vertex.{Vertex}
-use Rattle.flat_graph.specs.declared.vertex.Kind.{Kind}
-use Rattle.flat_graph.specs.declared.vertex.Kind.TheVariants.{Sensor, Function, Get, Set}
-use Rattle.flat_graph.specs.Graph.{Graph}
-use Rattle.archi_graph.specs.Archi.{Architecture}
+use Rattle.durations.specs.declared.Source.{Source}
+use Rattle.durations.specs.declared.Vertex.{Vertex}
+use Rattle.durations.specs.declared.Kind.{Kind}
+use Rattle.durations.specs.declared.Kind.TheVariants.{Sensor, Function, Get, Set}
+use Rattle.durations.specs.Graph.{Graph}
+use Rattle.durations.specs.Archi.{Architecture}
 use Rattle.schedule.specs.declared.decision.Transfer.{Transfer}
 use Rattle.schedule.specs.declared.decision.Decision.{Decision}
 use Rattle.schedule.specs.Acts.{length_of}

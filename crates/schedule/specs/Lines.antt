@@ -26,10 +26,10 @@ use Rattle.std.specs.Prelude.{
 use Rattle.std.specs.List.{list_all, range_with_len}
 use Rattle.syn_base.specs.Limits.{bound_of, most_operations}
 use Rattle.syn_base.specs.declared.limits.LimitKind.TheVariants.{Media, Operators}
-use Rattle.flat_graph.specs.declared.vertex.Kind.{Kind}
-use Rattle.flat_graph.specs.declared.vertex.Kind.TheVariants.{Set}
-use Rattle.flat_graph.specs.Graph.{with_vertex, len_of}
-use Rattle.flat_graph.specs.Valid.{names}
+use Rattle.durations.specs.declared.Kind.{Kind}
+use Rattle.durations.specs.declared.Kind.TheVariants.{Set}
+use Rattle.durations.specs.Graph.{with_vertex, len_of}
+use Rattle.durations.specs.FlatValid.{is_number}
 use Rattle.durations.specs.Table.{entry_in}
 use Rattle.schedule.specs.declared.decision.Transfer.{Transfer}
 use Rattle.schedule.specs.declared.decision.Decision.{Decision}
@@ -59,7 +59,7 @@ pub record IsStart (lines : Lines) : Type 0 where
 
 -- the get half runs on this operator, where the operation is the set half
 abbrev pub follows : Lines → ℕ → Kind → Option ℕ → Bool
-follows l o Set (Some u) = names (slice_index_or l.places u None) o
+follows l o Set (Some u) = is_number (slice_index_or l.places u None) o
 follows l o _ _ = true
 
 module _ (s : Setting) where

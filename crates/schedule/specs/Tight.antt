@@ -19,8 +19,8 @@ use Rattle.std.specs.Prelude.{
   take,
 }
 use Rattle.std.specs.List.{list_any, filter}
-use Rattle.flat_graph.specs.declared.vertex.Vertex.{Vertex}
-use Rattle.flat_graph.specs.Graph.{Graph}
+use Rattle.durations.specs.declared.Vertex.{Vertex}
+use Rattle.durations.specs.Graph.{Graph}
 use Rattle.schedule.specs.declared.decision.Schedule.{Schedule}
 use Rattle.schedule.specs.Acts.{
   Act,

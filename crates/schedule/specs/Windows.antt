@@ -28,7 +28,7 @@ use Rattle.std.specs.Prelude.{
   slice_set,
 }
 use Rattle.std.specs.List.{list_all, list_any}
-use Rattle.flat_graph.specs.declared.vertex.Vertex.{Vertex}
+use Rattle.durations.specs.declared.Vertex.{Vertex}
 use Rattle.schedule.specs.declared.window.Window.{Window}
 use Rattle.schedule.specs.Acts.{Act, carry, run, start_of, end_of, Copy, copy, same_copy, read_by, made_by}
 
@@ -65,6 +65,7 @@ is_in_time w date c = not (covers w.first c) || is_by (since w.first w.held c) d
 abbrev pub is_new : Window → Copy → Bool
 is_new w c = not (covers w.first c) || is_none (since w.first w.held c)
 
+-- The lesser of this date and another one, which there may be.
 abbrev pub lesser_date : Option ℕ → ℕ → ℕ
 lesser_date None date = date
 lesser_date (Some start) date = min start date

@@ -11,9 +11,7 @@ use crate::decision::{Decision, Schedule};
 use crate::line::Lines;
 use crate::setting::Setting;
 use crate::window::Window;
-use archi_graph::Archi;
-use durations::Durations;
-use flat_graph::{Flat, Vertex};
+use durations::{Archi, Durations, Flat, Vertex};
 
 /// Whether a schedule is valid for a flat graph on an architecture, by these durations of operations. Of
 /// each act counts what the acts before it have done: decision by decision its transfers, and then its

@@ -3,7 +3,7 @@
 ghost use Rattle.std.specs.Prelude.{◌≡◌, map};
 ghost use Rattle.schedule.specs.Acts.{acts_of, carry, latest, length_of};
 
-use flat_graph::Source;
+use durations::Source;
 use syn_base::Items;
 
 /// A value that is carried over a medium from one operator to another. Operators and media are

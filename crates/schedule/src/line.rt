@@ -4,16 +4,15 @@ ghost use Rattle.std.specs.Prelude.{◌≡◌, ℕ, ◌<◌, ◌≤◌, ◌==◌
 ghost use Rattle.std.specs.List.{list_all, range_with_len};
 ghost use Rattle.syn_base.specs.Limits.{bound_of, most_operations};
 ghost use Rattle.syn_base.specs.declared.limits.LimitKind.TheVariants.{Media, Operators};
-ghost use Rattle.flat_graph.specs.Valid.{names};
-ghost use Rattle.archi_graph.specs.Archi.{stands_at};
+ghost use Rattle.durations.specs.Archi.{stands_at};
+ghost use Rattle.durations.specs.FlatValid.{is_number};
 ghost use Rattle.schedule.specs.Acts.{Act, acts_of, carry, run};
 ghost use Rattle.schedule.specs.Valid.{is_carried, lasts};
 ghost use Rattle.schedule.specs.Lines.{IsSetting, IsStart, HasPlaces, are_in_line, are_all_placed, follows, may_carry, may_run, runs_in_time};
 
 use crate::decision::{Decision, Transfer};
 use crate::setting::Setting;
-use archi_graph::Medium;
-use flat_graph::{Kind, Source, Vertex, len_of};
+use durations::{Kind, Medium, Source, Vertex, len_of};
 
 /// The operator of each operation that is placed, by number.
 type Places = [Option<u32>; 2048];
@@ -190,7 +189,7 @@ impl Lines {
     /// Whether the operation is placed on this operator.
     fn stands_on(&self, op: u32, operator: u32) -> bool
         requires { HasPlaces self.now }
-        ensures { result ≡ names (slice_index_or self.now.places op None) operator }
+        ensures { result ≡ is_number (slice_index_or self.now.places op None) operator }
     {
         let op = op as usize;
         if op >= self.places.len() {

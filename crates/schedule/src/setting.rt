@@ -1,7 +1,5 @@
 //! The setting of a schedule: what its check is asked beside it.
-use archi_graph::Medium;
-use durations::Durations;
-use flat_graph::Vertex;
+use durations::{Durations, Medium, Vertex};
 
 /// The operations, how many operators there are, the media, and how long operations last.
 #[derive(Clone, Copy)]

@@ -2,12 +2,12 @@
 //! starts. `is_valid` checks one window after the other.
 ghost use Rattle.std.specs.Prelude.{◌≡◌, ℕ, ◌<◌, ◌+◌, ◌&&◌, ◌++◌, ◌∷◌, List, None, Some, IsTrue, true, length, map, slice_index_or};
 ghost use Rattle.std.specs.List.{list_all};
-ghost use Rattle.flat_graph.specs.declared.vertex.Vertex.{Vertex};
+ghost use Rattle.durations.specs.declared.Vertex.{Vertex};
 ghost use Rattle.schedule.specs.Acts.{Act, acts_of, carry, copy, outputs_from, run, sources_of};
 ghost use Rattle.schedule.specs.Windows.{IsEmpty, are_fed, covers, is_by, is_in_time, is_new, lesser_date, noted, noted_all, place, window_places};
 
 use crate::decision::{Decision, Transfer};
-use flat_graph::{Guard, Source, Vertex};
+use durations::{Guard, Source, Vertex};
 
 /// How many operations a table covers.
 const OPERATIONS: u32 = 16;

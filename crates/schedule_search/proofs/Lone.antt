@@ -8,25 +8,26 @@ use Rattle.std.proofs.lemmas.List.{append-nil, append_assoc}
 use Rattle.std.proofs.lemmas.List.Folds.{list_any-append}
 use Rattle.std.proofs.lemmas.List.Sums.{sum_by_push}
 use Rattle.std.proofs.Math.Nat.{le-max_left, le-max_right}
-use Rattle.flat_graph.specs.declared.vertex.Source.{Source}
-use Rattle.flat_graph.specs.Graph.{len_of}
-use Rattle.schedule.specs.declared.decision.Transfer.{Transfer}
-use Rattle.schedule.specs.declared.decision.Decision.{Decision}
-use Rattle.schedule.specs.Acts.{Act, carry, run, acts_of, end_of, is_on, latest, runs, copy}
-use Rattle.schedule.proofs.Behind.{acts-append}
-use Rattle.schedule.proofs.Lengths.{latest-append}
 use Rattle.comm_routing.specs.Task.{Task}
 use Rattle.comm_routing.specs.Given.{IsTask}
-use Rattle.comm_routing.specs.Placing.{arrival, decision, fetched, fetched_all, along, greatest, half_end, halves, held_from, holds, is_candidate, is_placed, last_end, makes, may_place, may_stand, needs, operator_of, sources, start, ticks_in, transfers}
+use Rattle.comm_routing.specs.Placing.{arrival, decision, fetched, fetched_all, along, half_end, halves, held_from, holds, is_candidate, is_placed, last_end, makes, may_place, may_stand, needs, operator_of, sources, start, ticks_in, transfers}
 use Rattle.comm_routing.proofs.Done.{any_more, held_where_made}
 use Rattle.comm_routing.proofs.Right.{candidate_given, is_given}
 use Rattle.pressure_heuristic.specs.Pressure.{operations}
 use Rattle.pressure_heuristic.proofs.Lists.{left, one_fewer}
 use Rattle.pressure_heuristic.proofs.Whole.{in_range}
+use Rattle.self_timed.specs.declared.Source.{Source}
+use Rattle.self_timed.specs.Graph.{len_of}
+use Rattle.self_timed.specs.declared.Transfer.{Transfer}
+use Rattle.self_timed.specs.declared.Decision.{Decision}
+use Rattle.self_timed.specs.Acts.{Act, carry, run, acts_of, end_of, is_on, latest, runs, copy}
+use Rattle.self_timed.proofs.Behind.{acts-append}
+use Rattle.self_timed.proofs.Lengths.{latest-append}
 use Rattle.self_timed.specs.Entries.{stated}
 use Rattle.schedule_search.specs.Found.{MayAllStand, time_alone}
 use Rattle.schedule_search.specs.Alone.{SoFar, time_left}
 use Rattle.schedule_search.proofs.Timed.{all_left, less_left}
+use Rattle.syn_base.specs.Numbers.{greatest}
 
 pub on_operator : (p : ℕ) (acts : List Act) (v : ℕ) → list_all (is_on p) acts ≡ true → is_placed acts v ≡ true → operator_of acts v ≡ p
 on_operator p [] v on h = absurd (false≢true h)

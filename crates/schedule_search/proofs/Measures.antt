@@ -5,15 +5,15 @@ use Rattle.std.specs.List.{list_all}
 use Rattle.std.proofs.lemmas.Bool.{and_parts, cases_lt, leb-true}
 use Rattle.std.proofs.lemmas.Option.{same_Some}
 use Rattle.syn_base.specs.declared.memory.OutOfMemory.{OutOfMemory}
-use Rattle.flat_graph.specs.Graph.{Graph}
-use Rattle.archi_graph.specs.Archi.{Architecture, is_depth}
-use Rattle.durations.specs.Table.{IsRow, Table}
-use Rattle.schedule.specs.declared.decision.Schedule.{Schedule}
-use Rattle.schedule.specs.Acts.{acts, is_on}
 use Rattle.comm_routing.specs.Task.{Task}
 use Rattle.pressure_heuristic.specs.Adequation.{IsRunOfAny}
 use Rattle.pressure_heuristic.specs.Pressure.{pressure_run}
 use Rattle.pressure_heuristic.specs.Tasks.{task}
+use Rattle.self_timed.specs.Graph.{Graph}
+use Rattle.self_timed.specs.Archi.{Architecture, is_depth}
+use Rattle.self_timed.specs.Table.{IsRow, Table}
+use Rattle.self_timed.specs.declared.Schedule.{Schedule}
+use Rattle.self_timed.specs.Acts.{acts, is_on}
 use Rattle.self_timed.specs.Entries.{stated}
 use Rattle.self_timed.specs.Told.{IsValidForSome}
 use Rattle.self_timed.specs.Period.{OneOperatorHasItsLengthAsPeriod}

@@ -3,7 +3,7 @@ use Rattle.std.proofs.Common.{◌≡◌, ℕ, zero, suc, ◌+◌, ◌<◌, ◌�
 use Rattle.std.specs.Prelude.{slice_get, sum}
 use Rattle.std.proofs.lemmas.Bool.{false≢true, true≢false}
 use Rattle.std.proofs.lemmas.Option.{same_Some}
-use Rattle.flat_graph.proofs.KindLens.{sum-cons}
+use Rattle.self_timed.proofs.KindLens.{sum-cons}
 use Rattle.schedule_search.specs.Alone.{time_left}
 
 pub all_left : (f : ℕ → ℕ) (test : ℕ → Bool) → ((x : ℕ) → test x ≡ false) → (xs : List ℕ) → time_left f test xs ≡ sum (map f xs)

@@ -6,13 +6,6 @@ use Rattle.std.proofs.lemmas.Bool.{false≢true, true≢false}
 use Rattle.std.proofs.lemmas.Option.{same_Some}
 use Rattle.std.proofs.lemmas.List.FromFn.{length-range_with_len}
 use Rattle.syn_base.specs.declared.memory.OutOfMemory.{OutOfMemory}
-use Rattle.flat_graph.specs.Valid.{is_flat}
-use Rattle.archi_graph.specs.Archi.{is_archi}
-use Rattle.durations.specs.Table.{IsRow, StandBeside}
-use Rattle.schedule.specs.declared.decision.Decision.{Decision}
-use Rattle.schedule.specs.declared.decision.Schedule.{Schedule}
-use Rattle.schedule.specs.Acts.{acts, acts_of, is_on, latest}
-use Rattle.schedule.specs.Valid.{is_valid}
 use Rattle.comm_routing.specs.Task.{Task}
 use Rattle.comm_routing.specs.Given.{IsTask}
 use Rattle.comm_routing.specs.Laws.{AreRight}
@@ -20,6 +13,13 @@ use Rattle.comm_routing.specs.Draft.{Drafted, after_placing, task_of}
 use Rattle.comm_routing.specs.Placing.{decision, is_candidate, is_placed, may_place, needs}
 use Rattle.comm_routing.proofs.Arrivals.{placed_rightly_behind}
 use Rattle.comm_routing.proofs.Sites.{site_of}
+use Rattle.self_timed.specs.FlatValid.{is_flat}
+use Rattle.self_timed.specs.Archi.{is_archi}
+use Rattle.self_timed.specs.Table.{IsRow, StandBeside}
+use Rattle.self_timed.specs.declared.Decision.{Decision}
+use Rattle.self_timed.specs.declared.Schedule.{Schedule}
+use Rattle.self_timed.specs.Acts.{acts, acts_of, is_on, latest}
+use Rattle.self_timed.specs.ScheduleValid.{is_valid}
 use Rattle.self_timed.specs.Entries.{stated}
 use Rattle.plan_costs.specs.declared.site.Site.{Site}
 use Rattle.pressure_heuristic.specs.Pressure.{operations}

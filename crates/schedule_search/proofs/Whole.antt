@@ -5,9 +5,6 @@ use Rattle.std.specs.List.{filter, list_all, range_with_len}
 use Rattle.std.specs.Cmp.Derive.{both_true}
 use Rattle.std.proofs.lemmas.Bool.{false≢true, and_parts, ltb-true}
 use Rattle.std.proofs.lemmas.Option.{same_Some}
-use Rattle.schedule.specs.declared.decision.Decision.{Decision}
-use Rattle.schedule.specs.Acts.{Act, acts_of}
-use Rattle.schedule.specs.Valid.{are_placed, is_valid}
 use Rattle.comm_routing.specs.Task.{Task}
 use Rattle.comm_routing.specs.Given.{IsTask}
 use Rattle.comm_routing.specs.Laws.{AreRight}
@@ -15,6 +12,9 @@ use Rattle.comm_routing.specs.Placing.{is_candidate, is_placed, needs}
 use Rattle.pressure_heuristic.specs.Pressure.{operations}
 use Rattle.pressure_heuristic.proofs.Lists.{all_or_not}
 use Rattle.pressure_heuristic.proofs.Whole.{chosen, in_range, never_stuck}
+use Rattle.self_timed.specs.declared.Decision.{Decision}
+use Rattle.self_timed.specs.Acts.{Act, acts_of}
+use Rattle.self_timed.specs.ScheduleValid.{are_placed, is_valid}
 use Rattle.schedule_search.specs.Drafts.{DraftsAreValid, IsDone}
 
 -- where none passes, none that stands there does

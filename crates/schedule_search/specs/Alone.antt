@@ -17,11 +17,11 @@ use Rattle.std.specs.Prelude.{
   sum_by,
 }
 use Rattle.std.specs.List.{list_all, range_with_len}
-use Rattle.schedule.specs.declared.decision.Decision.{Decision}
-use Rattle.schedule.specs.declared.decision.Schedule.{Schedule}
-use Rattle.schedule.specs.Acts.{acts, acts_of, is_on, latest, length_of}
 use Rattle.comm_routing.specs.Task.{Task}
 use Rattle.comm_routing.specs.Placing.{is_placed, ticks_in}
+use Rattle.self_timed.specs.declared.Decision.{Decision}
+use Rattle.self_timed.specs.declared.Schedule.{Schedule}
+use Rattle.self_timed.specs.Acts.{acts, acts_of, is_on, latest, length_of}
 use Rattle.self_timed.specs.Entries.{stated}
 use Rattle.plan_costs.specs.declared.site.Goal.{Goal}
 use Rattle.schedule_search.specs.Found.{MayAllStand, measure_alone, time_alone}

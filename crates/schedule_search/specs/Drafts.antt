@@ -1,19 +1,19 @@
 -- Drafts: those under way, and those in which nothing is left to place.
 use Rattle.std.specs.Prelude.{◌≡◌, IsTrue, List, [], length}
 use Rattle.std.specs.List.{filter, range_with_len}
-use Rattle.route_table.specs.Table.{IsTableOf}
-use Rattle.durations.specs.Fitting.{IsOf}
-use Rattle.schedule.specs.declared.decision.Decision.{Decision}
-use Rattle.schedule.specs.declared.decision.Schedule.{Schedule}
-use Rattle.schedule.specs.Acts.{acts_of}
-use Rattle.schedule.specs.Valid.{is_valid}
 use Rattle.comm_routing.specs.Task.{Task}
 use Rattle.comm_routing.specs.Given.{IsTask}
 use Rattle.comm_routing.specs.Laws.{AreRight}
 use Rattle.comm_routing.specs.Placing.{is_candidate}
 use Rattle.comm_routing.specs.Draft.{Drafted, task_of}
+use Rattle.pressure_heuristic.specs.Table.{IsTableOf}
 use Rattle.plan_costs.specs.declared.site.Goal.{Goal}
 use Rattle.plan_costs.specs.declared.site.Site.{Site}
+use Rattle.self_timed.specs.Fitting.{IsOf}
+use Rattle.self_timed.specs.declared.Decision.{Decision}
+use Rattle.self_timed.specs.declared.Schedule.{Schedule}
+use Rattle.self_timed.specs.Acts.{acts_of}
+use Rattle.self_timed.specs.ScheduleValid.{is_valid}
 use Rattle.schedule_search.specs.declared.measured.Measured.{Measured}
 use Rattle.schedule_search.specs.Found.{measure}
 

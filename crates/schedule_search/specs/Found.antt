@@ -1,14 +1,14 @@
 -- How long a schedule is that a search has found, and how fast its reactions follow each other, beside others.
 use Rattle.std.specs.Prelude.{ℕ, ◌*◌, ◌≤◌, ◌<◌, IsTrue, length, map, sum, Option, is_some}
 use Rattle.std.specs.List.{range_with_len}
-use Rattle.flat_graph.specs.Graph.{Graph}
-use Rattle.archi_graph.specs.Archi.{Architecture}
-use Rattle.route_table.specs.Table.{RouteTable, IsTableOf}
-use Rattle.durations.specs.Table.{Table}
-use Rattle.schedule.specs.declared.decision.Schedule.{Schedule}
-use Rattle.schedule.specs.Acts.{length_of}
+use Rattle.self_timed.specs.Graph.{Graph}
+use Rattle.self_timed.specs.Archi.{Architecture}
+use Rattle.self_timed.specs.Table.{Table}
+use Rattle.self_timed.specs.declared.Schedule.{Schedule}
+use Rattle.self_timed.specs.Acts.{length_of}
 use Rattle.self_timed.specs.Period.{period_of_schedule}
 use Rattle.comm_routing.specs.Placing.{ticks_in}
+use Rattle.pressure_heuristic.specs.Table.{RouteTable, IsTableOf}
 use Rattle.pressure_heuristic.specs.Pressure.{pressure_run}
 use Rattle.pressure_heuristic.specs.Tasks.{task}
 use Rattle.plan_costs.specs.declared.site.Goal.{Goal}

@@ -1,8 +1,8 @@
 //! Schedules on one operator alone.
 ghost use Rattle.std.specs.Prelude.{◌≡◌, ◌≤◌, [], IfOk, IfSome, IsNone, IsTrue, length};
-ghost use Rattle.schedule.specs.Acts.{acts_of};
 ghost use Rattle.comm_routing.specs.Draft.{task_of};
 ghost use Rattle.comm_routing.specs.Placing.{may_place};
+ghost use Rattle.self_timed.specs.Acts.{acts_of};
 ghost use Rattle.schedule_search.specs.Alone.{IsAlone, IsLowAlone, IsLowOn, MayAllStandOn, SoFar, when};
 ghost use Rattle.schedule_search.specs.Drafts.{IsDone, IsMeasured, IsSite, IsUnderWay, IsValidIn, site_task};
 
@@ -10,8 +10,7 @@ use crate::measured::{Measured, better, with_measure};
 use crate::replay::{open, whole};
 use comm_routing::Draft;
 use plan_search::{Goal, Site};
-use schedule::Schedule;
-use self_timed::one_operator_has_its_length_as_period;
+use self_timed::{Schedule, one_operator_has_its_length_as_period};
 use syn_base::OutOfMemory;
 
 /// The best of a schedule and of those on one operator alone.

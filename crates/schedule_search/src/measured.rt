@@ -4,8 +4,7 @@ ghost use Rattle.schedule_search.specs.Drafts.{IsMeasured, IsSite, IsValidIn, si
 ghost use Rattle.schedule_search.specs.Found.{last_half, measure};
 
 use plan_search::{Goal, Site};
-use schedule::Schedule;
-use self_timed::schedule_period;
+use self_timed::{Schedule, schedule_period};
 use syn_base::OutOfMemory;
 
 /// Over how many reactions a period is taken.

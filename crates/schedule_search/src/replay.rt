@@ -6,7 +6,7 @@ ghost use Rattle.schedule_search.specs.Drafts.{IsDone, IsSite, IsUnderWay, IsVal
 
 use comm_routing::Draft;
 use plan_search::{Site, Stand};
-use schedule::Schedule;
+use self_timed::Schedule;
 use syn_base::OutOfMemory;
 
 /// The schedule of a plan, or `None` where an operation cannot be placed as it says, or is left out.

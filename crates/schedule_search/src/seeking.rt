@@ -1,10 +1,10 @@
 //! The search: `search`, which looks for a schedule that is better than the pressure run.
 ghost use Rattle.std.specs.Prelude.{◌≡◌, ◌≢◌, ◌≤◌, IfOk, IfSome, IsTrue};
-ghost use Rattle.durations.specs.Fitting.{IsOf};
-ghost use Rattle.durations.specs.Table.{entry_in};
-ghost use Rattle.schedule.specs.Valid.{is_valid};
 ghost use Rattle.pressure_heuristic.specs.Adequation.{IsPressureRun};
 ghost use Rattle.plan_costs.specs.declared.site.Goal.TheVariants.{Length, Period};
+ghost use Rattle.self_timed.specs.Fitting.{IsOf};
+ghost use Rattle.self_timed.specs.Table.{entry_in};
+ghost use Rattle.self_timed.specs.ScheduleValid.{is_valid};
 ghost use Rattle.schedule_search.specs.Alone.{IsLowAlone};
 ghost use Rattle.schedule_search.specs.Drafts.{IsMeasured, IsSite, IsValidIn, site_task};
 ghost use Rattle.schedule_search.specs.Found.{IsNoLongerThanAlone, IsNoLongerThanRun, IsNoSlowerThanAlone, IsNoSlowerThanRun, measure};
@@ -12,13 +12,9 @@ ghost use Rattle.schedule_search.specs.Found.{IsNoLongerThanAlone, IsNoLongerTha
 use crate::alone::best_alone;
 use crate::measured::{Measured, better, with_measure};
 use crate::replay::replay;
-use archi_graph::Archi;
-use durations::Durations;
-use flat_graph::Flat;
 use plan_search::{Effort, Site, Stand, propose};
-use pressure_heuristic::adequation;
-use route_table::routes_of;
-use schedule::Schedule;
+use pressure_heuristic::{adequation, routes_of};
+use self_timed::{Archi, Durations, Flat, Schedule};
 use std::alloc::Global;
 use syn_base::OutOfMemory;
 

@@ -1,8 +1,8 @@
 -- Where acts last the same in the first reactions, they have the same dates there.
 use Rattle.std.proofs.Common.{◌≡◌, ℕ, ◌+◌, ◌<◌, ◌≤◌, List, Some, sym, ap, ap₂, inl, inr, arith, ◌∙◌}
 use Rattle.std.specs.Prelude.{slice_get}
-use Rattle.flat_graph.specs.declared.vertex.Vertex.{Vertex}
-use Rattle.schedule.specs.Acts.{Act}
+use Rattle.sequence_build_laws.specs.declared.Vertex.{Vertex}
+use Rattle.sequence_build_laws.specs.Acts.{Act}
 use Rattle.self_timed.specs.Dates.{Event, dates, needs, start_by}
 use Rattle.self_timed.proofs.Needs.{needs_are, greatest_same}
 use Rattle.self_timed.proofs.Ranks.{by_reaction}

@@ -7,12 +7,12 @@ use Rattle.std.proofs.lemmas.List.{take_all}
 use Rattle.std.proofs.lemmas.List.Sums.{sum_by_push, sum_by-take-le}
 use Rattle.std.proofs.lemmas.Option.{slice_get_within}
 use Rattle.std.proofs.lemmas.Nat.{row_fits}
-use Rattle.flat_graph.specs.declared.vertex.Vertex.{Vertex}
-use Rattle.schedule.specs.Acts.{Act, carry, run, acts, is_on}
-use Rattle.schedule.specs.Tight.{same_line}
+use Rattle.sequence_build_laws.specs.declared.Vertex.{Vertex}
+use Rattle.sequence_build_laws.specs.Acts.{Act, carry, run, acts, is_on}
+use Rattle.sequence_build_laws.specs.Tight.{same_line}
 use Rattle.sequence_build_laws.proofs.Lists.{from_map, get_some, map_at, one_there, take_next}
 use Rattle.sequence_build_laws.proofs.Sequences.{range_there, range_length}
-use Rattle.self_timed.specs.Dates.{Event, dates, greatest, needs, start_by, with_act}
+use Rattle.self_timed.specs.Dates.{Event, dates, needs, start_by, with_act}
 use Rattle.self_timed.specs.Entries.{stated}
 use Rattle.self_timed.proofs.Lined.{inside, across}
 use Rattle.self_timed.proofs.Needs.{needs_are, greatest_below}
@@ -20,6 +20,7 @@ use Rattle.self_timed.proofs.Ranks.{by_reaction}
 use Rattle.self_timed.proofs.Solution.{are_dates}
 use Rattle.self_timed.specs.Period.{as_stated, done_by, done_in, OneOperatorHasItsLengthAsPeriod}
 use Rattle.self_timed.proofs.Greatest.{above, no_greater}
+use Rattle.syn_base.specs.Numbers.{greatest}
 
 -- how long the first acts last together
 abbrev first_ticks : List Act → ℕ → ℕ

@@ -6,23 +6,24 @@ use Rattle.std.proofs.lemmas.Bool.{false≢true, and_parts, eqb-true, leb-true, 
 use Rattle.std.proofs.lemmas.Nat.{row_fits}
 use Rattle.std.proofs.lemmas.Option.{same_Some}
 use Rattle.std.proofs.lemmas.List.{append-nil}
-use Rattle.flat_graph.specs.Graph.{Graph, len_of}
-use Rattle.archi_graph.specs.declared.medium.Medium.{Medium}
-use Rattle.archi_graph.specs.Archi.{Architecture, stands_at}
-use Rattle.schedule.specs.declared.decision.Schedule.{Schedule}
-use Rattle.schedule.specs.Acts.{Act, carry, run, acts, start_of, end_of, is_over, is_on, runs, Copy, copy, same_copy, read_by, made_by, latest, length_of}
-use Rattle.schedule.specs.Tight.{same_line, reads_from, is_tight}
-use Rattle.schedule.specs.Valid.{is_valid, is_held, is_there, have_ended, lasts, is_carried}
-use Rattle.schedule.proofs.Copies.{copy_is}
-use Rattle.executive_program.proofs.Reading.{any_of}
+use Rattle.sequence_build_laws.specs.Graph.{Graph, len_of}
+use Rattle.sequence_build_laws.specs.declared.Medium.{Medium}
+use Rattle.sequence_build_laws.specs.Archi.{Architecture, stands_at}
+use Rattle.sequence_build_laws.specs.declared.Schedule.{Schedule}
+use Rattle.sequence_build_laws.specs.Acts.{Act, carry, run, acts, start_of, end_of, is_over, is_on, runs, Copy, copy, same_copy, read_by, made_by, latest, length_of}
+use Rattle.sequence_build_laws.specs.Tight.{same_line, reads_from, is_tight}
+use Rattle.sequence_build_laws.specs.ScheduleValid.{is_valid, is_held, is_there, have_ended, lasts, is_carried}
+use Rattle.sequence_build_laws.proofs.Copies.{copy_is}
+use Rattle.sequence_build_laws.proofs.Reading.{any_of}
+use Rattle.sequence_build_laws.proofs.Tight.{tight_at, tight_where}
 use Rattle.sequence_build_laws.proofs.Lists.{all_at, get_take, take_get}
 use Rattle.sequence_build_laws.proofs.Works.{right_at, one_maker}
-use Rattle.self_timed.specs.Dates.{Event, greatest, with_act, in_line, brought, emptied, needs, start_by, AreDates}
-use Rattle.schedule.proofs.Tight.{tight_at, tight_where}
+use Rattle.self_timed.specs.Dates.{Event, with_act, in_line, brought, emptied, needs, start_by, AreDates}
 use Rattle.self_timed.specs.Laws.{NoneLonger, FirstAsStated}
 use Rattle.self_timed.proofs.Charted.{chart_end, charted}
 use Rattle.self_timed.proofs.Needs.{needs_are, greatest_below, greatest_same}
 use Rattle.self_timed.proofs.Ranks.{by_act, by_reaction}
+use Rattle.syn_base.specs.Numbers.{greatest}
 
 latest_at : (xs : List Act) (i : ℕ) (x : Act) → slice_get xs i ≡ Some x → end_of x ≤ latest xs
 latest_at [] i x e = absurd cc

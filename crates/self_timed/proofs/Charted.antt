@@ -2,13 +2,14 @@
 use Rattle.std.proofs.Common.{◌≡◌, ℕ, suc, ◌+◌, Bool, true, false, cond, List, [], ◌∷◌, ◌++◌, map, take, max, Option, Some, None, refl, sym, ap, arith, ◌∙◌}
 use Rattle.std.specs.Prelude.{slice_get}
 use Rattle.std.specs.List.{filter}
-use Rattle.flat_graph.specs.declared.vertex.Vertex.{Vertex}
-use Rattle.schedule.specs.Acts.{Act, end_of, latest}
-use Rattle.schedule.specs.Tight.{same_line, last_end_or, reads_from, earliest}
-use Rattle.executive_program.specs.MicroSteps.{first_of}
+use Rattle.sequence_build_laws.specs.declared.Vertex.{Vertex}
+use Rattle.sequence_build_laws.specs.Acts.{Act, end_of, latest}
+use Rattle.sequence_build_laws.specs.Tight.{same_line, last_end_or, reads_from, earliest}
+use Rattle.sequence_build_laws.specs.MicroSteps.{first_of}
 use Rattle.sequence_build_laws.specs.Serial.{numbers_where}
 use Rattle.sequence_build_laws.proofs.Lists.{get_take}
-use Rattle.self_timed.specs.Dates.{Event, event, greatest, last_where, latest_of, with_act, in_line, brought}
+use Rattle.self_timed.specs.Dates.{Event, event, last_where, latest_of, with_act, in_line, brought}
+use Rattle.syn_base.specs.Numbers.{greatest}
 
 abbrev pub chart_end : List Act → ℕ → ℕ
 chart_end xs i = with_act (slice_get xs i) end_of

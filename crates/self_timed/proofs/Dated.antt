@@ -5,22 +5,22 @@ use Rattle.std.specs.List.{list_any, count_by}
 use Rattle.std.proofs.lemmas.Bool.{and_parts, leb-true, not-true}
 use Rattle.std.proofs.lemmas.List.{take_all, get_or_default}
 use Rattle.std.proofs.lemmas.Option.{same_Some, slice_get_within}
-use Rattle.flat_graph.specs.declared.vertex.Vertex.{Vertex}
-use Rattle.flat_graph.specs.Graph.{Graph, len_of}
-use Rattle.flat_graph.specs.Valid.{is_flat}
-use Rattle.archi_graph.specs.Archi.{Architecture, is_archi, is_depth}
-use Rattle.durations.specs.Table.{entry_in}
-use Rattle.schedule.specs.declared.decision.Schedule.{Schedule}
-use Rattle.schedule.specs.declared.decision.Decision.{Decision}
-use Rattle.schedule.specs.Acts.{Act, carry, run, acts, acts_of, Copy, same_copy, read_by, made_by}
-use Rattle.schedule.specs.Tight.{same_line, reads_from}
-use Rattle.executive_program.specs.declared.program.Buffer.{Buffer}
-use Rattle.executive_program.specs.declared.program.Program.{Program}
-use Rattle.executive_program.specs.Instructions.{number_or, depth_in}
-use Rattle.executive_program.proofs.Reading.{any_of}
+use Rattle.sequence_build_laws.specs.declared.Vertex.{Vertex}
+use Rattle.sequence_build_laws.specs.Graph.{Graph, len_of}
+use Rattle.sequence_build_laws.specs.FlatValid.{is_flat, HasFewOutputs}
+use Rattle.sequence_build_laws.specs.Archi.{Architecture, is_archi, is_depth}
+use Rattle.sequence_build_laws.specs.Table.{entry_in}
+use Rattle.sequence_build_laws.specs.declared.Schedule.{Schedule}
+use Rattle.sequence_build_laws.specs.declared.Decision.{Decision}
+use Rattle.sequence_build_laws.specs.Acts.{Act, carry, run, acts, acts_of, Copy, same_copy, read_by, made_by}
+use Rattle.sequence_build_laws.specs.Tight.{same_line, reads_from}
+use Rattle.sequence_build_laws.specs.declared.Buffer.{Buffer}
+use Rattle.sequence_build_laws.specs.declared.Program.{Program}
+use Rattle.sequence_build_laws.specs.Instructions.{number_or, depth_in}
+use Rattle.sequence_build_laws.proofs.Reading.{any_of}
+use Rattle.sequence_build_laws.proofs.Copies.{few_outputs, copy_is}
 use Rattle.sequence_build_laws.specs.Serial.{copies, buffer_for}
 use Rattle.sequence_build_laws.specs.Built.{buffers_from, program_of, is_guarded}
-use Rattle.schedule.proofs.Copies.{few_outputs, copy_is}
 use Rattle.sequence_build_laws.proofs.Lists.{get_some, tally, tally_grows, counts_tally}
 use Rattle.sequence_build_laws.proofs.Works.{of_run}
 use Rattle.self_timed.specs.Dates.{AreDates, has_reader}
@@ -35,7 +35,7 @@ use Rattle.self_timed.specs.declared.layout.Step.{Step}
 use Rattle.self_timed.specs.declared.line.Line.{Line}
 use Rattle.self_timed.specs.declared.line.Ends.{Ends}
 use Rattle.self_timed.specs.Depths.{deepest}
-use Rattle.self_timed.specs.Laid.{HasFewOutputs, IsDecided, started, after_all}
+use Rattle.self_timed.specs.Laid.{IsDecided, started, after_all}
 use Rattle.self_timed.specs.Lines.{IsLine}
 use Rattle.self_timed.specs.Running.{Running, AreSized, FitSteps, IsLong, IsSized, after_steps, at_start, freed_in, span}
 use Rattle.self_timed.specs.Told.{AreDatesOf, EndInTime, HaveDepth, IsValidForSome, StartsAsStated, entries_of, end_at, start_at, span_at}

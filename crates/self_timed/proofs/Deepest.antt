@@ -2,7 +2,7 @@
 use Rattle.std.proofs.Common.{◌≡◌, ℕ, zero, suc, ◌≤◌, List, [], ◌∷◌, Some, refl, ap, arith}
 use Rattle.std.specs.Prelude.{slice_get}
 use Rattle.std.proofs.lemmas.Option.{same_Some}
-use Rattle.executive_program.specs.declared.program.Buffer.{Buffer}
+use Rattle.sequence_build_laws.specs.declared.Buffer.{Buffer}
 use Rattle.self_timed.specs.Depths.{deepest}
 
 pub deepest_one : (bs : List Buffer) → 1 ≤ deepest bs

@@ -5,16 +5,17 @@ use Rattle.std.specs.List.{list_any}
 use Rattle.std.specs.Cmp.Derive.{both_true}
 use Rattle.std.proofs.lemmas.Bool.{false≢true}
 use Rattle.std.proofs.lemmas.Option.{same_Some, slice_get_within}
-use Rattle.flat_graph.specs.Graph.{Graph}
-use Rattle.archi_graph.specs.declared.medium.Seq.{Seq}
-use Rattle.archi_graph.specs.Archi.{Architecture, is_archi}
-use Rattle.archi_graph.specs.Sequences.{sequences}
-use Rattle.schedule.specs.declared.decision.Schedule.{Schedule}
-use Rattle.schedule.specs.Acts.{Act, carry, run, acts, Copy, copy, read_by, made_by}
-use Rattle.schedule.specs.Valid.{is_valid}
-use Rattle.executive_program.specs.Instructions.{reads, writes, readers_from, depth_of, depth_in}
-use Rattle.executive_program.specs.WellFormed.{ReadsAt}
-use Rattle.executive_program.proofs.Reading.{any_at, any_of, of_reads, writes_of, to_readers, in_all}
+use Rattle.sequence_build_laws.specs.Graph.{Graph}
+use Rattle.sequence_build_laws.specs.declared.Seq.{Seq}
+use Rattle.sequence_build_laws.specs.Archi.{Architecture, is_archi}
+use Rattle.sequence_build_laws.specs.Sequences.{sequences}
+use Rattle.sequence_build_laws.specs.declared.Schedule.{Schedule}
+use Rattle.sequence_build_laws.specs.Acts.{Act, carry, run, acts, Copy, copy, read_by, made_by}
+use Rattle.sequence_build_laws.specs.ScheduleValid.{is_valid}
+use Rattle.sequence_build_laws.specs.Instructions.{reads, writes, readers_from, depth_of, depth_in}
+use Rattle.sequence_build_laws.specs.WellFormed.{ReadsAt}
+use Rattle.sequence_build_laws.proofs.Reading.{any_at, any_of, of_reads, writes_of, to_readers, in_all}
+use Rattle.sequence_build_laws.specs.Tight.{same_line}
 use Rattle.sequence_build_laws.specs.Serial.{Step, step, projection, copies, buffer_for, plain_steps, plain_program, pairs, steps_of}
 use Rattle.sequence_build_laws.specs.Built.{program_with}
 use Rattle.sequence_build_laws.proofs.Lists.{map_at, starts}
@@ -23,7 +24,6 @@ use Rattle.sequence_build_laws.proofs.Setting.{Setting}
 use Rattle.sequence_build_laws.proofs.Guards.{in_projection, projection_at}
 use Rattle.sequence_build_laws.proofs.Works.{made_buffer}
 use Rattle.sequence_build_laws.proofs.Steps.{sending, calling, write_place, writing, writes_there, writes_made, from_there, to_there, at_there, step_at, setting}
-use Rattle.schedule.specs.Tight.{same_line}
 
 module _ (g : Graph) (a : Architecture) (ticks : ℕ → ℕ → Option ℕ) (s : Schedule) (right : is_archi a.operators a.media ≡ true) (valid : is_valid g a ticks s ≡ true) where
   -- the step of an act that reads, and its sequence

@@ -4,11 +4,11 @@ use Rattle.std.specs.Prelude.{slice_get, ◌-◌}
 use Rattle.std.specs.List.{count_by}
 use Rattle.std.proofs.lemmas.Bool.{false≢true, cases_lt}
 use Rattle.std.proofs.lemmas.Option.{slice_get_within}
-use Rattle.flat_graph.specs.Graph.{Graph}
-use Rattle.archi_graph.specs.Archi.{Architecture}
-use Rattle.schedule.specs.declared.decision.Schedule.{Schedule}
-use Rattle.schedule.specs.Acts.{Act, carry, run, acts}
-use Rattle.schedule.specs.Valid.{is_valid}
+use Rattle.sequence_build_laws.specs.Graph.{Graph}
+use Rattle.sequence_build_laws.specs.Archi.{Architecture}
+use Rattle.sequence_build_laws.specs.declared.Schedule.{Schedule}
+use Rattle.sequence_build_laws.specs.Acts.{Act, carry, run, acts}
+use Rattle.sequence_build_laws.specs.ScheduleValid.{is_valid}
 use Rattle.sequence_build_laws.proofs.Lists.{tally, counts_tally, tally_same, nth}
 use Rattle.sequence_build_laws.proofs.Works.{placed, of_run, one_run}
 use Rattle.self_timed.specs.Dates.{with_act}

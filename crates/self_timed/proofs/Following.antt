@@ -5,9 +5,9 @@ use Rattle.std.proofs.lemmas.Bool.{false≢true, cases_eq, cases_lt, le-leb, leb
 use Rattle.std.proofs.lemmas.List.{length-append, length-replicate, take_all, get_or_append_left, get_or_at}
 use Rattle.std.proofs.lemmas.List.Elements.{All-nil, All-push}
 use Rattle.std.proofs.lemmas.Option.{same_Some, slice_get_within}
-use Rattle.flat_graph.specs.declared.vertex.Vertex.{Vertex}
-use Rattle.schedule.specs.Acts.{Act}
-use Rattle.schedule.specs.Tight.{reads_from}
+use Rattle.sequence_build_laws.specs.declared.Vertex.{Vertex}
+use Rattle.sequence_build_laws.specs.Acts.{Act}
+use Rattle.sequence_build_laws.specs.Tight.{reads_from}
 use Rattle.sequence_build_laws.proofs.Lists.{get_some}
 use Rattle.self_timed.specs.Dates.{start_by}
 use Rattle.self_timed.specs.Entries.{entry_of}

@@ -3,19 +3,19 @@ use Rattle.std.proofs.Common.{◌≡◌, ℕ, zero, suc, ◌+◌, ◌<◌, true,
 use Rattle.std.specs.Prelude.{slice_get, All}
 use Rattle.std.proofs.lemmas.List.Elements.{All-nil, All-cons}
 use Rattle.std.proofs.lemmas.Option.{same_Some, slice_get_within}
-use Rattle.flat_graph.specs.declared.vertex.Source.{Source}
-use Rattle.flat_graph.specs.declared.vertex.Guard.{Guard}
-use Rattle.flat_graph.specs.declared.vertex.Vertex.{Vertex}
-use Rattle.flat_graph.specs.Graph.{Graph}
-use Rattle.flat_graph.specs.Valid.{is_flat}
-use Rattle.archi_graph.specs.Archi.{Architecture, is_archi}
-use Rattle.schedule.specs.declared.decision.Transfer.{Transfer}
-use Rattle.schedule.specs.declared.decision.Decision.{Decision}
-use Rattle.schedule.specs.declared.decision.Schedule.{Schedule}
-use Rattle.schedule.specs.Acts.{Act, carry, run, acts, acts_of, Copy, copy, outputs_of, sources_of, read_by, made_by}
-use Rattle.schedule.specs.Valid.{is_valid}
-use Rattle.schedule.proofs.Archis.{few_operators, few_media, below}
-use Rattle.schedule.proofs.Copies.{few_outputs}
+use Rattle.sequence_build_laws.specs.declared.Source.{Source}
+use Rattle.sequence_build_laws.specs.declared.Guard.{Guard}
+use Rattle.sequence_build_laws.specs.declared.Vertex.{Vertex}
+use Rattle.sequence_build_laws.specs.Graph.{Graph}
+use Rattle.sequence_build_laws.specs.FlatValid.{is_flat}
+use Rattle.sequence_build_laws.specs.Archi.{Architecture, is_archi}
+use Rattle.sequence_build_laws.specs.declared.Transfer.{Transfer}
+use Rattle.sequence_build_laws.specs.declared.Decision.{Decision}
+use Rattle.sequence_build_laws.specs.declared.Schedule.{Schedule}
+use Rattle.sequence_build_laws.specs.Acts.{Act, carry, run, acts, acts_of, Copy, copy, outputs_of, sources_of, read_by, made_by}
+use Rattle.sequence_build_laws.specs.ScheduleValid.{is_valid}
+use Rattle.sequence_build_laws.proofs.Archis.{few_operators, few_media, below}
+use Rattle.sequence_build_laws.proofs.Copies.{few_outputs}
 use Rattle.sequence_build_laws.proofs.Lists.{from_map, map_at, get_before, get_past}
 use Rattle.sequence_build_laws.proofs.Works.{read_made, origin, of_transfer, of_run, output_of}
 use Rattle.self_timed.specs.Lines.{IsLine, line_of}

@@ -1,11 +1,11 @@
 -- The laws of the dates, of ticks by entry.
 use Rattle.std.proofs.Common.{◌≡◌, ℕ, suc, ◌+◌, ◌≤◌, List, [], ◌∷◌, map, Option, Some, None, refl, ap, arith}
 use Rattle.std.specs.Prelude.{slice_get}
-use Rattle.flat_graph.specs.declared.vertex.Vertex.{Vertex}
-use Rattle.flat_graph.specs.Graph.{Graph}
-use Rattle.schedule.specs.declared.decision.Schedule.{Schedule}
-use Rattle.schedule.specs.Acts.{Act, acts, start_of, end_of}
-use Rattle.executive_program.specs.Instructions.{number_or}
+use Rattle.sequence_build_laws.specs.declared.Vertex.{Vertex}
+use Rattle.sequence_build_laws.specs.Graph.{Graph}
+use Rattle.sequence_build_laws.specs.declared.Schedule.{Schedule}
+use Rattle.sequence_build_laws.specs.Acts.{Act, acts, start_of, end_of}
+use Rattle.sequence_build_laws.specs.Instructions.{number_or}
 use Rattle.self_timed.specs.Dates.{dates, start_by}
 use Rattle.self_timed.specs.Entries.{stated, row_in, entry_of, lasting, AreWithin, dates_from}
 use Rattle.self_timed.specs.Laws.{NoneLonger}

@@ -5,16 +5,16 @@ use Rattle.std.specs.List.{list_any, count_by}
 use Rattle.std.proofs.lemmas.Bool.{cases_eq}
 use Rattle.std.proofs.lemmas.List.{take_all}
 use Rattle.std.proofs.lemmas.Option.{same_Some, slice_get_within}
-use Rattle.flat_graph.specs.declared.vertex.Vertex.{Vertex}
-use Rattle.flat_graph.specs.Graph.{Graph}
-use Rattle.flat_graph.specs.Valid.{is_flat}
-use Rattle.archi_graph.specs.Archi.{Architecture, is_archi}
-use Rattle.schedule.specs.declared.decision.Schedule.{Schedule}
-use Rattle.schedule.specs.Acts.{Act, carry, run, acts, Copy, same_copy, read_by, made_by}
-use Rattle.schedule.specs.Tight.{reads_from}
-use Rattle.schedule.specs.Valid.{is_valid}
-use Rattle.schedule.proofs.Copies.{copy_is, same_copy_self}
-use Rattle.executive_program.proofs.Reading.{any_at, any_of}
+use Rattle.sequence_build_laws.specs.declared.Vertex.{Vertex}
+use Rattle.sequence_build_laws.specs.Graph.{Graph}
+use Rattle.sequence_build_laws.specs.FlatValid.{is_flat}
+use Rattle.sequence_build_laws.specs.Archi.{Architecture, is_archi}
+use Rattle.sequence_build_laws.specs.declared.Schedule.{Schedule}
+use Rattle.sequence_build_laws.specs.Acts.{Act, carry, run, acts, Copy, same_copy, read_by, made_by}
+use Rattle.sequence_build_laws.specs.Tight.{reads_from}
+use Rattle.sequence_build_laws.specs.ScheduleValid.{is_valid}
+use Rattle.sequence_build_laws.proofs.Copies.{copy_is, same_copy_self}
+use Rattle.sequence_build_laws.proofs.Reading.{any_at, any_of}
 use Rattle.sequence_build_laws.proofs.Lists.{tally, counts_tally, tally-append, get_before, get_past, get_some, from_map, map_at, take_next}
 use Rattle.sequence_build_laws.proofs.Works.{read_made, one_maker}
 use Rattle.self_timed.specs.Entries.{is_transfer, entry_at, entry_of}

@@ -33,3 +33,20 @@ pub mod Reacting
 pub mod Following
 pub mod Deepest
 pub mod Dated
+-- Lemmas from below, which proofs above cite with those of this crate.
+pub use Rattle.sequence_build_laws.proofs.Archis
+pub use Rattle.sequence_build_laws.proofs.Behind
+pub use Rattle.sequence_build_laws.proofs.Copies
+pub use Rattle.sequence_build_laws.proofs.Decided
+pub use Rattle.sequence_build_laws.proofs.Examples
+pub use Rattle.sequence_build_laws.proofs.Facts
+pub use Rattle.sequence_build_laws.proofs.Kept
+pub use Rattle.sequence_build_laws.proofs.KindLens
+pub use Rattle.sequence_build_laws.proofs.Least
+pub use Rattle.sequence_build_laws.proofs.Lengths
+pub use Rattle.sequence_build_laws.proofs.Lists
+pub use Rattle.sequence_build_laws.proofs.Reading
+pub use Rattle.sequence_build_laws.proofs.Rounds
+pub use Rattle.sequence_build_laws.proofs.Settled
+pub use Rattle.sequence_build_laws.proofs.Whole as BuildingWhole
+pub use Rattle.sequence_build_laws.proofs.Works

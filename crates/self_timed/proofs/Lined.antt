@@ -3,14 +3,15 @@ use Rattle.std.proofs.Common.{◌≡◌, ℕ, zero, suc, ◌+◌, ◌<◌, ◌�
 use Rattle.std.specs.Prelude.{slice_get}
 use Rattle.std.proofs.lemmas.Bool.{false≢true, eqb-true, cases_eq}
 use Rattle.std.proofs.lemmas.Option.{same_Some}
-use Rattle.flat_graph.specs.declared.vertex.Vertex.{Vertex}
-use Rattle.schedule.specs.Acts.{Act, carry, run}
-use Rattle.schedule.specs.Tight.{same_line}
-use Rattle.executive_program.specs.MicroSteps.{first_of}
+use Rattle.sequence_build_laws.specs.declared.Vertex.{Vertex}
+use Rattle.sequence_build_laws.specs.Acts.{Act, carry, run}
+use Rattle.sequence_build_laws.specs.Tight.{same_line}
+use Rattle.sequence_build_laws.specs.MicroSteps.{first_of}
 use Rattle.sequence_build_laws.proofs.Lists.{get_before, get_take, take_get}
-use Rattle.self_timed.specs.Dates.{Event, event, greatest, last_where, latest_of, in_line, brought, emptied, needs, start_by, AreDates}
+use Rattle.self_timed.specs.Dates.{Event, event, last_where, latest_of, in_line, brought, emptied, needs, start_by, AreDates}
 use Rattle.self_timed.proofs.Needs.{from_last}
 use Rattle.self_timed.proofs.Ranks.{by_act}
+use Rattle.syn_base.specs.Numbers.{greatest}
 
 pub greatest_above : (f : Event → ℕ) (es : List Event) (r : ℕ) (e : Event) → slice_get es r ≡ Some e → f e ≤ greatest (map f es)
 greatest_above f [] r e h = absurd cc

@@ -4,15 +4,16 @@ use Rattle.std.specs.Prelude.{slice_get, slice_index_or, slice_set}
 use Rattle.std.proofs.lemmas.Bool.{false≢true, eqb-true}
 use Rattle.std.proofs.lemmas.List.{length-set, get_or-set_same, get_or-set_other, length-take-le}
 use Rattle.std.proofs.lemmas.Option.{slice_get_within}
-use Rattle.schedule.specs.Acts.{Act, carry, run}
-use Rattle.schedule.specs.Tight.{same_line}
-use Rattle.executive_program.specs.MicroSteps.{first_of}
+use Rattle.sequence_build_laws.specs.Acts.{Act, carry, run}
+use Rattle.sequence_build_laws.specs.Tight.{same_line}
+use Rattle.sequence_build_laws.specs.MicroSteps.{first_of}
 use Rattle.sequence_build_laws.proofs.Lists.{take_next}
-use Rattle.self_timed.specs.Dates.{Event, greatest, last_where, latest_of, in_line}
+use Rattle.self_timed.specs.Dates.{Event, last_where, latest_of, in_line}
 use Rattle.self_timed.specs.declared.line.Line.{Line}
 use Rattle.self_timed.specs.declared.line.Line.TheVariants.{Operator, Medium}
 use Rattle.self_timed.specs.declared.line.Ends.{Ends}
 use Rattle.self_timed.specs.Lines.{AreTables, IsLine, line_of, last_in, noted}
+use Rattle.syn_base.specs.Numbers.{greatest}
 
 pub tables_kept : (ends : Ends) (l : Line) (date : ℕ) → AreTables ends → AreTables (noted ends l date)
 tables_kept ends (Operator o) date t = record { operators = length-set ends.operators o date ∙ t.operators; media = t.media }

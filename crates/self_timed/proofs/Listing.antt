@@ -4,12 +4,12 @@ use Rattle.std.specs.Prelude.{filter, flat_map, slice_get, slice_index_or}
 use Rattle.std.specs.List.{range_with_len}
 use Rattle.std.proofs.lemmas.List.{append-nil}
 use Rattle.std.proofs.lemmas.Option.{slice_get_read}
-use Rattle.flat_graph.specs.declared.vertex.Kind.{Kind}
-use Rattle.flat_graph.specs.declared.vertex.Vertex.{Vertex}
-use Rattle.flat_graph.specs.Graph.{with_vertex}
-use Rattle.self_timed.specs.Dates.{greatest}
+use Rattle.sequence_build_laws.specs.declared.Kind.{Kind}
+use Rattle.sequence_build_laws.specs.declared.Vertex.{Vertex}
+use Rattle.sequence_build_laws.specs.Graph.{with_vertex}
 use Rattle.self_timed.specs.declared.dates.Span.{Span}
 use Rattle.self_timed.specs.Latency.{all_operations, drives, is_reached, latencies_from, latency, leads_to, senses}
+use Rattle.syn_base.specs.Numbers.{greatest}
 
 range_last : (a n : ℕ) → range_with_len a (n + 1) ≡ range_with_len a n ++ (a + n) ∷ []
 range_last a zero = (let e : a ≡ a + 0 = omega arith in λ i. e i ∷ [])

@@ -7,20 +7,20 @@ use Rattle.std.proofs.lemmas.Nat.{mul-le, row_fits}
 use Rattle.std.proofs.lemmas.List.{length-map}
 use Rattle.std.proofs.lemmas.List.Elements.{All-nil, All-head, All-tail}
 use Rattle.std.proofs.lemmas.Option.{same_Some, slice_get_within}
-use Rattle.flat_graph.specs.declared.vertex.Source.{Source}
-use Rattle.flat_graph.specs.declared.vertex.Vertex.{Vertex}
-use Rattle.flat_graph.specs.Graph.{Graph, with_vertex, len_of, lens_of}
-use Rattle.flat_graph.specs.Valid.{is_flat, is_path, is_len, is_guard, fits, has_twin}
-use Rattle.flat_graph.proofs.Facts.{vertex_valid}
-use Rattle.archi_graph.specs.declared.medium.Medium.{Medium}
-use Rattle.archi_graph.specs.Archi.{Architecture, is_archi, is_medium, are_bounded, are_distinct, are_joined, names_of, may_stand, ascends_from, stands_at}
-use Rattle.durations.specs.Table.{Table, IsRow, entry_in, row_in}
-use Rattle.schedule.specs.declared.decision.Transfer.{Transfer}
-use Rattle.schedule.specs.declared.decision.Schedule.{Schedule}
-use Rattle.schedule.specs.Acts.{Act, carry, run, acts, Copy, copy, is_over, is_on, runs}
-use Rattle.schedule.specs.Valid.{is_valid, is_carried, have_ended, is_there, lasts}
-use Rattle.schedule.proofs.Decided.{few_operations}
-use Rattle.schedule.proofs.Copies.{few_outputs}
+use Rattle.sequence_build_laws.specs.declared.Source.{Source}
+use Rattle.sequence_build_laws.specs.declared.Vertex.{Vertex}
+use Rattle.sequence_build_laws.specs.Graph.{Graph, with_vertex, len_of, lens_of}
+use Rattle.sequence_build_laws.specs.FlatValid.{is_flat, is_path, is_len, is_guard, fits, has_twin}
+use Rattle.sequence_build_laws.proofs.Facts.{vertex_valid}
+use Rattle.sequence_build_laws.specs.declared.Medium.{Medium}
+use Rattle.sequence_build_laws.specs.Archi.{Architecture, is_archi, is_medium, are_bounded, are_distinct, are_joined, names_of, may_stand, ascends_from, stands_at}
+use Rattle.sequence_build_laws.specs.Table.{Table, IsRow, entry_in, row_in}
+use Rattle.sequence_build_laws.specs.declared.Transfer.{Transfer}
+use Rattle.sequence_build_laws.specs.declared.Schedule.{Schedule}
+use Rattle.sequence_build_laws.specs.Acts.{Act, carry, run, acts, Copy, copy, is_over, is_on, runs}
+use Rattle.sequence_build_laws.specs.ScheduleValid.{is_valid, is_carried, have_ended, is_there, lasts}
+use Rattle.sequence_build_laws.proofs.Decided.{few_operations}
+use Rattle.sequence_build_laws.proofs.Copies.{few_outputs}
 use Rattle.sequence_build_laws.proofs.Lists.{from_map}
 use Rattle.sequence_build_laws.proofs.Works.{right_at, one_maker, one_run, of_run}
 use Rattle.self_timed.specs.Dates.{Event, needs, AreDates}

@@ -3,13 +3,14 @@ use Rattle.std.proofs.Common.{◌≡◌, ℕ, zero, suc, ◌+◌, ◌<◌, ◌�
 use Rattle.std.specs.Prelude.{slice_get, nat_le, ◌-◌, max}
 use Rattle.std.proofs.lemmas.Bool.{leb-true}
 use Rattle.std.proofs.lemmas.Option.{same_Some}
-use Rattle.flat_graph.specs.declared.vertex.Vertex.{Vertex}
-use Rattle.schedule.specs.Acts.{Act}
-use Rattle.schedule.specs.Tight.{same_line, reads_from}
-use Rattle.executive_program.specs.MicroSteps.{first_of}
+use Rattle.sequence_build_laws.specs.declared.Vertex.{Vertex}
+use Rattle.sequence_build_laws.specs.Acts.{Act}
+use Rattle.sequence_build_laws.specs.Tight.{same_line, reads_from}
+use Rattle.sequence_build_laws.specs.MicroSteps.{first_of}
 use Rattle.sequence_build_laws.specs.Serial.{numbers_where}
 use Rattle.sequence_build_laws.proofs.Lists.{from_append, from_map, get_take, from_numbers}
-use Rattle.self_timed.specs.Dates.{Event, event, greatest, last_where, latest_of, has_reader, in_line, brought, emptied, needs}
+use Rattle.self_timed.specs.Dates.{Event, event, last_where, latest_of, has_reader, in_line, brought, emptied, needs}
+use Rattle.syn_base.specs.Numbers.{greatest}
 
 pub record FromLast {A : Type 0} (p : A → Bool) (n : ℕ) (xs : List A) (q : ℕ) : Type 0 where
   pub at : ℕ

@@ -4,9 +4,9 @@ use Rattle.std.specs.Prelude.{slice_get}
 use Rattle.std.specs.List.{list_any}
 use Rattle.std.proofs.lemmas.Bool.{cases_lt, eq-eqb, eqb-true, false≢true, or_cases}
 use Rattle.std.proofs.lemmas.Option.{same_Some, slice_get_past}
-use Rattle.flat_graph.specs.declared.vertex.Vertex.{Vertex}
-use Rattle.flat_graph.specs.Graph.{with_vertex}
-use Rattle.flat_graph.specs.Order.{is_acyclic}
+use Rattle.sequence_build_laws.specs.declared.Vertex.{Vertex}
+use Rattle.sequence_build_laws.specs.Graph.{with_vertex}
+use Rattle.sequence_build_laws.specs.FlatOrder.{is_acyclic}
 use Rattle.self_timed.specs.Latency.{leads_to, leads_within, reads, reads_of}
 use Rattle.self_timed.specs.PathLaws.{IsPath, LeadsAlongPaths}
 use Rattle.self_timed.proofs.Turning.{all_done, no_longer}

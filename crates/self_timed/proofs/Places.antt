@@ -4,8 +4,8 @@ use Rattle.std.specs.Prelude.{slice_get, slice_index_or, slice_set}
 use Rattle.std.proofs.lemmas.Bool.{cases_eq}
 use Rattle.std.proofs.lemmas.List.{length-set, get_or-set_same, get_or-set_other, length-replicate}
 use Rattle.std.proofs.lemmas.Option.{same_Some}
-use Rattle.flat_graph.specs.declared.vertex.Vertex.{Vertex}
-use Rattle.schedule.specs.Acts.{Copy}
+use Rattle.sequence_build_laws.specs.declared.Vertex.{Vertex}
+use Rattle.sequence_build_laws.specs.Acts.{Copy}
 use Rattle.self_timed.specs.Laid.{place, row_at, maker_in, with_maker, with_makers, empty_makers, HasPlace, HasRow, HasShape, IsHeld}
 
 -- a copy is told by its operation and its place

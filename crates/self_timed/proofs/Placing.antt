@@ -3,11 +3,11 @@ use Rattle.std.proofs.Common.{◌≡◌, ℕ, zero, suc, ◌+◌, ◌<◌, ◌�
 use Rattle.std.specs.Prelude.{slice_get, slice_index_or, All}
 use Rattle.std.proofs.lemmas.List.Elements.{All-weaker}
 use Rattle.std.proofs.lemmas.Option.{same_Some}
-use Rattle.flat_graph.specs.declared.vertex.Guard.{Guard}
-use Rattle.flat_graph.specs.declared.vertex.Source.{Source}
-use Rattle.flat_graph.specs.declared.vertex.Vertex.{Vertex}
-use Rattle.schedule.specs.declared.decision.Decision.{Decision}
-use Rattle.schedule.specs.Acts.{copy, outputs_from, outputs_of, run, sources_of}
+use Rattle.sequence_build_laws.specs.declared.Guard.{Guard}
+use Rattle.sequence_build_laws.specs.declared.Source.{Source}
+use Rattle.sequence_build_laws.specs.declared.Vertex.{Vertex}
+use Rattle.sequence_build_laws.specs.declared.Decision.{Decision}
+use Rattle.sequence_build_laws.specs.Acts.{copy, outputs_from, outputs_of, run, sources_of}
 use Rattle.self_timed.specs.declared.line.Line.TheVariants.{Operator}
 use Rattle.self_timed.specs.Laid.{Laid, after, maker_in, HasPlace, HasRow, HasShape, IsHeld, IsPlaced, with_maker, with_makers}
 use Rattle.self_timed.proofs.Places.{held_place}

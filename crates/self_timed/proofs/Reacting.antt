@@ -4,9 +4,9 @@ use Rattle.std.specs.Prelude.{slice_get, slice_index_or, slice_set, ◌-◌}
 use Rattle.std.proofs.lemmas.Bool.{cases_eq}
 use Rattle.std.proofs.lemmas.List.{length-set, get_or-set_same, get_or-set_other}
 use Rattle.std.proofs.lemmas.Option.{same_Some}
-use Rattle.flat_graph.specs.declared.vertex.Vertex.{Vertex}
-use Rattle.schedule.specs.Acts.{Act}
-use Rattle.schedule.specs.Tight.{same_line, reads_from}
+use Rattle.sequence_build_laws.specs.declared.Vertex.{Vertex}
+use Rattle.sequence_build_laws.specs.Acts.{Act}
+use Rattle.sequence_build_laws.specs.Tight.{same_line, reads_from}
 use Rattle.sequence_build_laws.proofs.Lists.{get_some}
 use Rattle.self_timed.specs.Dates.{has_reader, start_by, AreDates}
 use Rattle.self_timed.specs.Entries.{entry_of}

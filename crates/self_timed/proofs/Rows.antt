@@ -1,10 +1,10 @@
 -- The dates computed on worked examples: one operator; two operators on a bus, with one and with two places; a speed controller.
 use Rattle.std.proofs.Common.{◌≡◌, ℕ, suc, ◌+◌, ◌&&◌, Bool, true, List, [], ◌∷◌, refl}
 use Rattle.std.specs.Prelude.{slice_index_or, ◌==◌}
-use Rattle.flat_graph.specs.Graph.{Graph}
-use Rattle.schedule.specs.declared.decision.Schedule.{Schedule}
-use Rattle.schedule.specs.Acts.{Act, acts}
-use Rattle.schedule.proofs.Examples.{plain_graph, plain_schedule, bus_graph, bus_schedule, speed_graph, speed_schedule}
+use Rattle.sequence_build_laws.specs.Graph.{Graph}
+use Rattle.sequence_build_laws.specs.declared.Schedule.{Schedule}
+use Rattle.sequence_build_laws.specs.Acts.{Act, acts}
+use Rattle.sequence_build_laws.proofs.Examples.{plain_graph, plain_schedule, bus_graph, bus_schedule, speed_graph, speed_schedule}
 use Rattle.self_timed.specs.Dates.{start_by}
 use Rattle.self_timed.specs.Entries.{lasting, dates_of_reaction}
 

@@ -5,15 +5,15 @@ use Rattle.std.specs.Prelude.{cond, filter, flat_map, if◌then◌else◌, not, 
 use Rattle.std.specs.List.{position_or_len, range_with_len}
 use Rattle.std.proofs.lemmas.Bool.{false≢true, true≢false}
 use Rattle.std.proofs.lemmas.Option.{same_Some, get_or_from_slice_get}
-use Rattle.flat_graph.specs.Graph.{Graph}
-use Rattle.archi_graph.specs.Archi.{Architecture}
-use Rattle.durations.specs.Table.{entry_in}
-use Rattle.schedule.specs.declared.decision.Schedule.{Schedule}
-use Rattle.schedule.specs.Acts.{Act, carry, run, acts, runs}
+use Rattle.sequence_build_laws.specs.Graph.{Graph}
+use Rattle.sequence_build_laws.specs.Archi.{Architecture}
+use Rattle.sequence_build_laws.specs.Table.{entry_in}
+use Rattle.sequence_build_laws.specs.declared.Schedule.{Schedule}
+use Rattle.sequence_build_laws.specs.Acts.{Act, carry, run, acts, runs}
 use Rattle.sequence_build_laws.proofs.Lists.{map_at}
 use Rattle.sequence_build_laws.proofs.Sequences.{range_there}
 use Rattle.sequence_build_laws.proofs.Works.{placed}
-use Rattle.self_timed.specs.Dates.{greatest, with_act}
+use Rattle.self_timed.specs.Dates.{with_act}
 use Rattle.self_timed.specs.Entries.{entry_of}
 use Rattle.self_timed.proofs.Entered.{is_entry}
 use Rattle.self_timed.specs.declared.dates.Span.{Span}
@@ -23,6 +23,7 @@ use Rattle.self_timed.specs.Period.{AreStatedDates, stated_end, stated_start}
 use Rattle.self_timed.specs.declared.latency.Latency.{Latency}
 use Rattle.self_timed.specs.Latency.{is_reached, is_sensor, latencies, latencies_from, latency, ticks_in}
 use Rattle.self_timed.specs.StatedLatencies.{act_span, latencies_of_schedule, operation_spans, run_of, stated_spans}
+use Rattle.syn_base.specs.Numbers.{greatest}
 
 -- the first element that passes, where one does
 module _ {A : Type 0} (p : A → Bool) where

@@ -4,12 +4,12 @@ use Rattle.std.specs.Prelude.{slice_get, slice_index_or, nat_le, ◌-◌, cond}
 use Rattle.std.specs.Cmp.Derive.{both_true}
 use Rattle.std.proofs.lemmas.Bool.{and_parts, le-leb, leb-true}
 use Rattle.std.proofs.lemmas.Option.{same_Some}
-use Rattle.flat_graph.specs.declared.vertex.Vertex.{Vertex}
-use Rattle.schedule.specs.Acts.{Act}
-use Rattle.schedule.specs.Tight.{same_line, reads_from}
+use Rattle.sequence_build_laws.specs.declared.Vertex.{Vertex}
+use Rattle.sequence_build_laws.specs.Acts.{Act}
+use Rattle.sequence_build_laws.specs.Tight.{same_line, reads_from}
 use Rattle.sequence_build_laws.specs.Serial.{numbers_where}
 use Rattle.sequence_build_laws.proofs.Lists.{tally, from_map, get_before, map_at, number_at, from_numbers, get_take, take_get}
-use Rattle.self_timed.specs.Dates.{Event, event, greatest, has_reader, in_line, brought, emptied, start_by, AreDates}
+use Rattle.self_timed.specs.Dates.{Event, event, has_reader, in_line, brought, emptied, start_by, AreDates}
 use Rattle.self_timed.specs.Entries.{entry_of}
 use Rattle.self_timed.proofs.Needs.{greatest_below}
 use Rattle.self_timed.proofs.Charted.{greatest-append}
@@ -19,6 +19,7 @@ use Rattle.self_timed.specs.declared.layout.Step.{Step}
 use Rattle.self_timed.specs.Lines.{line_of, last_in}
 use Rattle.self_timed.specs.Running.{Running, end_in, latest_in, start_in}
 use Rattle.self_timed.proofs.Laying.{IsStepOf}
+use Rattle.syn_base.specs.Numbers.{greatest}
 
 -- of no entries above a bound, and of an entry that is there
 latest_below : (row : List Span) (es : List ℕ) (bound : ℕ) → ((r e : ℕ) → slice_get es r ≡ Some e → end_in row e ≤ bound) → latest_in row es ≤ bound

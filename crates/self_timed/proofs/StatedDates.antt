@@ -6,15 +6,15 @@ use Rattle.std.proofs.lemmas.Bool.{cases_lt}
 use Rattle.std.proofs.lemmas.List.{length-replicate}
 use Rattle.std.proofs.lemmas.List.Elements.{All-replicate}
 use Rattle.std.proofs.lemmas.Option.{same_Some, slice_get_within, slice_get-get_or, get_or_from_slice_get}
-use Rattle.flat_graph.specs.declared.vertex.Vertex.{Vertex}
-use Rattle.flat_graph.specs.Graph.{Graph}
-use Rattle.flat_graph.specs.Valid.{is_flat}
-use Rattle.archi_graph.specs.Archi.{Architecture, is_archi}
-use Rattle.durations.specs.Table.{entry_in}
-use Rattle.schedule.specs.declared.decision.Decision.{Decision}
-use Rattle.schedule.specs.declared.decision.Schedule.{Schedule}
-use Rattle.schedule.specs.Acts.{Act, acts}
-use Rattle.executive_program.specs.Instructions.{number_or}
+use Rattle.sequence_build_laws.specs.declared.Vertex.{Vertex}
+use Rattle.sequence_build_laws.specs.Graph.{Graph}
+use Rattle.sequence_build_laws.specs.FlatValid.{is_flat}
+use Rattle.sequence_build_laws.specs.Archi.{Architecture, is_archi}
+use Rattle.sequence_build_laws.specs.Table.{entry_in}
+use Rattle.sequence_build_laws.specs.declared.Decision.{Decision}
+use Rattle.sequence_build_laws.specs.declared.Schedule.{Schedule}
+use Rattle.sequence_build_laws.specs.Acts.{Act, acts}
+use Rattle.sequence_build_laws.specs.Instructions.{number_or}
 use Rattle.sequence_build_laws.proofs.Lists.{from_map, get_some, map_at, one_there}
 use Rattle.sequence_build_laws.proofs.Sequences.{range_there, range_length}
 use Rattle.self_timed.specs.Dates.{dates, start_by, with_act}

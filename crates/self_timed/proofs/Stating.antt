@@ -4,13 +4,13 @@ use Rattle.std.specs.Prelude.{slice_get, slice_index_or, slice_set, filter}
 use Rattle.std.specs.List.{count_by}
 use Rattle.std.proofs.lemmas.List.{length-set, length-map, length-replicate, get_or-set_same, get_or-set_other}
 use Rattle.std.proofs.lemmas.Option.{same_Some, slice_get-get_or, slice_get_within}
-use Rattle.flat_graph.specs.Graph.{Graph}
-use Rattle.archi_graph.specs.Archi.{Architecture}
-use Rattle.schedule.specs.declared.decision.Transfer.{Transfer}
-use Rattle.schedule.specs.declared.decision.Decision.{Decision}
-use Rattle.schedule.specs.declared.decision.Schedule.{Schedule}
-use Rattle.schedule.specs.Acts.{Act, carry, run, acts, acts_of}
-use Rattle.schedule.specs.Valid.{is_valid}
+use Rattle.sequence_build_laws.specs.Graph.{Graph}
+use Rattle.sequence_build_laws.specs.Archi.{Architecture}
+use Rattle.sequence_build_laws.specs.declared.Transfer.{Transfer}
+use Rattle.sequence_build_laws.specs.declared.Decision.{Decision}
+use Rattle.sequence_build_laws.specs.declared.Schedule.{Schedule}
+use Rattle.sequence_build_laws.specs.Acts.{Act, carry, run, acts, acts_of}
+use Rattle.sequence_build_laws.specs.ScheduleValid.{is_valid}
 use Rattle.sequence_build_laws.proofs.Lists.{tally, counts_tally, filter_at, filter_length, get_before, get_past, map_at}
 use Rattle.sequence_build_laws.proofs.Works.{of_run, one_run}
 use Rattle.self_timed.specs.Entries.{is_transfer, entry_at, entry_of, stated}

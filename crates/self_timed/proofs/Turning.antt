@@ -5,10 +5,10 @@ use Rattle.std.specs.List.{list_all, list_any, range_with_len}
 use Rattle.std.proofs.lemmas.Bool.{false≢true, and_parts, cases_eq, cases_lt}
 use Rattle.std.proofs.lemmas.List.{get_or-set_same, get_or-set_other}
 use Rattle.std.proofs.lemmas.Option.{slice_get_read}
-use Rattle.flat_graph.specs.declared.vertex.Vertex.{Vertex}
-use Rattle.flat_graph.specs.Graph.{with_vertex}
-use Rattle.flat_graph.specs.Order.{depends_on, get_half, is_acyclic, is_done}
-use Rattle.flat_graph.proofs.Rounds.{stays_done}
+use Rattle.sequence_build_laws.specs.declared.Vertex.{Vertex}
+use Rattle.sequence_build_laws.specs.Graph.{with_vertex}
+use Rattle.sequence_build_laws.specs.FlatOrder.{depends_on, get_half, is_acyclic, is_done}
+use Rattle.sequence_build_laws.proofs.Rounds.{stays_done}
 use Rattle.self_timed.specs.Latency.{is_after, leads_to, leads_within, reads, reads_of}
 use Rattle.self_timed.specs.Turns.{at, renewed, AreRight, AreSettled}
 

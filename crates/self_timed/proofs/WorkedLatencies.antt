@@ -1,10 +1,10 @@
 -- Latencies of a speed controller with a delay, of a pipeline through a delay, and of schedules on two and on four operators.
 use Rattle.std.proofs.Common.{◌≡◌, ℕ, true, false, List, [], ◌∷◌, Some, None, refl, pos}
-use Rattle.flat_graph.specs.declared.vertex.Vertex.{Vertex}
-use Rattle.flat_graph.specs.declared.vertex.Kind.TheVariants.{Sensor, Actuator, Function, Get, Set}
-use Rattle.archi_graph.specs.Archi.{Architecture}
-use Rattle.schedule.specs.declared.decision.Schedule.{Schedule}
-use Rattle.schedule.proofs.Examples.{bus_archi, bus_graph, carried, multi_archi, multi_graph, multi_schedule, operation, placed, schedule, source, speed_graph}
+use Rattle.sequence_build_laws.specs.declared.Vertex.{Vertex}
+use Rattle.sequence_build_laws.specs.declared.Kind.TheVariants.{Sensor, Actuator, Function, Get, Set}
+use Rattle.sequence_build_laws.specs.Archi.{Architecture}
+use Rattle.sequence_build_laws.specs.declared.Schedule.{Schedule}
+use Rattle.sequence_build_laws.proofs.Examples.{bus_archi, bus_graph, carried, multi_archi, multi_graph, multi_schedule, operation, placed, schedule, source, speed_graph}
 use Rattle.self_timed.specs.declared.dates.Span.{Span}
 use Rattle.self_timed.specs.Running.{span}
 use Rattle.self_timed.specs.declared.latency.Latency.{Latency}

@@ -1,10 +1,10 @@
 -- The period of worked schedules: of one operator, of two operators on a bus with one and with two places, and of a pipeline with a delay.
 use Rattle.std.proofs.Common.{◌≡◌, ℕ, true, false, List, [], ◌∷◌, Option, Some, None, refl, pos}
-use Rattle.flat_graph.specs.Graph.{Graph}
-use Rattle.flat_graph.specs.declared.vertex.Kind.TheVariants.{Sensor, Actuator, Function, Get, Set}
-use Rattle.archi_graph.specs.Archi.{Architecture}
-use Rattle.schedule.specs.declared.decision.Schedule.{Schedule}
-use Rattle.schedule.proofs.Examples.{bus_archi, bus_graph, carried, operation, placed, plain_archi, plain_graph, plain_schedule, schedule, source}
+use Rattle.sequence_build_laws.specs.Graph.{Graph}
+use Rattle.sequence_build_laws.specs.declared.Kind.TheVariants.{Sensor, Actuator, Function, Get, Set}
+use Rattle.sequence_build_laws.specs.Archi.{Architecture}
+use Rattle.sequence_build_laws.specs.declared.Schedule.{Schedule}
+use Rattle.sequence_build_laws.proofs.Examples.{bus_archi, bus_graph, carried, operation, placed, plain_archi, plain_graph, plain_schedule, schedule, source}
 use Rattle.self_timed.specs.declared.period.Period.{Period}
 use Rattle.self_timed.specs.Period.{last_half, period_of_schedule, period_in}
 use Rattle.self_timed.specs.Running.{span}

@@ -13,7 +13,6 @@ use Rattle.std.specs.Prelude.{
   not,
   cond,
   nat_le,
-  max,
   List,
   [],
   ◌∷◌,
@@ -26,11 +25,12 @@ use Rattle.std.specs.Prelude.{
   None,
   slice_get,
 }
-use Rattle.flat_graph.specs.declared.vertex.Vertex.{Vertex}
-use Rattle.schedule.specs.Acts.{Act}
-use Rattle.schedule.specs.Tight.{same_line, reads_from}
-use Rattle.executive_program.specs.MicroSteps.{first_of}
+use Rattle.sequence_build_laws.specs.declared.Vertex.{Vertex}
+use Rattle.sequence_build_laws.specs.Acts.{Act}
+use Rattle.sequence_build_laws.specs.Tight.{same_line, reads_from}
+use Rattle.sequence_build_laws.specs.MicroSteps.{first_of}
 use Rattle.sequence_build_laws.specs.Serial.{numbers_where}
+use Rattle.syn_base.specs.Numbers.{greatest}
 
 -- an act, by number, in a reaction
 pub record Event : Type 0 where
@@ -40,11 +40,6 @@ pub record Event : Type 0 where
 -- Act i in reaction k, both counted from 0.
 abbrev pub event : ℕ → ℕ → Event
 event k i = record { reaction = k; act = i }
-
--- The greatest of these numbers, and 0 if there are none.
-abbrev pub greatest : List ℕ → ℕ
-greatest [] = 0
-greatest (n ∷ ns) = max n (greatest ns)
 
 -- the number of the last element that passes, of which the first has number n
 abbrev pub last_where : {A : Type 0} → (A → Bool) → ℕ → List A → Option ℕ

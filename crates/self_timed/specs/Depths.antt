@@ -1,6 +1,6 @@
 -- The depth of a program's buffers.
 use Rattle.std.specs.Prelude.{ℕ, List, [], ◌∷◌, max}
-use Rattle.executive_program.specs.declared.program.Buffer.{Buffer}
+use Rattle.sequence_build_laws.specs.declared.Buffer.{Buffer}
 
 -- the greatest depth, at least 1
 abbrev pub deepest : List Buffer → ℕ

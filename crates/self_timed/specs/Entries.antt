@@ -20,9 +20,9 @@ use Rattle.std.specs.Prelude.{
   ◌≤◌,
 }
 use Rattle.std.specs.List.{count_by}
-use Rattle.flat_graph.specs.declared.vertex.Vertex.{Vertex}
-use Rattle.schedule.specs.Acts.{Act, carry, run, start_of, end_of}
-use Rattle.executive_program.specs.Instructions.{number_or}
+use Rattle.sequence_build_laws.specs.declared.Vertex.{Vertex}
+use Rattle.sequence_build_laws.specs.Acts.{Act, carry, run, start_of, end_of}
+use Rattle.sequence_build_laws.specs.Instructions.{number_or}
 use Rattle.self_timed.specs.Dates.{dates, start_by, with_act}
 
 -- The act is a transfer.

@@ -20,12 +20,12 @@ use Rattle.std.specs.Prelude.{
   slice_index_or,
   slice_set,
 }
-use Rattle.flat_graph.specs.declared.vertex.Vertex.{Vertex}
-use Rattle.flat_graph.specs.declared.vertex.Guard.{Guard}
-use Rattle.flat_graph.specs.declared.vertex.Source.{Source}
-use Rattle.schedule.specs.declared.decision.Transfer.{Transfer}
-use Rattle.schedule.specs.declared.decision.Decision.{Decision}
-use Rattle.schedule.specs.Acts.{Act, carry, run, acts_of, Copy, copy, outputs_from, read_by, made_by}
+use Rattle.sequence_build_laws.specs.declared.Vertex.{Vertex}
+use Rattle.sequence_build_laws.specs.declared.Guard.{Guard}
+use Rattle.sequence_build_laws.specs.declared.Source.{Source}
+use Rattle.sequence_build_laws.specs.declared.Transfer.{Transfer}
+use Rattle.sequence_build_laws.specs.declared.Decision.{Decision}
+use Rattle.sequence_build_laws.specs.Acts.{Act, carry, run, acts_of, Copy, copy, outputs_from, read_by, made_by}
 use Rattle.self_timed.specs.declared.layout.Step.{Step}
 use Rattle.self_timed.specs.declared.line.Line.{Line}
 use Rattle.self_timed.specs.Lines.{line_of}
@@ -91,10 +91,6 @@ after l x = record {
 abbrev pub after_all : Laid → List Act → Laid
 after_all l [] = l
 after_all l (x ∷ xs) = after_all (after l x) xs
-
--- an operation has at most 64 outputs
-abbrev pub HasFewOutputs : Vertex → Type 0
-HasFewOutputs x = length x.outs ≤ 64
 
 -- the acts of these decisions
 abbrev pub laid_out : List Vertex → List Decision → Laid

@@ -21,14 +21,14 @@ use Rattle.std.specs.Prelude.{
   flat_map,
 }
 use Rattle.std.specs.List.{list_any, range_with_len}
-use Rattle.flat_graph.specs.declared.vertex.Vertex.{Vertex}
-use Rattle.flat_graph.specs.declared.vertex.Kind.{Kind}
-use Rattle.flat_graph.specs.declared.vertex.Kind.TheVariants.{Sensor, Actuator}
-use Rattle.flat_graph.specs.Graph.{with_vertex}
-use Rattle.self_timed.specs.Dates.{greatest}
+use Rattle.sequence_build_laws.specs.declared.Vertex.{Vertex}
+use Rattle.sequence_build_laws.specs.declared.Kind.{Kind}
+use Rattle.sequence_build_laws.specs.declared.Kind.TheVariants.{Sensor, Actuator}
+use Rattle.sequence_build_laws.specs.Graph.{with_vertex}
 use Rattle.self_timed.specs.declared.dates.Span.{Span}
 use Rattle.self_timed.specs.Running.{span_in}
 use Rattle.self_timed.specs.declared.latency.Latency.{Latency}
+use Rattle.syn_base.specs.Numbers.{greatest}
 
 -- the operations whose outputs an operation reads, its guards' first
 abbrev pub reads_of : Vertex → List ℕ

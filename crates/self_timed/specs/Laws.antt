@@ -20,16 +20,16 @@ use Rattle.std.specs.Prelude.{
   slice_get,
 }
 use Rattle.std.specs.List.{count_by}
-use Rattle.flat_graph.specs.declared.vertex.Vertex.{Vertex}
-use Rattle.flat_graph.specs.Graph.{Graph}
-use Rattle.archi_graph.specs.Archi.{Architecture, is_archi}
-use Rattle.executive_program.specs.Instructions.{depth_of}
+use Rattle.sequence_build_laws.specs.declared.Vertex.{Vertex}
+use Rattle.sequence_build_laws.specs.Graph.{Graph}
+use Rattle.sequence_build_laws.specs.Archi.{Architecture, is_archi}
+use Rattle.sequence_build_laws.specs.Instructions.{depth_of}
+use Rattle.sequence_build_laws.specs.declared.Schedule.{Schedule}
+use Rattle.sequence_build_laws.specs.Acts.{Act, Copy, acts, start_of, end_of, length_of, read_by, made_by}
+use Rattle.sequence_build_laws.specs.ScheduleValid.{is_valid}
+use Rattle.sequence_build_laws.specs.Tight.{same_line, is_tight}
 use Rattle.sequence_build_laws.specs.Serial.{buffer_for}
 use Rattle.sequence_build_laws.specs.Built.{program_with}
-use Rattle.schedule.specs.declared.decision.Schedule.{Schedule}
-use Rattle.schedule.specs.Acts.{Act, Copy, acts, start_of, end_of, length_of, read_by, made_by}
-use Rattle.schedule.specs.Valid.{is_valid}
-use Rattle.schedule.specs.Tight.{same_line, is_tight}
 use Rattle.self_timed.specs.Dates.{AreDates, dates, start_by}
 use Rattle.self_timed.specs.Entries.{
   stated,

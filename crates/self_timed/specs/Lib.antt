@@ -12,3 +12,24 @@ pub mod Laid
 pub mod Running
 pub mod Told
 pub mod Depths
+-- What the definitions here speak of: schedules and programs, and what both are made for.
+pub use Rattle.sequence_build_laws.specs.Acts
+pub use Rattle.sequence_build_laws.specs.Archi
+pub use Rattle.sequence_build_laws.specs.Built
+pub use Rattle.sequence_build_laws.specs.DurationLines
+pub use Rattle.sequence_build_laws.specs.Fitting
+pub use Rattle.sequence_build_laws.specs.FlatLaws
+pub use Rattle.sequence_build_laws.specs.FlatOrder
+pub use Rattle.sequence_build_laws.specs.FlatValid
+pub use Rattle.sequence_build_laws.specs.Graph
+pub use Rattle.sequence_build_laws.specs.Instructions
+pub use Rattle.sequence_build_laws.specs.Meaning
+pub use Rattle.sequence_build_laws.specs.Refusals
+pub use Rattle.sequence_build_laws.specs.ScheduleValid
+pub use Rattle.sequence_build_laws.specs.Sequences
+pub use Rattle.sequence_build_laws.specs.Serial
+pub use Rattle.sequence_build_laws.specs.Table
+pub use Rattle.sequence_build_laws.specs.Text
+pub use Rattle.sequence_build_laws.specs.Tight
+pub use Rattle.sequence_build_laws.specs.WellFormed
+pub use Rattle.sequence_build_laws.specs.Windows

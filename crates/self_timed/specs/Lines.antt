@@ -1,6 +1,6 @@
 -- The lines of acts, and the last ends in them.
 use Rattle.std.specs.Prelude.{◌≡◌, ℕ, ◌<◌, length, slice_index_or, slice_set}
-use Rattle.schedule.specs.Acts.{Act, carry, run}
+use Rattle.sequence_build_laws.specs.Acts.{Act, carry, run}
 use Rattle.self_timed.specs.declared.line.Line.{Line}
 use Rattle.self_timed.specs.declared.line.Line.TheVariants.{Operator, Medium}
 use Rattle.self_timed.specs.declared.line.Ends.{Ends}

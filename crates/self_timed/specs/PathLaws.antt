@@ -1,7 +1,7 @@
 -- What leads to what, in terms of paths.
 use Rattle.std.specs.Prelude.{◌≡◌, ◌↔◌, ℕ, zero, suc, IsTrue, List, Some, slice_get}
-use Rattle.flat_graph.specs.Order.{is_acyclic}
-use Rattle.flat_graph.specs.declared.vertex.Vertex.{Vertex}
+use Rattle.sequence_build_laws.specs.FlatOrder.{is_acyclic}
+use Rattle.sequence_build_laws.specs.declared.Vertex.{Vertex}
 use Rattle.self_timed.specs.Latency.{leads_to, reads}
 
 module _ (vertices : List Vertex) where

@@ -22,16 +22,17 @@ use Rattle.std.specs.Prelude.{
   sum_by,
 }
 use Rattle.std.specs.List.{range_with_len}
-use Rattle.flat_graph.specs.Graph.{Graph}
-use Rattle.archi_graph.specs.Archi.{Architecture}
-use Rattle.schedule.specs.declared.decision.Schedule.{Schedule}
-use Rattle.schedule.specs.Acts.{Act, acts, is_on}
-use Rattle.self_timed.specs.Dates.{dates, greatest, start_by, with_act}
+use Rattle.sequence_build_laws.specs.Graph.{Graph}
+use Rattle.sequence_build_laws.specs.Archi.{Architecture}
+use Rattle.sequence_build_laws.specs.declared.Schedule.{Schedule}
+use Rattle.sequence_build_laws.specs.Acts.{Act, acts, is_on}
+use Rattle.self_timed.specs.Dates.{dates, start_by, with_act}
 use Rattle.self_timed.specs.Entries.{entry_of, stated}
 use Rattle.self_timed.specs.declared.dates.Span.{Span}
 use Rattle.self_timed.specs.Running.{span}
 use Rattle.self_timed.specs.Told.{entries_of, span_at}
 use Rattle.self_timed.specs.declared.period.Period.{Period}
+use Rattle.syn_base.specs.Numbers.{greatest}
 
 -- how long act i lasts in reaction k, where each act lasts as stated in each reaction
 abbrev pub as_stated : List Act → ℕ → ℕ → ℕ

@@ -19,12 +19,12 @@ use Rattle.std.specs.Prelude.{
   slice_index_or,
   slice_set,
 }
-use Rattle.self_timed.specs.Dates.{greatest}
 use Rattle.self_timed.specs.declared.dates.Span.{Span}
 use Rattle.self_timed.specs.declared.layout.Step.{Step}
 use Rattle.self_timed.specs.declared.layout.Plan.{Plan}
 use Rattle.self_timed.specs.declared.line.Ends.{Ends}
 use Rattle.self_timed.specs.Lines.{IsLine, last_in, noted}
+use Rattle.syn_base.specs.Numbers.{greatest}
 
 -- The span from this start to this end, both dates in ticks.
 abbrev pub span : ℕ → ℕ → Span

@@ -1,7 +1,7 @@
 -- The ticks of a schedule's entries, as it states them.
 use Rattle.std.specs.Prelude.{ℕ, ◌-◌, List, [], ◌∷◌, ◌++◌, map, replicate, slice_set}
-use Rattle.schedule.specs.declared.decision.Transfer.{Transfer}
-use Rattle.schedule.specs.declared.decision.Decision.{Decision}
+use Rattle.sequence_build_laws.specs.declared.Transfer.{Transfer}
+use Rattle.sequence_build_laws.specs.declared.Decision.{Decision}
 
 abbrev pub run_ticks : Decision → ℕ
 run_ticks d = d.end - d.start

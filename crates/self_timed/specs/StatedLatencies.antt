@@ -1,10 +1,10 @@
 -- The latencies of a schedule whose acts last as it states.
 use Rattle.std.specs.Prelude.{ℕ, List, length, map, slice_get}
 use Rattle.std.specs.List.{position_or_len, range_with_len}
-use Rattle.flat_graph.specs.Graph.{Graph}
-use Rattle.archi_graph.specs.Archi.{Architecture}
-use Rattle.schedule.specs.declared.decision.Schedule.{Schedule}
-use Rattle.schedule.specs.Acts.{acts, runs}
+use Rattle.sequence_build_laws.specs.Graph.{Graph}
+use Rattle.sequence_build_laws.specs.Archi.{Architecture}
+use Rattle.sequence_build_laws.specs.declared.Schedule.{Schedule}
+use Rattle.sequence_build_laws.specs.Acts.{acts, runs}
 use Rattle.self_timed.specs.Dates.{with_act}
 use Rattle.self_timed.specs.declared.dates.Span.{Span}
 use Rattle.self_timed.specs.Running.{span}

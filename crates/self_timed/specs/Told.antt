@@ -16,13 +16,13 @@ use Rattle.std.specs.Prelude.{
   slice_index_or,
 }
 use Rattle.std.specs.List.{count_by}
-use Rattle.flat_graph.specs.Graph.{Graph}
-use Rattle.archi_graph.specs.Archi.{Architecture}
-use Rattle.durations.specs.Table.{Table, IsRow, entry_in}
-use Rattle.schedule.specs.declared.decision.Schedule.{Schedule}
-use Rattle.schedule.specs.Acts.{Act, acts, start_of, end_of, length_of}
-use Rattle.schedule.specs.Tight.{is_tight}
-use Rattle.schedule.specs.Valid.{is_valid}
+use Rattle.sequence_build_laws.specs.Graph.{Graph}
+use Rattle.sequence_build_laws.specs.Archi.{Architecture}
+use Rattle.sequence_build_laws.specs.Table.{Table, IsRow, entry_in}
+use Rattle.sequence_build_laws.specs.declared.Schedule.{Schedule}
+use Rattle.sequence_build_laws.specs.Acts.{Act, acts, start_of, end_of, length_of}
+use Rattle.sequence_build_laws.specs.Tight.{is_tight}
+use Rattle.sequence_build_laws.specs.ScheduleValid.{is_valid}
 use Rattle.self_timed.specs.Dates.{dates, has_reader, start_by}
 use Rattle.self_timed.specs.Entries.{is_transfer, entry_of, lasting, IsFirstStated}
 use Rattle.self_timed.specs.declared.dates.Span.{Span}

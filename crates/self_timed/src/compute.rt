@@ -1,7 +1,7 @@
 //! The computation of all reactions' dates: `dates_of`, which `dates_text` calls, and
 //! `dates_at_depth`, which needs no program.
 ghost use Rattle.std.specs.Prelude.{◌≡◌, ◌≤◌, IfOk, length};
-ghost use Rattle.schedule.specs.Acts.{acts};
+ghost use Rattle.sequence_build_laws.specs.Acts.{acts};
 ghost use Rattle.sequence_build_laws.specs.Built.{program_of};
 ghost use Rattle.self_timed.specs.Entries.{AreWithin};
 ghost use Rattle.self_timed.specs.Depths.{deepest};
@@ -12,10 +12,7 @@ use crate::dates::Dates;
 use crate::layout::plan_of;
 use crate::line::Ends;
 use crate::reaction::next_reaction;
-use archi_graph::Archi;
-use executive_program::Program;
-use flat_graph::Flat;
-use schedule::Schedule;
+use sequence_build_laws::{Archi, Flat, Program, Schedule};
 use std::alloc::Global;
 use syn_base::{Items, OutOfMemory};
 

@@ -1,13 +1,13 @@
 //! The latencies themselves.
 ghost use Rattle.std.specs.Prelude.{◌≡◌, ◌&&◌, ◌++◌, ◌<◌, ◌≤◌, ◌∷◌, [], IfOk, IsTrue, OnOk, filter, if◌then◌else◌, length, map};
 ghost use Rattle.syn_base.specs.Limits.{most_operations};
-ghost use Rattle.flat_graph.specs.Order.{is_acyclic};
+ghost use Rattle.sequence_build_laws.specs.FlatOrder.{is_acyclic};
 ghost use Rattle.self_timed.specs.Latency.{all_operations, drives, is_reached, latencies, latencies_from, latency, senses, ticks_in};
 ghost use Rattle.self_timed.specs.Turns.{HaveEntry, HaveOperations, IsTable};
 
 use crate::dates::{Dates, Span};
 use crate::reach::dependents;
-use flat_graph::{Flat, Kind, Vertex};
+use sequence_build_laws::{Flat, Kind, Vertex};
 use std::alloc::Global;
 use syn_base::{Items, OutOfMemory};
 

@@ -2,12 +2,12 @@
 ghost use Rattle.std.specs.Prelude.{◌≡◌, ◌<◌, ◌≤◌, ◌++◌, All, IfOk, OnErr, OnOk, length};
 ghost use Rattle.syn_base.specs.Limits.{bound_of};
 ghost use Rattle.syn_base.specs.declared.limits.LimitKind.TheVariants.{Operators, Ports};
-ghost use Rattle.schedule.specs.Acts.{carry, copy, run};
-ghost use Rattle.self_timed.specs.Laid.{Follows, HasFewOutputs, HasPlace, HasRow, HasShape, HaveGuardPlaces, HavePlaces, IsCarried, IsDecided, IsPlaced, after, empty_makers, guard_makers, input_makers, laid_out, maker_in, makers_of, place, started, with_decision, with_note, with_outputs, with_step, with_transfers};
+ghost use Rattle.sequence_build_laws.specs.Acts.{carry, copy, run};
+ghost use Rattle.sequence_build_laws.specs.FlatValid.{HasFewOutputs};
+ghost use Rattle.self_timed.specs.Laid.{Follows, HasPlace, HasRow, HasShape, HaveGuardPlaces, HavePlaces, IsCarried, IsDecided, IsPlaced, after, empty_makers, guard_makers, input_makers, laid_out, maker_in, makers_of, place, started, with_decision, with_note, with_outputs, with_step, with_transfers};
 
 use crate::line::Line;
-use flat_graph::{Guard, Source, Vertex};
-use schedule::{Decision, Transfer};
+use sequence_build_laws::{Decision, Guard, Source, Transfer, Vertex};
 use std::alloc::Global;
 use std::marker::Model;
 use syn_base::{Items, OutOfMemory};

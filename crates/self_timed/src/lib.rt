@@ -45,3 +45,10 @@ pub use period::{Period, period_of};
 pub use period_laws::one_operator_has_its_length_as_period;
 pub use stated::{schedule_period, stated_dates};
 pub use stated_latencies::schedule_latencies;
+
+// What the clauses here speak of: schedules and programs, and what both are made for.
+pub use sequence_build_laws::{
+    Archi, ArchiCause, ArchiText, Decision, DurationLine, Durations, Flat, Guard, Kind, Medium,
+    Program, Schedule, SeqCode, Source, Transfer, Vertex, accepted_are_durations, durations_fit,
+    len_of,
+};

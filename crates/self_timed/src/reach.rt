@@ -1,11 +1,11 @@
 //! Which operations depend on one of them within a reaction.
 ghost use Rattle.std.specs.Prelude.{◌≡◌, ℕ, ◌<◌, ◌≤◌, ◌||◌, false, nat_eq, suc, IfOk, IsTrue, length, map, slice_set};
 ghost use Rattle.std.specs.List.{list_any};
-ghost use Rattle.flat_graph.specs.Order.{is_acyclic};
+ghost use Rattle.sequence_build_laws.specs.FlatOrder.{is_acyclic};
 ghost use Rattle.self_timed.specs.Latency.{reads_of};
 ghost use Rattle.self_timed.specs.Turns.{at, renewed, AreRight, AreSettled, IsTable};
 
-use flat_graph::{Guard, Source, Vertex};
+use sequence_build_laws::{Guard, Source, Vertex};
 use std::alloc::Global;
 use syn_base::OutOfMemory;
 

@@ -7,9 +7,7 @@ use crate::compute::dates_at_depth;
 use crate::dates::Dates;
 use crate::period::{Period, period_of};
 use crate::ticks::stated_actual;
-use archi_graph::Archi;
-use flat_graph::Flat;
-use schedule::Schedule;
+use sequence_build_laws::{Archi, Flat, Schedule};
 use std::alloc::Global;
 use syn_base::OutOfMemory;
 

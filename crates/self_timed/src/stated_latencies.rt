@@ -5,9 +5,7 @@ ghost use Rattle.self_timed.specs.StatedLatencies.{latencies_of_schedule};
 
 use crate::latency::{Latency, latencies};
 use crate::stated::stated_dates;
-use archi_graph::Archi;
-use flat_graph::Flat;
-use schedule::Schedule;
+use sequence_build_laws::{Archi, Flat, Schedule};
 use std::alloc::Global;
 use syn_base::{Items, OutOfMemory};
 

@@ -4,7 +4,7 @@ ghost use Rattle.std.specs.Prelude.{◌≡◌, ◌<◌, ◌++◌, All, IfOk, OnO
 ghost use Rattle.self_timed.specs.Stated.{carried_ticks, carry_ticks, stated_row, with_runs};
 
 use crate::actual::Actual;
-use schedule::{Decision, Transfer};
+use sequence_build_laws::{Decision, Transfer};
 use std::alloc::Global;
 use syn_base::OutOfMemory;
 

@@ -5,19 +5,19 @@ use Rattle.std.specs.Prelude.{IsTrue}
 use Rattle.std.specs.List.{sum_by}
 use Rattle.std.proofs.lemmas.Bool.{and_parts, leb-true}
 use Rattle.std.proofs.lemmas.List.Sums.{sum_by-cons, sum_by-append}
-use Rattle.flat_graph.specs.declared.vertex.Vertex.{Vertex}
-use Rattle.flat_graph.specs.Graph.{Graph}
-use Rattle.flat_graph.specs.Order.{is_acyclic}
-use Rattle.flat_graph.specs.Valid.{is_flat, is_vertex, all_from, are_named_apart, sensors_from, actuators_from, kinds_of}
+use Rattle.executive_program.specs.declared.Vertex.{Vertex}
+use Rattle.executive_program.specs.Graph.{Graph}
+use Rattle.executive_program.specs.FlatOrder.{is_acyclic}
+use Rattle.executive_program.specs.FlatValid.{is_flat, is_vertex, all_from, are_named_apart, sensors_from, actuators_from, kinds_of}
+use Rattle.executive_program.specs.declared.Seq.{Seq}
+use Rattle.executive_program.specs.FlatLaws.{actuator_lens, actuator_len}
 use Rattle.executive_program.specs.declared.program.Program.{Program}
 use Rattle.executive_program.specs.Steps.{all_prologues, all_turns}
-use Rattle.operation_desks.specs.RowLens.{actuator_len, actuator_lens}
 use Rattle.semaphore_core.specs.Job.{total_steps}
 use Rattle.semaphore_core.specs.Totals.{taken_by, CountsLooks}
 use Rattle.executive_program.specs.Sizes.{plain_prologues, plain_turns, deep_pairs}
 use Rattle.executive_program.specs.WellFormed.{IsWellFormed}
 use Rattle.executive_program.proofs.DeepPairs.{looks_in_prologues, looks_in_turns}
-use Rattle.archi_graph.specs.declared.medium.Seq.{Seq}
 use Rattle.executive_program.proofs.MicroCounts.{all_prologues_size, all_turns_size}
 
 -- A valid graph has at most 2,048 operations.

@@ -2,10 +2,10 @@
 use Rattle.std.proofs.Common.{◌≤◌, List, length, ap, arith}
 use Rattle.std.specs.Prelude.{IsTrue}
 use Rattle.std.proofs.lemmas.List.{length-map}
-use Rattle.archi_graph.specs.declared.medium.Seq.{Seq}
-use Rattle.archi_graph.specs.Archi.{Architecture, is_archi}
-use Rattle.archi_graph.specs.Sequences.{sequences}
-use Rattle.archi_graph.proofs.Few.{few}
+use Rattle.executive_program.specs.declared.Seq.{Seq}
+use Rattle.executive_program.specs.Archi.{Architecture, is_archi}
+use Rattle.executive_program.specs.Sequences.{sequences}
+use Rattle.executive_program.proofs.Few.{few}
 use Rattle.executive_program.specs.declared.program.SeqCode.{SeqCode}
 use Rattle.semaphore_core.specs.Job.{JobData}
 use Rattle.semaphore_core.specs.IsJob.{IsJobOn}

@@ -3,34 +3,33 @@ use Rattle.std.proofs.Common.{◌≡◌, ℕ, ◌<◌, ◌≤◌, true, List, ma
 use Rattle.std.specs.Prelude.{slice_get, slice_index_or}
 use Rattle.std.proofs.lemmas.List.{length-map}
 use Rattle.std.proofs.lemmas.Option.{slice_get_within}
-use Rattle.level_meaning.specs.Level.{Values, vector_at}
-use Rattle.flat_graph.specs.Graph.{lens_of}
-use Rattle.flat_graph.specs.declared.vertex.Vertex.{Vertex}
-use Rattle.flat_graph.specs.declared.vertex.Kind.{Kind}
-use Rattle.flat_graph.specs.declared.vertex.Kind.TheVariants.{Sensor}
-use Rattle.flat_graph.specs.Valid.{is_flat}
-use Rattle.flat_graph.specs.Fire.{cell_len, seen_len, kind_cell_len, kind_seen_len}
-use Rattle.flat_graph.specs.Meaning.{initial_cells}
-use Rattle.flat_graph.proofs.KindLens.{length-vector_at}
+use Rattle.executive_program.specs.Graph.{lens_of}
+use Rattle.executive_program.specs.declared.Vertex.{Vertex}
+use Rattle.executive_program.specs.declared.Kind.{Kind}
+use Rattle.executive_program.specs.declared.Kind.TheVariants.{Sensor}
+use Rattle.executive_program.specs.FlatValid.{is_flat}
+use Rattle.executive_program.specs.Fire.{cell_len, seen_len, kind_cell_len, kind_seen_len}
+use Rattle.executive_program.specs.Meaning.{initial_cells}
+use Rattle.executive_program.proofs.KindLens.{length-vector_at}
+use Rattle.executive_program.specs.Sequences.{sequences}
+use Rattle.executive_program.specs.FlatLaws.{actuator_lens}
 use Rattle.executive_program.specs.declared.program.SeqCode.{SeqCode}
 use Rattle.executive_program.specs.declared.program.Instr.{Instr}
 use Rattle.executive_program.specs.declared.steps.MicroStep.{MicroStep}
-use Rattle.executive_program.specs.Instructions.{number_or, prologue_of}
+use Rattle.executive_program.specs.Instructions.{number_or, prologue_of, HasPlaces}
 use Rattle.executive_program.specs.Places.{opening_of}
 use Rattle.executive_program.specs.Steps.{steps, steps_by, steps_in_list}
 use Rattle.operation_desks.specs.Operation.{delay_of}
 use Rattle.operation_desks.specs.Desk.{AreDesks}
 use Rattle.semaphore_core.specs.Job.{JobData, reactions, total_steps}
-use Rattle.operation_desks.specs.RowLens.{actuator_lens}
 use Rattle.semaphore_core.specs.IsJob.{IsJob}
 use Rattle.semaphore_core.specs.Parts.{Kept}
 use Rattle.semaphore_core.specs.Held.{AreReady, HasRow, NeedsReaction}
 use Rattle.semaphore_core.proofs.Numbered.{actuator_at, sensor_at, delay_cell, no_delay}
 use Rattle.semaphore_core.proofs.Limits.{limits_kept}
 use Rattle.semaphore_core.proofs.Prologues.{opening_bare}
-use Rattle.archi_graph.specs.Sequences.{sequences}
-use Rattle.executive_program.specs.Instructions.{HasPlaces}
 use Rattle.executive_program.proofs.Formed.{formed_has_places}
+use Rattle.syn_base.specs.Vectors.{Values, vector_at}
 
 module _ (j : JobData) (job : IsJob j) where
   -- every buffer has a place

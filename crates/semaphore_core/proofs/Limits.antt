@@ -7,13 +7,13 @@ use Rattle.std.proofs.lemmas.Option.{none-some}
 use Rattle.syn_base.specs.declared.limits.LimitKind.{LimitKind}
 use Rattle.syn_base.specs.declared.limits.LimitKind.TheVariants.{Output, Total}
 use Rattle.syn_base.specs.declared.limits.LimitFault.{LimitFault}
-use Rattle.syn_base.specs.Limits.{bound_of}
-use Rattle.flat_graph.specs.Graph.{Graph}
+use Rattle.syn_base.specs.Limits.{bound_of, above}
+use Rattle.executive_program.specs.Graph.{Graph}
+use Rattle.executive_program.specs.FlatLaws.{actuator_lens}
 use Rattle.executive_program.specs.declared.program.Program.{Program}
 use Rattle.executive_program.specs.Steps.{all_turns}
-use Rattle.operation_desks.specs.RowLens.{actuator_lens}
 use Rattle.semaphore_core.specs.Job.{output_elements, total_steps}
-use Rattle.semaphore_core.specs.IsJob.{above, limit_in, FewerMeetNone}
+use Rattle.semaphore_core.specs.IsJob.{limit_in, FewerMeetNone}
 
 pub above_none : (which : LimitKind) (count : ℕ) (next : Option LimitFault) → above which count next ≡ None → (count ≤ bound_of which) × (next ≡ None)
 above_none which count next e = by (cases_lt (bound_of which) count)

@@ -2,19 +2,18 @@
 use Rattle.std.proofs.Common.{◌≡◌, ℕ, zero, suc, ◌+◌, ◌<◌, true, false, ◌==◌, List, [], ◌∷◌, ◌++◌, map, length, Option, Some, None, refl, sym, ap, subst, arith, ◌∙◌, ℤ, zero-add, add-one}
 use Rattle.std.specs.Prelude.{slice_get, slice_index_or, nat_lt, if◌then◌else◌}
 use Rattle.std.proofs.lemmas.Bool.{and_parts, eqb-true, false≢true}
-use Rattle.flat_graph.specs.declared.vertex.Kind.{Kind}
-use Rattle.flat_graph.specs.declared.vertex.Kind.TheVariants.{Sensor, Actuator, Function, Constant, Get, Set, Explode, Implode, Merge}
-use Rattle.flat_graph.specs.declared.vertex.Vertex.{Vertex}
-use Rattle.flat_graph.specs.Graph.{Graph, with_vertex, lens_of}
-use Rattle.flat_graph.specs.Order.{is_acyclic}
-use Rattle.flat_graph.specs.Valid.{is_flat, fits, names, is_only, has_twin, has_set_half, has_get_half, is_set_half_of, is_set_half_by, is_get_half_of, is_get_half_by, sensors_from, actuators_from, kinds_of}
-use Rattle.flat_graph.specs.Meaning.{is_get, delay_number, initial_cell, initial_cells}
-use Rattle.flat_graph.specs.Fire.{kind_cell_len}
-use Rattle.flat_graph.proofs.Facts.{vertex_valid, fits_of, twin_of, sensors_numbered}
-use Rattle.flat_graph.proofs.KindLens.{one_is, only_is}
+use Rattle.executive_program.specs.declared.Kind.{Kind}
+use Rattle.executive_program.specs.declared.Kind.TheVariants.{Sensor, Actuator, Function, Constant, Get, Set, Explode, Implode, Merge}
+use Rattle.executive_program.specs.declared.Vertex.{Vertex}
+use Rattle.executive_program.specs.Graph.{Graph, with_vertex, lens_of}
+use Rattle.executive_program.specs.FlatOrder.{is_acyclic}
+use Rattle.executive_program.specs.FlatValid.{is_flat, fits, is_only, has_twin, has_set_half, has_get_half, is_set_half_of, is_set_half_by, is_get_half_of, is_get_half_by, sensors_from, actuators_from, kinds_of, is_number}
+use Rattle.executive_program.specs.Meaning.{is_get, delay_number, initial_cell, initial_cells}
+use Rattle.executive_program.specs.Fire.{kind_cell_len}
+use Rattle.executive_program.proofs.Facts.{vertex_valid, fits_of, twin_of, sensors_numbered}
+use Rattle.executive_program.proofs.KindLens.{one_is, only_is}
+use Rattle.executive_program.specs.FlatLaws.{sensor_len, sensor_lens, actuator_lens, actuator_len}
 use Rattle.operation_desks.specs.Operation.{delay_by, delay_of}
-use Rattle.operation_desks.specs.RowLens.{actuator_len, actuator_lens}
-use Rattle.flat_graph.specs.Laws.{sensor_len, sensor_lens}
 
 -- entry i of a list that is numbered from n on is there, and has this value
 pub record Stands (n i : ℕ) (lens : List ℕ) (len : ℕ) : Type 0 where
@@ -135,9 +134,9 @@ pub record GetHalf (g : Graph) (v u : ℕ) (x : Vertex) : Type 0 where
   pub kind : half.kind ≡ Get values
   pub len : lens_of g.vertices x.ins ≡ length values ∷ []
 
-set_lens : (g : Graph) (v u n : ℕ) (x : Vertex) (twin : Option ℕ) → slice_get g.vertices v ≡ Some x → x.kind ≡ Set → names twin v ≡ true → has_set_half g.vertices u n twin ≡ true → lens_of g.vertices x.ins ≡ n ∷ []
+set_lens : (g : Graph) (v u n : ℕ) (x : Vertex) (twin : Option ℕ) → slice_get g.vertices v ≡ Some x → x.kind ≡ Set → is_number twin v ≡ true → has_set_half g.vertices u n twin ≡ true → lens_of g.vertices x.ins ≡ n ∷ []
 set_lens g v u n x None is k h q = absurd (false≢true h)
-set_lens g v u n x (Some w) is k h q = only_is n (lens_of g.vertices x.ins) (and_parts (names x.twin u) (is_only n (lens_of g.vertices x.ins)) by_kind).1
+set_lens g v u n x (Some w) is k h q = only_is n (lens_of g.vertices x.ins) (and_parts (is_number x.twin u) (is_only n (lens_of g.vertices x.ins)) by_kind).1
   where
     found : is_set_half_of g.vertices u n x ≡ true
     found = subst (λ (o : Option Vertex). with_vertex o false (is_set_half_of g.vertices u n) ≡ true) is

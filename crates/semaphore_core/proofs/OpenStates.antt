@@ -5,7 +5,7 @@ use Rattle.std.specs.Option.{option_map}
 use Rattle.std.proofs.lemmas.Bool.{cases_lt}
 use Rattle.std.proofs.lemmas.List.{length-map, length-replicate, get_or-replicate, get_or_past}
 use Rattle.std.proofs.lemmas.Option.{slice_get-map, get_or_from_slice_get}
-use Rattle.flat_graph.specs.Graph.{Graph}
+use Rattle.executive_program.specs.Graph.{Graph}
 use Rattle.executive_program.specs.declared.program.Program.{Program}
 use Rattle.executive_program.specs.declared.program.SeqCode.{SeqCode}
 use Rattle.executive_program.specs.declared.steps.MicroStep.{MicroStep}
@@ -18,9 +18,8 @@ use Rattle.semaphore_core.specs.Job.{JobData}
 use Rattle.semaphore_core.specs.IsJob.{IsJob}
 use Rattle.semaphore_core.specs.Core.{Core, opening}
 use Rattle.semaphore_core.specs.Held.{Held, IsOpened, AreReady, IsLaid}
-use Rattle.operation_desks.specs.Rooms.{Fits, highest}
+use Rattle.operation_desks.specs.Rooms.{Fits, highest, room_of, all_registers}
 use Rattle.semaphore_core.specs.Parts.{Kept, Parts}
-use Rattle.operation_desks.specs.Rooms.{room_of, all_registers}
 use Rattle.semaphore_core.specs.AtOpening.{AreAtOpening}
 use Rattle.semaphore_core.proofs.Viewing.{values_of, rooms_of, parts_of}
 use Rattle.semaphore_core.proofs.Jobs.{has_places, few_steps, prologue_bare}

@@ -4,8 +4,8 @@ use Rattle.std.specs.Prelude.{slice_set}
 use Rattle.std.proofs.lemmas.Bool.{cases_eq, cases_lt, lt-ltb, le-ltb}
 use Rattle.std.proofs.lemmas.List.{length-set, get_or-set_same, get_or-set_other, get_or_past}
 use Rattle.std.proofs.Math.Nat.{mul-add}
-use Rattle.interleavings.specs.Owners.{sum_below}
-use Rattle.interleavings.proofs.Sums.{le_below, member_below, more_below}
+use Rattle.executive_program.specs.Owners.{sum_below}
+use Rattle.executive_program.proofs.InterleavingSums.{le_below, member_below, more_below}
 use Rattle.executive_program.specs.declared.steps.MicroStep.{MicroStep}
 use Rattle.executive_program.specs.declared.steps.MicroStep.TheVariants.{Take, See, Lower, Signal, Await, Advance, Load, Store}
 use Rattle.executive_program.specs.declared.expand.SeqSteps.{SeqSteps}

@@ -1,9 +1,9 @@
 -- What a state holds when it is opened.
 use Rattle.std.proofs.Common.{◌≡◌, ℕ, ◌+◌, ◌*◌, ◌<◌, List, [], ◌∷◌, ◌++◌, map, take, length, get_or, sym, ap, ◌∙◌, ℤ}
 use Rattle.std.proofs.lemmas.List.{map_more}
-use Rattle.level_meaning.specs.Level.{Vector, zeros}
 use Rattle.executive_program.specs.declared.program.Buffer.{Buffer}
 use Rattle.executive_program.specs.declared.program.Program.{Program}
+use Rattle.syn_base.specs.Vectors.{Vector, zeros}
 
 abbrev pub zeros_of : Buffer → Vector
 zeros_of x = zeros (x.depth * x.len)

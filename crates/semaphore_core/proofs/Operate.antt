@@ -4,21 +4,21 @@ use Rattle.std.specs.Prelude.{slice_get, slice_index_or, replicate, if◌then◌
 use Rattle.std.proofs.lemmas.List.{length-map, length-replicate}
 use Rattle.std.proofs.lemmas.Bool.{and_parts, eqb-true}
 use Rattle.std.proofs.Math.Seq.{take-append_seam, drop-append_seam}
-use Rattle.level_meaning.specs.Level.{Values, Vector, vector_at, zeros}
-use Rattle.flat_graph.specs.declared.vertex.Vertex.{Vertex}
-use Rattle.flat_graph.specs.declared.vertex.Kind.{Kind}
-use Rattle.flat_graph.specs.declared.vertex.Kind.TheVariants.{Sensor, Actuator, Function, Constant, Get, Set, Explode, Implode, Merge}
-use Rattle.flat_graph.specs.Graph.{Graph, with_vertex, len_of, lens_of}
-use Rattle.flat_graph.specs.Fire.{fired, kept, stored, guards_hold, kind_outputs, fired_at, kept_at, read_lens, out_lens, cell_len, seen_len, kind_cell_len, kind_seen_len}
-use Rattle.flat_graph.specs.Meaning.{sensed}
-use Rattle.flat_graph.specs.Valid.{is_flat, fits}
-use Rattle.flat_graph.proofs.Facts.{vertex_valid, fits_of}
-use Rattle.flat_graph.proofs.KindLens.{kind_lens, length-zeros, length-vector_at, HasSeen, HasCell as HasKindCell}
-use Rattle.flat_graph.proofs.ReadLens.{out_lens_is, seen_len_is, cell_len_is, read_count}
+use Rattle.executive_program.specs.declared.Vertex.{Vertex}
+use Rattle.executive_program.specs.declared.Kind.{Kind}
+use Rattle.executive_program.specs.declared.Kind.TheVariants.{Sensor, Actuator, Function, Constant, Get, Set, Explode, Implode, Merge}
+use Rattle.executive_program.specs.Graph.{Graph, with_vertex, len_of, lens_of}
+use Rattle.executive_program.specs.Fire.{fired, kept, stored, guards_hold, kind_outputs, fired_at, kept_at, read_lens, out_lens, cell_len, seen_len, kind_cell_len, kind_seen_len}
+use Rattle.executive_program.specs.Meaning.{sensed}
+use Rattle.executive_program.specs.FlatValid.{is_flat, fits}
+use Rattle.executive_program.proofs.Facts.{vertex_valid, fits_of}
+use Rattle.executive_program.proofs.KindLens.{kind_lens, length-zeros, length-vector_at, HasSeen, HasCell as HasKindCell}
+use Rattle.executive_program.proofs.ReadLens.{out_lens_is, seen_len_is, cell_len_is, read_count}
 use Rattle.operation_desks.specs.Operation.{vectors_from, conditions_in, inputs_in, lens_in, HasCell, cell_at, rows_by, delay_of}
 use Rattle.operation_desks.specs.Desk.{DeskData, IsDesk, lens_of_desk, load_lens, loaded_in}
 use Rattle.semaphore_core.specs.Rows.{TakesRow}
 use Rattle.operation_desks.proofs.ReadVectors.{length-vector_in}
+use Rattle.syn_base.specs.Vectors.{Vector, Values, vector_at, zeros}
 
 pub vectors_lens : (row : List ℤ) (at : ℕ) (ns : List ℕ) → map length (vectors_from row at ns) ≡ ns
 vectors_lens row at [] = refl

@@ -3,11 +3,10 @@ use Rattle.std.proofs.Common.{◌≡◌, ℕ, ◌<◌, ◌≤◌, ◌⊎◌, inl
 use Rattle.std.specs.Prelude.{slice_get, slice_set}
 use Rattle.std.proofs.lemmas.List.{length-set, get_or-set_same, get_or-set_other, get_or_past}
 use Rattle.std.proofs.lemmas.Bool.{cases_eq, cases_lt}
-use Rattle.level_meaning.specs.Level.{Values, Vector, vector_at}
-use Rattle.flat_graph.specs.declared.vertex.Vertex.{Vertex}
-use Rattle.flat_graph.specs.declared.vertex.Kind.{Kind}
-use Rattle.flat_graph.specs.declared.vertex.Kind.TheVariants.{Sensor, Actuator, Function, Constant, Get, Set, Explode, Implode, Merge}
-use Rattle.flat_graph.specs.Fire.{cell_len, kept}
+use Rattle.executive_program.specs.declared.Vertex.{Vertex}
+use Rattle.executive_program.specs.declared.Kind.{Kind}
+use Rattle.executive_program.specs.declared.Kind.TheVariants.{Sensor, Actuator, Function, Constant, Get, Set, Explode, Implode, Merge}
+use Rattle.executive_program.specs.Fire.{cell_len, kept}
 use Rattle.executive_program.specs.declared.steps.OnLoad.{OnLoad}
 use Rattle.executive_program.specs.declared.steps.OnLoad.TheVariants.{Gather, Carry as CarryIn, Compute as ComputeIn}
 use Rattle.executive_program.specs.declared.steps.OnStore.{OnStore}
@@ -19,6 +18,7 @@ use Rattle.semaphore_core.specs.Job.{JobData}
 use Rattle.semaphore_core.specs.Parts.{Kept, with_kept}
 use Rattle.semaphore_core.specs.Held.{AreReady, IsLaid, LoadIsLaid, StoreIsLaid}
 use Rattle.semaphore_core.proofs.Operate.{cell_fits, kept_len}
+use Rattle.syn_base.specs.Vectors.{Vector, Values, vector_at}
 
 pub has_cell : (j : JobData) (k : Kept) → AreReady j k → (v : ℕ) (x : Vertex) → slice_get j.graph.vertices v ≡ Some x → HasCell k.cells (delay_of j.graph v x) (cell_len j.graph v)
 has_cell j k r v x is = by (delay_of j.graph v x) refl

@@ -1,20 +1,19 @@
 -- Two operators with a bus: the definitions computed on a worked program. A sensor and a function on the first operator, a function on the second, an actuator on each.
-use Rattle.std.proofs.Common.{◌≡◌, ℕ, List, [], ◌∷◌, length, Option, Some, None, refl, true}
-use Rattle.interleavings.specs.System.{take, see, sub, signal, await, advance, load, store}
-use Rattle.std.proofs.Common.{ℤ, pos, negsuc, zero, suc, cond}
-use Rattle.flat_graph.specs.declared.vertex.Source.{Source}
-use Rattle.flat_graph.specs.declared.vertex.Vertex.{Vertex}
-use Rattle.flat_graph.specs.declared.vertex.Kind.{Kind}
-use Rattle.flat_graph.specs.declared.vertex.Kind.TheVariants.{Sensor, Actuator, Function}
+use Rattle.std.proofs.Common.{◌≡◌, ℕ, List, [], ◌∷◌, length, Option, Some, None, refl, true, ℤ, pos, negsuc, zero, suc, cond}
 use Rattle.syn_base.specs.declared.arithmetic.Op.TheVariants.{Add}
-use Rattle.body_lang.specs.Expr.{literal, element, index, apply}
-use Rattle.flat_graph.specs.Graph.{Graph}
 use Rattle.semaphore_core.specs.Job.{JobData}
 use Rattle.semaphore_core.specs.Core.{Core, opening, step, is_enabled}
 use Rattle.semaphore_core.specs.Told.{told}
 use Rattle.semaphore_core.specs.Held.{answer}
 use Rattle.semaphore_core.specs.declared.answer.StepAnswer.{StepAnswer}
 use Rattle.semaphore_core.specs.declared.answer.StepAnswer.TheVariants.{Finished}
+use Rattle.executive_program.specs.System.{take, see, sub, signal, await, advance, load, store}
+use Rattle.executive_program.specs.declared.Source.{Source}
+use Rattle.executive_program.specs.declared.Vertex.{Vertex}
+use Rattle.executive_program.specs.declared.Kind.{Kind}
+use Rattle.executive_program.specs.declared.Kind.TheVariants.{Sensor, Actuator, Function}
+use Rattle.executive_program.specs.Expr.{literal, element, index, apply}
+use Rattle.executive_program.specs.Graph.{Graph}
 use Rattle.executive_program.specs.declared.program.Instr.{Instr}
 use Rattle.executive_program.specs.declared.program.Instr.TheVariants.{Suc0, Suc1, Pre0, Pre1, Call, Send, Recv}
 use Rattle.executive_program.specs.declared.program.SeqCode.{SeqCode}

@@ -1,12 +1,12 @@
 -- Three operators, of which the first sends the sensor's vector over two media: how far its computation runs ahead.
 use Rattle.std.proofs.Common.{◌≡◌, ℕ, List, [], ◌∷◌, ◌++◌, Option, Some, None, refl, ℤ, pos}
-use Rattle.flat_graph.specs.declared.vertex.Source.{Source}
-use Rattle.flat_graph.specs.declared.vertex.Vertex.{Vertex}
-use Rattle.flat_graph.specs.declared.vertex.Kind.{Kind}
-use Rattle.flat_graph.specs.declared.vertex.Kind.TheVariants.{Sensor, Actuator, Function}
 use Rattle.syn_base.specs.declared.arithmetic.Op.TheVariants.{Add}
-use Rattle.body_lang.specs.Expr.{literal, element, index, apply}
-use Rattle.flat_graph.specs.Graph.{Graph}
+use Rattle.executive_program.specs.declared.Source.{Source}
+use Rattle.executive_program.specs.declared.Vertex.{Vertex}
+use Rattle.executive_program.specs.declared.Kind.{Kind}
+use Rattle.executive_program.specs.declared.Kind.TheVariants.{Sensor, Actuator, Function}
+use Rattle.executive_program.specs.Expr.{literal, element, index, apply}
+use Rattle.executive_program.specs.Graph.{Graph}
 use Rattle.executive_program.specs.Blocks.{repeated}
 use Rattle.semaphore_core.specs.Job.{JobData}
 use Rattle.semaphore_core.specs.Core.{Core, opening, step}

@@ -5,10 +5,10 @@ use Rattle.std.specs.Vec.{with_items}
 use Rattle.std.proofs.lemmas.Bool.{cases_lt}
 use Rattle.std.proofs.lemmas.List.{set-set, set-get_or, set-append_right, drop_more, take_more, get_or-set_same, get_or_past, length-take-le, map-set, with_items_is, take_all}
 use Rattle.syn_base.specs.Rows.{with_element}
-use Rattle.level_meaning.specs.Level.{Values, Vector}
 use Rattle.operation_desks.specs.Operation.{cell_at, with_cell, HasCell}
 use Rattle.semaphore_core.specs.Rows.{with_vector}
 use Rattle.semaphore_core.proofs.Viewing.{read_map}
+use Rattle.syn_base.specs.Vectors.{Vector, Values}
 
 -- the first j elements of z, and the rest of what was there
 abbrev pub half_put : Vector → Vector → ℕ → Vector

@@ -2,14 +2,14 @@
 use Rattle.std.proofs.Common.{◌≡◌, ℕ, zero, suc, ◌+◌, ◌<◌, Bool, true, cond, ◌==◌, List, [], ◌∷◌, ◌++◌, map, length, Some, refl, sym, ap, subst, arith, ◌∙◌, zero-add}
 use Rattle.std.specs.Prelude.{slice_get, slice_index_or}
 use Rattle.std.proofs.lemmas.Bool.{and_parts, eqb-true}
-use Rattle.flat_graph.specs.declared.vertex.Kind.{Kind}
-use Rattle.flat_graph.specs.declared.vertex.Kind.TheVariants.{Sensor, Actuator, Function, Constant, Get, Set, Explode, Implode, Merge}
-use Rattle.flat_graph.specs.declared.vertex.Vertex.{Vertex}
-use Rattle.flat_graph.specs.Graph.{Graph, lens_of}
-use Rattle.flat_graph.specs.Order.{is_acyclic}
-use Rattle.flat_graph.specs.Valid.{is_flat, actuators_from, kinds_of}
+use Rattle.executive_program.specs.declared.Kind.{Kind}
+use Rattle.executive_program.specs.declared.Kind.TheVariants.{Sensor, Actuator, Function, Constant, Get, Set, Explode, Implode, Merge}
+use Rattle.executive_program.specs.declared.Vertex.{Vertex}
+use Rattle.executive_program.specs.Graph.{Graph, lens_of}
+use Rattle.executive_program.specs.FlatOrder.{is_acyclic}
+use Rattle.executive_program.specs.FlatValid.{is_flat, actuators_from, kinds_of}
+use Rattle.executive_program.specs.FlatLaws.{actuator_len}
 use Rattle.semaphore_core.specs.Job.{JobData}
-use Rattle.operation_desks.specs.RowLens.{actuator_len}
 use Rattle.operation_desks.specs.RowLens.{lens_for}
 use Rattle.semaphore_core.specs.Held.{HasRow}
 use Rattle.semaphore_core.proofs.Numbered.{Stands, behind, stands_first, AllFit, all_fit, actuator_one}

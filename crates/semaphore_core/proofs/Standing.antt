@@ -6,8 +6,8 @@ use Rattle.std.proofs.lemmas.Bool.{cases_lt, lt-ltb, le-ltb}
 use Rattle.std.proofs.lemmas.List.{length-map}
 use Rattle.std.proofs.lemmas.Option.{slice_get_read, slice_get-map, same_Some, none-some}
 use Rattle.std.proofs.lemmas.Nat.{mod_below, div_below}
-use Rattle.interleavings.specs.Sites.{Code, step_at, place_at, reaction_at}
-use Rattle.flat_graph.specs.Graph.{Graph}
+use Rattle.executive_program.specs.Sites.{Code, step_at, place_at, reaction_at}
+use Rattle.executive_program.specs.Graph.{Graph}
 use Rattle.executive_program.specs.declared.program.SeqCode.{SeqCode}
 use Rattle.executive_program.specs.declared.steps.MicroStep.{MicroStep}
 use Rattle.executive_program.specs.declared.steps.MicroStep.TheVariants.{Take, See, Lower, Signal, Await, Advance, Load, Store}

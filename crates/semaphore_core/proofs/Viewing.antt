@@ -12,11 +12,12 @@ use Rattle.executive_program.specs.declared.expand.SeqSteps.{SeqSteps}
 use Rattle.executive_program.specs.declared.program.Program.{Program}
 use Rattle.operation_desks.specs.RegisterFile.{RegisterFile}
 use Rattle.operation_desks.specs.Registers.{Own}
-use Rattle.semaphore_core.specs.Elements.{element_in, with_element_in}
+use Rattle.semaphore_core.specs.Elements.{element_in}
 use Rattle.semaphore_core.specs.Job.{JobData}
 use Rattle.semaphore_core.specs.Parts.{Kept, Parts, own_of, own_at, with_values, with_kept, with_own, with_load, with_store, value_stored}
 use Rattle.semaphore_core.specs.Core.{Core, home_of, slot_of, element_of, load_by, store_by}
 use Rattle.semaphore_core.specs.Held.{Held}
+use Rattle.syn_base.specs.Rows.{with_value}
 
 -- an element that was read by an index
 pub read_at : {A : Type 0} (xs : List A) (s : ℕ) (x d : A) → s < length xs → x ≡ get_or xs s x → get_or xs s d ≡ x
@@ -69,9 +70,9 @@ module _ (j : JobData) (counts semaphores turns : List ℕ) (elements : List (Li
   loaded x then v p' e q = λ i. held_of (slice_set counts s (count_is i + 1)) semaphores turns elements ((q ∙ ap (with_load j p s k then) e) i) steps
 
   pub stored : (x : Place) (what : OnStore) (v : ℤ) (home slot : ℕ) (elements' : List (List ℤ)) (p' : Parts) → v ≡ value_stored j p s k what → home ≡ home_of j.program x → slot ≡ slot_of j.program x k
-      → elements' ≡ with_element_in elements home slot v → p' ≡ with_store j p s k what
+      → elements' ≡ with_value elements home slot v → p' ≡ with_store j p s k what
       → held_of (slice_set counts s (n + 1)) semaphores turns elements' p' steps ≡ record { core = store_by j z s x what k; steps = steps; rooms = p.rooms; lens = p.kept.lens; desks = p.kept.desks }
-  stored x what v home slot elements' p' e h t f q = λ i. held_of (slice_set counts s (count_is i + 1)) semaphores turns ((f ∙ (λ l. with_element_in elements (h l) (t l) (e l))) i) (q i) steps
+  stored x what v home slot elements' p' e h t f q = λ i. held_of (slice_set counts s (count_is i + 1)) semaphores turns ((f ∙ (λ l. with_value elements (h l) (t l) (e l))) i) (q i) steps
 
 -- an element that was read where it lies
 pub found : (j : JobData) (z : Core) (p : Program) (x : Place) (k home slot : ℕ) (lists : List (List ℤ)) (w v : ℤ) → p ≡ j.program → lists ≡ z.elements → home ≡ home_of p x → slot ≡ slot_of p x k → w ≡ element_in lists home slot → v ≡ w

@@ -28,8 +28,9 @@ use Rattle.std.specs.Prelude.{
   replicate,
   ℤ,
 }
-use Rattle.interleavings.specs.Sites.{step_at, reaction_at}
-use Rattle.level_meaning.specs.Level.{Values, element_at, zeros}
+use Rattle.executive_program.specs.Sites.{step_at, reaction_at}
+use Rattle.executive_program.specs.Level.{element_at}
+use Rattle.executive_program.specs.System.{turn_reached}
 use Rattle.executive_program.specs.declared.program.Program.{Program}
 use Rattle.executive_program.specs.declared.steps.Place.{Place}
 use Rattle.executive_program.specs.declared.steps.Place.TheVariants.{Buffer, Wire}
@@ -52,6 +53,7 @@ use Rattle.executive_program.specs.MicroSteps.{wire_len}
 use Rattle.executive_program.specs.Steps.{steps}
 use Rattle.operation_desks.specs.Registers.{Own, absorb_by, emit_by, after_by}
 use Rattle.semaphore_core.specs.Job.{JobData, reactions, zero_rows}
+use Rattle.syn_base.specs.Vectors.{Values, zeros}
 
 -- The state of a run has the count of each sequence, the words that all share, and
 -- what the sequences have of their own.
@@ -91,12 +93,6 @@ buffer_zeros p = map (λ x. zeros (x.depth * x.len)) p.buffers
 -- as it is long.
 abbrev pub wire_zeros : Program → ℕ → List (List ℤ)
 wire_zeros p media = blocks (λ m. zeros (wire_len p m) ∷ []) media
-
--- A turn lets a wait for half a go on if it is a, or, if the wait is not exact, also
--- if it is above a.
-abbrev pub turn_reached : Bool → ℕ → ℕ → Bool
-turn_reached true turn a = nat_eq turn a
-turn_reached false turn a = nat_le a turn
 
 -- how many micro-steps sequence s has made, and the counts with one more
 abbrev pub count : Core → ℕ → ℕ

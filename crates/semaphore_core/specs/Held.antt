@@ -18,7 +18,12 @@ use Rattle.std.specs.Prelude.{
   slice_get,
   slice_index_or,
 }
-use Rattle.interleavings.specs.Owners.{sum_below}
+use Rattle.executive_program.specs.Owners.{sum_below}
+use Rattle.executive_program.specs.declared.Vertex.{Vertex}
+use Rattle.executive_program.specs.declared.Kind.TheVariants.{Actuator, Sensor}
+use Rattle.executive_program.specs.FlatValid.{is_flat}
+use Rattle.executive_program.specs.Graph.{lens_of}
+use Rattle.executive_program.specs.Fire.{cell_len, seen_len}
 use Rattle.executive_program.specs.declared.steps.OnLoad.{OnLoad}
 use Rattle.executive_program.specs.declared.steps.OnLoad.TheVariants.{Gather, Carry as CarryIn, Compute as ComputeIn}
 use Rattle.executive_program.specs.declared.steps.OnStore.{OnStore}
@@ -27,13 +32,7 @@ use Rattle.executive_program.specs.declared.steps.MicroStep.{MicroStep}
 use Rattle.executive_program.specs.declared.steps.MicroStep.TheVariants.{Signal, Advance, Load, Store}
 use Rattle.executive_program.specs.declared.expand.SeqSteps.{SeqSteps}
 use Rattle.executive_program.specs.Expanded.{AreSteps}
-use Rattle.level_meaning.specs.Level.{vector_at}
-use Rattle.flat_graph.specs.declared.vertex.Vertex.{Vertex}
-use Rattle.flat_graph.specs.declared.vertex.Kind.TheVariants.{Actuator, Sensor}
-use Rattle.flat_graph.specs.Valid.{is_flat}
 use Rattle.operation_desks.specs.Operation.{delay_of}
-use Rattle.flat_graph.specs.Graph.{lens_of}
-use Rattle.flat_graph.specs.Fire.{cell_len, seen_len}
 use Rattle.operation_desks.specs.Desk.{DeskLens, HasDesk}
 use Rattle.operation_desks.specs.Rooms.{Fits}
 use Rattle.semaphore_core.specs.Parts.{Kept}
@@ -43,6 +42,7 @@ use Rattle.semaphore_core.specs.Job.{JobData, reactions, total_steps}
 use Rattle.semaphore_core.specs.Core.{Core, count, full, is_enabled, IsReached}
 use Rattle.semaphore_core.specs.declared.answer.StepAnswer.{StepAnswer}
 use Rattle.semaphore_core.specs.declared.answer.StepAnswer.TheVariants.{Stepped, NotYet, Finished}
+use Rattle.syn_base.specs.Vectors.{vector_at}
 
 -- Operations that are laid out can be computed: each has a place for its desk, and what
 -- it keeps and senses has the lengths of its kind.

@@ -1,19 +1,18 @@
 -- When parts make a job, and the limit that refuses them.
-use Rattle.std.specs.Prelude.{◌≡◌, ℕ, ◌-◌, ◌^◌, ◌≤◌, cond, nat_lt, min, map, length, Option, Some, None}
-use Rattle.syn_base.specs.declared.limits.LimitKind.{LimitKind}
+use Rattle.std.specs.Prelude.{◌≡◌, ℕ, ◌-◌, ◌^◌, ◌≤◌, min, map, length, Option, None}
 use Rattle.syn_base.specs.declared.limits.LimitKind.TheVariants.{Output, Total}
 use Rattle.syn_base.specs.declared.limits.LimitFault.{LimitFault}
-use Rattle.syn_base.specs.Limits.{bound_of}
+use Rattle.syn_base.specs.Limits.{above}
 use Rattle.syn_base.specs.Rows.{Reactions, AreCut}
-use Rattle.level_meaning.specs.Level.{Values}
-use Rattle.flat_graph.specs.Graph.{Graph}
-use Rattle.flat_graph.specs.Laws.{sensor_lens}
-use Rattle.flat_graph.specs.Meaning.{initial_cells}
-use Rattle.archi_graph.specs.Archi.{Architecture}
-use Rattle.archi_graph.specs.Sequences.{sequences}
+use Rattle.executive_program.specs.Graph.{Graph}
+use Rattle.executive_program.specs.FlatLaws.{sensor_lens}
+use Rattle.executive_program.specs.Meaning.{initial_cells}
+use Rattle.executive_program.specs.Archi.{Architecture}
+use Rattle.executive_program.specs.Sequences.{sequences}
 use Rattle.executive_program.specs.declared.program.Program.{Program}
 use Rattle.executive_program.specs.WellFormed.{IsWellFormed}
 use Rattle.semaphore_core.specs.Job.{JobData, reactions, output_elements, total_steps}
+use Rattle.syn_base.specs.Vectors.{Values}
 
 -- the job of these parts
 abbrev pub job_of : Program → Graph → Architecture → Reactions → Values → JobData
@@ -34,11 +33,6 @@ pub record FitTogether (a : Architecture) (j : JobData) : Type 0 where
   pub sensed : j.lens ≡ sensor_lens j.graph.vertices
   pub few : reactions j ≤ 10000
   pub opened : map length j.opening ≡ map length (initial_cells j.graph.vertices)
-
--- this quantity above its bound, or else what comes then
-abbrev pub above : LimitKind → ℕ → Option LimitFault → Option LimitFault
-above which count next = cond (nat_lt (bound_of which) count)
-    (Some (record { which = which; count = count; bound = bound_of which })) next
 
 -- The limit that refuses this many reactions of a program: the elements that the actuators take,
 -- then the micro-steps in all. A number that the count's type does not hold is its last value.

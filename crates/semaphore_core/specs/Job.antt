@@ -1,21 +1,20 @@
 -- A job: a well-formed program with the sensors' rows and the
 -- delays' opening values, as a system of interleaved sequences.
-use Rattle.std.specs.Prelude.{ℕ, ◌+◌, ◌-◌, ◌*◌, cond, nat_lt, List, [], map, length, replicate}
+use Rattle.std.specs.Prelude.{ℕ, ◌+◌, ◌-◌, ◌*◌, cond, nat_lt, List, [], map, length, replicate, refl}
 use Rattle.std.specs.List.{sum_by}
-use Rattle.interleavings.specs.Sites.{reaction_at, step_at}
-use Rattle.interleavings.specs.System.{System}
-use Rattle.interleavings.specs.Owners.{sum_below}
 use Rattle.std.specs.Coded.{Coded, code_by, coded×, coded_list, coded_ℕ, coded_ℤ}
-use Rattle.std.specs.Prelude.{refl}
-use Rattle.level_meaning.specs.Level.{Values, zeros}
-use Rattle.flat_graph.specs.Graph.{Graph}
+use Rattle.executive_program.specs.Sites.{reaction_at, step_at}
+use Rattle.executive_program.specs.System.{System}
+use Rattle.executive_program.specs.Owners.{sum_below}
+use Rattle.executive_program.specs.Graph.{Graph}
+use Rattle.executive_program.specs.FlatLaws.{actuator_lens}
 use Rattle.executive_program.specs.declared.program.Program.{Program}
 use Rattle.executive_program.specs.Blocks.{block_at}
 use Rattle.executive_program.specs.Instructions.{len_of, depth_of}
 use Rattle.executive_program.specs.MicroSteps.{code, transfers, access, wire_len, buffer_elements}
 use Rattle.operation_desks.specs.Registers.{Own, absorb_at, emit_at, after_at}
-use Rattle.operation_desks.specs.RowLens.{actuator_lens}
 use Rattle.executive_program.specs.Steps.{steps, all_prologues, all_turns}
+use Rattle.syn_base.specs.Vectors.{Values, zeros}
 
 -- A job is a program with all that a run of it needs: the flat graph, the number of
 -- media, the sensors' rows, and the opening cells of the delays.

@@ -1,13 +1,14 @@
 -- The laws of every run of a job, for phase_laws to prove: what it is,
 -- that it is fresh, that it can go on, and what one more step does.
 use Rattle.std.specs.Prelude.{◌≡◌, ℕ, ◌+◌, ◌<◌, true, List, length, slice_index_or, slice_set}
-use Rattle.interleavings.specs.Fresh.{IsFresh}
+use Rattle.executive_program.specs.Fresh.{IsFresh}
 use Rattle.semaphore_core.specs.Job.{JobData, system}
 use Rattle.semaphore_core.specs.Core.{Core, run, count, full, step, is_enabled, AreReached}
 use Rattle.semaphore_core.specs.Told.{told}
 
 module _ (j : JobData) where
-  -- no load found another round than its own, and none will
+  -- In this state no value was overwritten before its last load, and no load was made before the
+  -- store of its own round.
   abbrev pub IsFreshState : Core → Type 0
   IsFreshState z = IsFresh (system j) (count z)
 

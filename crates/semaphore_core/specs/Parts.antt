@@ -1,15 +1,15 @@
 -- What the sequences of a state or of a driver have of their own,
 -- and what the loads and stores of one of them leave of it.
 use Rattle.std.specs.Prelude.{ℕ, List, [], Option, Some, slice_index_or, slice_set, ℤ}
-use Rattle.level_meaning.specs.Level.{Values}
-use Rattle.flat_graph.specs.declared.vertex.Vertex.{Vertex}
 use Rattle.syn_base.specs.Rows.{Reactions}
+use Rattle.executive_program.specs.declared.Vertex.{Vertex}
 use Rattle.executive_program.specs.declared.steps.OnLoad.{OnLoad}
 use Rattle.executive_program.specs.declared.steps.OnStore.{OnStore}
 use Rattle.operation_desks.specs.Desk.{DeskLens}
 use Rattle.operation_desks.specs.RegisterFile.{RegisterFile}
 use Rattle.operation_desks.specs.Registers.{Own, compute, compute_by, absorb_by, emit_by, after_by}
 use Rattle.semaphore_core.specs.Job.{JobData}
+use Rattle.syn_base.specs.Vectors.{Values}
 
 -- the delays' cells, the actuators' rows with the lengths of their vectors, and the places of the operations' desks
 pub record Kept : Type 0 where

@@ -1,9 +1,9 @@
 -- Vectors in rows of reactions.
 use Rattle.std.specs.Prelude.{◌≡◌, ℕ, ◌<◌, List, [], length, slice_index_or, slice_set}
-use Rattle.level_meaning.specs.Level.{Values, Vector, vector_at}
-use Rattle.flat_graph.specs.declared.vertex.Vertex.{Vertex}
-use Rattle.flat_graph.specs.declared.vertex.Kind.{Kind}
-use Rattle.flat_graph.specs.declared.vertex.Kind.TheVariants.{Actuator}
+use Rattle.syn_base.specs.Vectors.{Vector, Values, vector_at}
+use Rattle.executive_program.specs.declared.Vertex.{Vertex}
+use Rattle.executive_program.specs.declared.Kind.{Kind}
+use Rattle.executive_program.specs.declared.Kind.TheVariants.{Actuator}
 
 -- the rows with vector a of reaction k changed
 abbrev pub with_vector : List Values → ℕ → ℕ → Vector → List Values

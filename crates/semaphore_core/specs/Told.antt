@@ -25,15 +25,15 @@ use Rattle.std.specs.Prelude.{
   ℤ,
 }
 use Rattle.std.specs.List.{range_with_len}
-use Rattle.interleavings.specs.Sites.{place_at, reaction_at}
-use Rattle.interleavings.specs.System.{is_take, is_signal, advances, stores, total, latest}
-use Rattle.level_meaning.specs.Level.{Vector, Values, element_at, vector_at, zeros, all_joined}
-use Rattle.flat_graph.specs.declared.vertex.Source.{Source}
-use Rattle.flat_graph.specs.declared.vertex.Vertex.{Vertex}
-use Rattle.flat_graph.specs.declared.vertex.Kind.{Kind}
-use Rattle.flat_graph.specs.declared.vertex.Kind.TheVariants.{Actuator}
-use Rattle.flat_graph.specs.Graph.{lens_of}
-use Rattle.flat_graph.specs.Meaning.{is_get, flat_outputs, flat_val, flat_act, cells_after}
+use Rattle.executive_program.specs.Sites.{place_at, reaction_at}
+use Rattle.executive_program.specs.System.{is_take, is_signal, advances, stores, total, latest}
+use Rattle.executive_program.specs.Level.{element_at, all_joined}
+use Rattle.executive_program.specs.declared.Source.{Source}
+use Rattle.executive_program.specs.declared.Vertex.{Vertex}
+use Rattle.executive_program.specs.declared.Kind.{Kind}
+use Rattle.executive_program.specs.declared.Kind.TheVariants.{Actuator}
+use Rattle.executive_program.specs.Graph.{lens_of}
+use Rattle.executive_program.specs.Meaning.{is_get, flat_outputs, flat_val, flat_act, cells_after}
 use Rattle.executive_program.specs.declared.program.Instr.{Instr}
 use Rattle.executive_program.specs.declared.program.Instr.TheVariants.{Call, Send, Recv}
 use Rattle.executive_program.specs.Blocks.{block_at}
@@ -56,6 +56,7 @@ use Rattle.executive_program.specs.declared.program.Program.{Program}
 use Rattle.executive_program.specs.Steps.{elements_in}
 use Rattle.semaphore_core.specs.Job.{JobData, reactions, buffer_at, wire_at, number_at, depth_at, period_at, system}
 use Rattle.semaphore_core.specs.Core.{Core}
+use Rattle.syn_base.specs.Vectors.{Vector, Values, vector_at, zeros}
 
 -- the instruction of the loop at which s stands after n micro-steps, and the place in it
 module _ (p : Program) where
@@ -95,7 +96,9 @@ module _ (j : JobData) where
       (element_at (buffer_value (buffer_at j.program j.media y) t) (number_at j.program j.media y))
       (wire_value (wire_at j.program j.media y) (number_at j.program j.media y) (period_at j.program j.media y) t)
 
-  -- the registers after r micro-steps of an instruction in reaction k: what was loaded, or what the operation gives
+  -- The registers after r micro-steps of a send or a receive in reaction k, if buffer b holds
+  -- the value that is carried: an element of it if it was loaded and is not stored yet, and none
+  -- otherwise.
   abbrev pub copied : ℕ → ℕ → ℕ → List ℤ
   copied b k r = cond (nat_eq (r % 2) 0) (cond (nat_eq r 0) [] (element_at (buffer_value b k) (r / 2 - 1) ∷ [])) []
 

@@ -1,11 +1,11 @@
 -- How many elements the actuators take, counted operation by operation, and micro-steps without laying them out.
 use Rattle.std.specs.Prelude.{◌≡◌, ℕ, ◌*◌}
 use Rattle.std.specs.List.{sum_by}
-use Rattle.flat_graph.specs.declared.vertex.Vertex.{Vertex}
-use Rattle.flat_graph.specs.Graph.{Graph}
+use Rattle.executive_program.specs.declared.Vertex.{Vertex}
+use Rattle.executive_program.specs.Graph.{Graph}
+use Rattle.executive_program.specs.FlatLaws.{actuator_len}
 use Rattle.executive_program.specs.declared.program.Program.{Program}
 use Rattle.executive_program.specs.Sizes.{prologue_looks, turn_looks, deep_pairs}
-use Rattle.operation_desks.specs.RowLens.{actuator_len}
 
 -- how many elements an operation takes, where it is an actuator
 abbrev pub taken_by : Graph → Vertex → ℕ

@@ -1,8 +1,6 @@
 //! A job: a well-formed program with the sensors' rows and the delays' opening values.
 use crate::totals::{limit_fault, total_steps};
-use archi_graph::Archi;
-use executive_program::Program;
-use flat_graph::{Flat, Kind, Vertex};
+use executive_program::{Archi, Flat, Kind, Program, Vertex};
 use std::marker::Model;
 use syn_base::{Items, LimitFault, SensorRows};
 
@@ -22,8 +20,8 @@ pub struct Job<'a> {
 impl<'a> Model for Job<'a> {
     ghost use Rattle.std.specs.Prelude.{length};
     ghost use Rattle.std.specs.Coded.{codes};
-    ghost use Rattle.body_lang.specs.Code.{expr_code};
-    ghost use Rattle.flat_graph.specs.Graph.{graph_code};
+    ghost use Rattle.executive_program.specs.BodyCode.{expr_code};
+    ghost use Rattle.executive_program.specs.Graph.{graph_code};
     ghost use Rattle.semaphore_core.specs.Job.{JobData, job_code};
     ghost use Rattle.semaphore_core.specs.IsJob.{IsJobOn, job_of};
 
@@ -38,8 +36,8 @@ impl<'a> Model for Job<'a> {
 
 impl<'a> Job<'a> {
     ghost use Rattle.std.specs.Prelude.{◌≡◌, ℕ, ◌<◌, length, slice_index_or, [], IfOk, IfErr, None, Some};
-    ghost use Rattle.flat_graph.specs.declared.vertex.Kind.TheVariants.{Sensor};
-    ghost use Rattle.flat_graph.specs.Meaning.{sensed};
+    ghost use Rattle.executive_program.specs.declared.Kind.TheVariants.{Sensor};
+    ghost use Rattle.executive_program.specs.Meaning.{sensed};
     ghost use Rattle.semaphore_core.specs.Job.{total_steps};
     ghost use Rattle.semaphore_core.specs.IsJob.{FitTogether, IsJob, job_of, limit_of};
 

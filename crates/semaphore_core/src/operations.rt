@@ -1,25 +1,23 @@
 //! The operations of a job, computed on their desks: what they keep and take, for `OwnParts`.
 ghost use Rattle.std.specs.Prelude.{◌≡◌, ℕ, true, ◌<◌, length, map, slice_get, slice_index_or, Some, None, [], IfOk, false, replicate};
-ghost use Rattle.level_meaning.specs.Level.{zeros};
 ghost use Rattle.operation_desks.specs.RowLens.{lens_for};
-ghost use Rattle.level_meaning.specs.Level.{vector_at};
-ghost use Rattle.flat_graph.specs.declared.vertex.Kind.TheVariants.{Actuator, Sensor};
-ghost use Rattle.flat_graph.specs.Graph.{lens_of};
-ghost use Rattle.flat_graph.specs.Valid.{is_flat};
-ghost use Rattle.flat_graph.specs.Fire.{fired_at, kept_at, cell_len, seen_len, out_lens, read_lens};
+ghost use Rattle.executive_program.specs.declared.Kind.TheVariants.{Actuator, Sensor};
+ghost use Rattle.executive_program.specs.Graph.{lens_of};
+ghost use Rattle.executive_program.specs.FlatValid.{is_flat};
+ghost use Rattle.executive_program.specs.Fire.{fired_at, kept_at, cell_len, seen_len, out_lens, read_lens};
+ghost use Rattle.executive_program.specs.FlatLaws.{actuator_lens};
 ghost use Rattle.operation_desks.specs.Operation.{cell_at, with_cell, rows_by, HasCell, delay_of};
 ghost use Rattle.operation_desks.specs.Desk.{IsDesk, lens_of_desk};
-ghost use Rattle.operation_desks.specs.RowLens.{actuator_lens};
 ghost use Rattle.semaphore_core.specs.Job.{zero_rows};
 ghost use Rattle.semaphore_core.specs.IsJob.{IsJob};
 ghost use Rattle.semaphore_core.specs.Rows.{with_vector, TakesRow};
 ghost use Rattle.semaphore_core.specs.Held.{AreReady, IsLaid, LoadIsLaid, StoreIsLaid};
 ghost use Rattle.operation_desks.specs.Rooms.{outputs_len, top_load, top_store};
 ghost use Rattle.semaphore_core.specs.Parts.{own_of, own_with, computed, computed_by, absorbed, emitted, left, with_values, with_kept};
+ghost use Rattle.syn_base.specs.Vectors.{vector_at, zeros};
 
 use crate::job::Job;
-use executive_program::{OnLoad, OnStore};
-use flat_graph::{Flat, Kind, Vertex};
+use executive_program::{Flat, Kind, OnLoad, OnStore, Vertex};
 use operation_desks::{
     Desk, Registers, actuator_lens, copy_of, desks_for, desks_of, row_lens, zero_rows,
 };

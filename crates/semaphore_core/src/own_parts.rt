@@ -1,13 +1,13 @@
 //! What sequences have of their own: their registers, and the cells, rows and desks of their operations.
 ghost use Rattle.std.specs.Prelude.{◌≡◌, ℕ, ◌<◌, true, false, length, map, replicate, slice_index_or, IfOk};
-ghost use Rattle.level_meaning.specs.Level.{zeros};
-ghost use Rattle.operation_desks.specs.RowLens.{actuator_lens};
 ghost use Rattle.semaphore_core.specs.Job.{zero_rows};
 ghost use Rattle.semaphore_core.specs.AtOpening.{AreAtOpening};
 ghost use Rattle.operation_desks.specs.RowLens.{lens_for};
 ghost use Rattle.semaphore_core.specs.Held.{AreReady, IsLaid, LoadIsLaid, StoreIsLaid};
 ghost use Rattle.operation_desks.specs.Rooms.{top_load, top_store};
 ghost use Rattle.semaphore_core.specs.Parts.{with_load, with_store, value_stored};
+ghost use Rattle.syn_base.specs.Vectors.{zeros};
+ghost use Rattle.executive_program.specs.FlatLaws.{actuator_lens};
 
 use crate::job::Job;
 use crate::operations::Operations;

@@ -1,18 +1,19 @@
 //! The two numbers that bound a job, for `Job::new` and `run_limit`: elements that its actuators take, and micro-steps
 //! in all. Nothing is laid out to count them.
 ghost use Rattle.std.specs.Prelude.{◌≡◌, ◌-◌, ◌*◌, ◌^◌, ◌<◌, ◌≤◌, length, min, None, Some, IfOk, IfErr};
-ghost use Rattle.archi_graph.specs.Sequences.{sequences};
+ghost use Rattle.executive_program.specs.Sequences.{sequences};
+ghost use Rattle.executive_program.specs.Graph.{len_of as source_len};
 ghost use Rattle.executive_program.specs.WellFormed.{IsWellFormed};
 ghost use Rattle.std.specs.List.{sum_by};
-ghost use Rattle.flat_graph.specs.Graph.{len_of as source_len};
 ghost use Rattle.semaphore_core.specs.Job.{output_elements, total_steps};
 ghost use Rattle.syn_base.specs.declared.limits.LimitKind.TheVariants.{Output, Total};
-ghost use Rattle.semaphore_core.specs.IsJob.{above, limit_in, FewerMeetNone};
+ghost use Rattle.semaphore_core.specs.IsJob.{limit_in, FewerMeetNone};
 ghost use Rattle.semaphore_core.specs.Totals.{taken_by, CountsLooks};
+ghost use Rattle.syn_base.specs.Limits.{above};
 
-use archi_graph::Archi;
-use executive_program::{Program, deep_pairs, plain_prologues, plain_turns};
-use flat_graph::{Flat, Kind, Source, Vertex, len_of};
+use executive_program::{
+    Archi, Flat, Kind, Program, Source, Vertex, deep_pairs, len_of, plain_prologues, plain_turns,
+};
 use syn_base::{LimitFault, LimitKind, SensorRows};
 
 /// The number of elements of some sources.

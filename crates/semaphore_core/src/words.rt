@@ -1,9 +1,11 @@
 //! Words and elements that sequences share, and the next micro-step of a sequence.
 ghost use Rattle.std.specs.Prelude.{◌≡◌, ◌+◌, ◌-◌, ◌*◌, ◌/◌, ◌<◌, ◌++◌, replicate, slice_index_or, slice_set, pos, IfOk};
-ghost use Rattle.interleavings.specs.Sites.{reaction_at};
-ghost use Rattle.semaphore_core.specs.Core.{buffer_zeros, turn_reached, wire_zeros};
-ghost use Rattle.semaphore_core.specs.Elements.{element_in, with_element_in};
+ghost use Rattle.semaphore_core.specs.Core.{buffer_zeros, wire_zeros};
+ghost use Rattle.semaphore_core.specs.Elements.{element_in};
+ghost use Rattle.executive_program.specs.Sites.{reaction_at};
+ghost use Rattle.executive_program.specs.System.{turn_reached};
 ghost use Rattle.executive_program.specs.Expanded.{code_of, next_in};
+ghost use Rattle.syn_base.specs.Rows.{with_value};
 
 use executive_program::{MicroStep, Program, SeqSteps, wire_len};
 use operation_desks::{addressable, zeros};
@@ -47,7 +49,7 @@ fn item(items: &Items<i64>, at: usize) -> i64
 
 /// Puts an element in a list of lists, if its place is there.
 pub fn put_element(lists: &mut [Items<i64>], list: usize, at: usize, value: i64)
-    ensures { lists.new ≡ with_element_in lists.old list at value }
+    ensures { lists.new ≡ with_value lists.old list at value }
 {
     if list < lists.len() {
         put_item(&mut lists[list], at, value);

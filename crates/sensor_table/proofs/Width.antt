@@ -2,11 +2,11 @@
 use Rattle.std.proofs.Common.{◌≡◌, ◌∙◌, ◌+◌, ◌∷◌, [], ℕ, zero, suc, List, length, sum, refl, sym, ap, ap₂, arith, length-append}
 use Rattle.std.proofs.lemmas.List.{length-map}
 use Rattle.std.proofs.lemmas.List.Sums.{sum_by-append}
-use Rattle.level_meaning.specs.Level.{numbers_below}
+use Rattle.algo_tree.specs.Parts.{name_of}
 use Rattle.algo_tree.specs.Tree.{Kind, sensor, actuator, constant, delay, function, explode, implode, merge, graph, switch, repeat, Vertex, vertex, Vertices, no_vertices, and_vertex}
 use Rattle.algo_tree.specs.Ends.{first_length, sensor_length, sensor_lengths, sensor_lengths_in}
-use Rattle.level_meaning.specs.Parts.{name_of}
 use Rattle.sensor_table.specs.Columns.{column, columns_in, columns_of, header_of}
+use Rattle.syn_base.specs.Numbers.{numbers_below}
 
 numbers_long : (n : ℕ) → length (numbers_below n) ≡ n
 numbers_long zero = refl

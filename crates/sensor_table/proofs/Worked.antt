@@ -4,7 +4,7 @@ use Rattle.std.specs.Prelude.{codes}
 use Rattle.std.specs.Fmt.{digits}
 use Rattle.csv.specs.Writing.{fields_text, is_blank}
 use Rattle.syn_base.specs.Bytes.{Bytes}
-use Rattle.level_meaning.specs.declared.part.Part.TheVariants.{Named}
+use Rattle.algo_tree.specs.declared.Part.TheVariants.{Named}
 use Rattle.algo_tree.specs.Tree.{Kind, Label, sensor, explode, graph, Vertex, vertex, Vertices, no_vertices, and_vertex}
 use Rattle.sensor_table.specs.Template.{template_text}
 

@@ -1,10 +1,10 @@
 -- The columns of the table of the sensors: `k`, and then each element of each sensor reference of the main graph.
 use Rattle.std.specs.Prelude.{ℕ, pos, List, [], ◌∷◌, ◌++◌, map, codes}
 use Rattle.std.specs.Fmt.{signed_decimal}
-use Rattle.level_meaning.specs.Level.{numbers_below}
-use Rattle.level_meaning.specs.Parts.{name_of}
+use Rattle.algo_tree.specs.Parts.{name_of}
 use Rattle.algo_tree.specs.Tree.{Kind, sensor, Vertex, vertex, Vertices, no_vertices, and_vertex}
 use Rattle.algo_tree.specs.Ends.{first_length}
+use Rattle.syn_base.specs.Numbers.{numbers_below}
 
 -- The column of element j of the sensor with this name: `name.j`.
 abbrev pub column : List ℕ → ℕ → List ℕ

@@ -91,7 +91,8 @@ abbrev pub too_many : SensorError
 too_many = Limit
     (record { which = limit.Reactions; count = bound_of limit.Reactions + 1; bound = bound_of limit.Reactions })
 
--- Reaction k stands in row k + 1.
+-- The vectors of reaction k, for sensors of these lengths, by its record, which is row k + 1 of
+-- the table; or the refusal of that row, or of the table if k is no reaction that it may have.
 abbrev pub row_of : List ℕ → ℕ → Record → Result Row SensorError
 row_of lens k fields =
     if nat_lt k (bound_of limit.Reactions) then with_error (refused (suc k)) (row_in lens k fields) else Err too_many

@@ -3,10 +3,10 @@ ghost use Rattle.std.specs.Prelude.{◌≡◌, ◌++◌, map, IfOk, OnOk};
 ghost use Rattle.std.specs.Cmp.Lexicographic.{pointwise};
 ghost use Rattle.std.specs.Str.{bytes_eq};
 ghost use Rattle.csv.specs.Records.{fields_of};
-ghost use Rattle.level_meaning.specs.Level.{numbers_below};
 ghost use Rattle.algo_tree.specs.View.{kind_view, vertices_view};
 ghost use Rattle.sensor_table.specs.Columns.{column, columns_in, columns_of, header_of};
 ghost use Rattle.sensor_table.specs.SensorTable.{is_header};
+ghost use Rattle.syn_base.specs.Numbers.{numbers_below};
 
 use crate::records::field_at;
 use algo_tree::{Kind, Tree, Vertex};

@@ -1,16 +1,27 @@
 -- What is added in several steps.
-use Rattle.std.proofs.Common.{◌≡◌, ℕ, Bool, true, false, cond, nat_eq, List, [], ◌∷◌, ◌++◌, length, map, refl, sym, ap, arith, ◌∙◌, append_assoc, Vec, Global}
+use Rattle.std.proofs.Common.{◌≡◌, ℕ, Bool, true, false, cond, nat_eq, List, [], ◌∷◌, ◌++◌, length, map, refl, sym, ap, arith, ◌∙◌, append_assoc, Vec, Global, ◌<◌}
 use Rattle.std.proofs.lemmas.List.{append-nil, map-append}
-use Rattle.flat_graph.specs.declared.vertex.Vertex.{Vertex}
-use Rattle.schedule.specs.declared.decision.Decision.{Decision}
-use Rattle.schedule.specs.Acts.{carry, run, acts_of, Copy}
-use Rattle.executive_program.specs.declared.program.Instr.{Instr}
+use Rattle.sequence_build_laws.specs.declared.Vertex.{Vertex}
+use Rattle.sequence_build_laws.specs.declared.Decision.{Decision}
+use Rattle.sequence_build_laws.specs.Acts.{carry, run, acts_of, Copy}
+use Rattle.sequence_build_laws.specs.declared.Instr.{Instr}
 use Rattle.sequence_build_laws.specs.Serial.{Step, step, projection}
 use Rattle.sequence_build_laws.proofs.Guarded.{projection-append}
 use Rattle.sequence_build.specs.declared.made.Made.{Made}
 use Rattle.sequence_build.specs.Numbers.{place}
-use Rattle.sequence_build.specs.Made.{Makes, ComesTo as MakesUp, buffer_of}
-use Rattle.sequence_build.specs.Plain.{Adds, ComesTo, loop_at}
+use Rattle.sequence_build.specs.Made.{Makes, buffer_of}
+use Rattle.sequence_build.specs.Plain.{Adds, loop_at}
+
+-- What was added comes, with what is left, to the whole.
+abbrev pub ComesTo : List (Vec Instr Global) → List (Vec Instr Global) → List Step → List Step → Type 0
+ComesTo old new left whole = (s : ℕ) → s < length old →
+    loop_at new s ++ projection left s ≡ loop_at old s ++ projection whole s
+
+-- What was made comes, with what is left, to the whole.
+pub record MakesUp (vertices : List Vertex) (old new : Made) (left whole : List Copy) : Type 0 where
+  pub buffers : new.buffers.items ++ map (buffer_of vertices) left ≡ old.buffers.items ++ map (buffer_of vertices) whole
+  pub places : new.places.items ++ map (place (length vertices)) left ≡
+      old.places.items ++ map (place (length vertices)) whole
 
 pub one_projected : (q : ℕ) (x : Instr) (s : ℕ) → projection (step q x ∷ []) s ≡ cond (nat_eq q s) (x ∷ []) []
 one_projected q x s = by (nat_eq q s)

@@ -3,17 +3,17 @@ use Rattle.std.proofs.Common.{◌≡◌, ℕ, suc, ◌+◌, ◌<◌, ◌≤◌, 
 use Rattle.std.specs.Prelude.{slice_get, slice_index_or, nat_eq}
 use Rattle.std.specs.List.{flat_map, position_or_len}
 use Rattle.std.proofs.lemmas.List.{length-map}
-use Rattle.flat_graph.specs.Graph.{Graph}
-use Rattle.flat_graph.specs.Valid.{is_flat}
-use Rattle.archi_graph.specs.declared.medium.Seq.{Seq}
-use Rattle.archi_graph.specs.Archi.{Architecture, is_archi, is_depth}
-use Rattle.archi_graph.specs.Sequences.{sequences}
-use Rattle.schedule.specs.declared.decision.Schedule.{Schedule}
-use Rattle.schedule.specs.Acts.{Act, carry, run, acts, Copy}
 use Rattle.syn_base.specs.declared.limits.LimitFault.{LimitFault}
-use Rattle.executive_program.specs.declared.program.Instr.{Instr}
-use Rattle.executive_program.specs.declared.program.Program.{Program}
-use Rattle.executive_program.specs.Instructions.{Reader, readers}
+use Rattle.sequence_build_laws.specs.Graph.{Graph}
+use Rattle.sequence_build_laws.specs.FlatValid.{is_flat}
+use Rattle.sequence_build_laws.specs.declared.Seq.{Seq}
+use Rattle.sequence_build_laws.specs.Archi.{Architecture, is_archi, is_depth}
+use Rattle.sequence_build_laws.specs.Sequences.{sequences}
+use Rattle.sequence_build_laws.specs.declared.Schedule.{Schedule}
+use Rattle.sequence_build_laws.specs.Acts.{Act, carry, run, acts, Copy}
+use Rattle.sequence_build_laws.specs.declared.Instr.{Instr}
+use Rattle.sequence_build_laws.specs.declared.Program.{Program}
+use Rattle.sequence_build_laws.specs.Instructions.{Reader, readers}
 use Rattle.sequence_build_laws.specs.Serial.{Step, projection, codes, copies, buffer_for, plain_steps, plain_program, steps_of as serial_steps}
 use Rattle.sequence_build_laws.specs.Guarded.{guarded, operator_in, guarded_buffers}
 use Rattle.sequence_build_laws.specs.Built.{program_of}
@@ -23,11 +23,11 @@ use Rattle.sequence_build_laws.proofs.Whole as whole
 use Rattle.sequence_build.specs.Limit.{program_limit}
 use Rattle.sequence_build.specs.Numbers.{place, number_in, AreCovered}
 use Rattle.sequence_build.specs.Plain.{steps_of, elements, HasLoops, codes_from}
-use Rattle.sequence_build.specs.Pairs.{plain_pairs, reader_of}
+use Rattle.sequence_build.specs.Pairs.{plain_pairs}
 use Rattle.sequence_build.specs.Program.{assembled}
 use Rattle.sequence_build.specs.Answers.{IsValid, IsProgram}
 use Rattle.sequence_build.proofs.Covering.{once, single}
-use Rattle.sequence_build.proofs.Deepening.{AreSingle, buffers_same}
+use Rattle.sequence_build.proofs.Deepening.{AreSingle, buffers_same, reader_of}
 use Rattle.sequence_build.proofs.Guarding.{codes_same}
 use Rattle.sequence_build.proofs.Numbering.{numbers_are}
 use Rattle.sequence_build.proofs.Pairing.{WritesOnce, readers_are}
@@ -95,6 +95,6 @@ module _ (g : Graph) (a : Architecture) (s : Schedule) (flat : is_flat g ≡ tru
   made_is limit e none p h = record {
     is = h ∙ sym program_is;
     within = ap (λ (q : Program). program_limit q (length a.media)) (h ∙ sym program_is) ∙ sym e ∙ sym none;
-    formed = subst (λ (q : Program). Rattle.executive_program.specs.WellFormed.IsOrder q g (sequences a) (length a.media) (Rattle.sequence_build_laws.specs.Built.order_of g a s)) (program_is ∙ sym h)
+    formed = subst (λ (q : Program). Rattle.sequence_build_laws.specs.WellFormed.IsOrder q g (sequences a) (length a.media) (Rattle.sequence_build_laws.specs.Built.order_of g a s)) (program_is ∙ sym h)
         (whole.built_are_well_formed g a valid.0 s flat right deep valid.1);
   }

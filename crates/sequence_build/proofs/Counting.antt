@@ -5,21 +5,21 @@ use Rattle.std.specs.List.{list_any, filter, sum_by}
 use Rattle.std.proofs.lemmas.Bool.{false≢true, eqb-true, ne_eqb, cases_eq}
 use Rattle.std.proofs.lemmas.Option.{same_Some, slice_get_within}
 use Rattle.std.proofs.lemmas.List.Sums.{sum_by-cons}
-use Rattle.archi_graph.specs.declared.medium.Seq.{Seq}
-use Rattle.schedule.proofs.Copies.{same_bool}
-use Rattle.interleavings.specs.Owners.{sum_below}
-use Rattle.interleavings.proofs.Sums.{same_below}
-use Rattle.executive_program.specs.declared.program.Instr.{Instr}
-use Rattle.executive_program.specs.declared.program.Instr.TheVariants.{Sync}
-use Rattle.executive_program.specs.declared.program.Buffer.{Buffer}
-use Rattle.executive_program.specs.declared.program.SeqCode.{SeqCode}
-use Rattle.executive_program.specs.declared.program.Program.{Program}
-use Rattle.executive_program.specs.Blocks.{blocks}
-use Rattle.executive_program.specs.Instructions.{reads, writes, Reader, readers_from, waits_for, len_in}
-use Rattle.executive_program.specs.MicroSteps.{is_on, sent_len, longest_sent, longest_on}
-use Rattle.executive_program.proofs.Expanding.{blocks_length}
-use Rattle.executive_program.proofs.MicroCounts.{first_off}
-use Rattle.executive_program.proofs.Reading.{any_at, any_of, from_readers, in_all}
+use Rattle.sequence_build_laws.specs.declared.Seq.{Seq}
+use Rattle.sequence_build_laws.proofs.Copies.{same_bool}
+use Rattle.sequence_build_laws.specs.Owners.{sum_below}
+use Rattle.sequence_build_laws.proofs.InterleavingSums.{same_below}
+use Rattle.sequence_build_laws.specs.declared.Instr.{Instr}
+use Rattle.sequence_build_laws.specs.declared.Instr.TheVariants.{Sync}
+use Rattle.sequence_build_laws.specs.declared.Buffer.{Buffer}
+use Rattle.sequence_build_laws.specs.declared.SeqCode.{SeqCode}
+use Rattle.sequence_build_laws.specs.declared.Program.{Program}
+use Rattle.sequence_build_laws.specs.Blocks.{blocks}
+use Rattle.sequence_build_laws.specs.Instructions.{reads, writes, Reader, readers_from, waits_for, len_in}
+use Rattle.sequence_build_laws.specs.MicroSteps.{is_on, sent_len, longest_sent, longest_on}
+use Rattle.sequence_build_laws.proofs.Expanding.{blocks_length}
+use Rattle.sequence_build_laws.proofs.MicroCounts.{first_off}
+use Rattle.sequence_build_laws.proofs.Reading.{any_at, any_of, from_readers, in_all}
 use Rattle.sequence_build_laws.specs.Serial.{Step, step, projection, codes}
 use Rattle.sequence_build_laws.proofs.Lists.{get_some}
 use Rattle.sequence_build_laws.proofs.Guards.{in_blocks}

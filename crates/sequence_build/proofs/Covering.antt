@@ -4,20 +4,20 @@ use Rattle.std.specs.Prelude.{slice_get, nat_le}
 use Rattle.std.specs.List.{list_all}
 use Rattle.std.proofs.lemmas.Bool.{and_parts, leb-true}
 use Rattle.std.proofs.lemmas.Option.{same_Some, slice_get_within}
-use Rattle.flat_graph.specs.declared.vertex.Vertex.{Vertex}
-use Rattle.flat_graph.specs.Graph.{Graph, lens_of}
-use Rattle.flat_graph.specs.Order.{is_acyclic}
-use Rattle.flat_graph.specs.Valid.{is_flat, is_vertex, is_path, is_len, is_guard, fits, has_twin, are_named_apart, all_from, sensors_from, actuators_from, kinds_of}
-use Rattle.flat_graph.proofs.Facts.{vertex_valid}
-use Rattle.archi_graph.specs.Archi.{Architecture, is_archi, is_medium, are_bounded, are_distinct, names_of, are_joined, stands_in_all}
-use Rattle.archi_graph.specs.Sequences.{sequences}
-use Rattle.schedule.specs.declared.decision.Schedule.{Schedule}
-use Rattle.schedule.specs.Acts.{Act, carry, run, acts, Copy, copy, outputs_of, made_by}
-use Rattle.schedule.specs.Valid.{is_valid}
-use Rattle.executive_program.specs.declared.program.Buffer.{Buffer}
-use Rattle.executive_program.specs.Instructions.{turn_of}
-use Rattle.executive_program.specs.WellFormed.{Stands}
-use Rattle.executive_program.proofs.Reading.{writes_of}
+use Rattle.sequence_build_laws.specs.declared.Vertex.{Vertex}
+use Rattle.sequence_build_laws.specs.Graph.{Graph, lens_of}
+use Rattle.sequence_build_laws.specs.FlatOrder.{is_acyclic}
+use Rattle.sequence_build_laws.specs.FlatValid.{is_flat, is_vertex, is_path, is_len, is_guard, fits, has_twin, are_named_apart, all_from, sensors_from, actuators_from, kinds_of}
+use Rattle.sequence_build_laws.proofs.Facts.{vertex_valid}
+use Rattle.sequence_build_laws.specs.Archi.{Architecture, is_archi, is_medium, are_bounded, are_distinct, names_of, are_joined, connections_in}
+use Rattle.sequence_build_laws.specs.Sequences.{sequences}
+use Rattle.sequence_build_laws.specs.declared.Schedule.{Schedule}
+use Rattle.sequence_build_laws.specs.Acts.{Act, carry, run, acts, Copy, copy, outputs_of, made_by}
+use Rattle.sequence_build_laws.specs.ScheduleValid.{is_valid}
+use Rattle.sequence_build_laws.specs.declared.Buffer.{Buffer}
+use Rattle.sequence_build_laws.specs.Instructions.{turn_of}
+use Rattle.sequence_build_laws.specs.WellFormed.{Stands}
+use Rattle.sequence_build_laws.proofs.Reading.{writes_of}
 use Rattle.sequence_build_laws.specs.Serial.{copies, buffer, plain_steps, plain_program}
 use Rattle.sequence_build_laws.proofs.Lists.{in_flat, from_map}
 use Rattle.sequence_build_laws.proofs.Loops as loops
@@ -51,7 +51,7 @@ few_operators a h =
     let joined = and_parts _ (are_joined (length a.operators) a.media) h in
     let distinct = and_parts _ (are_distinct (names_of a.operators a.media)) joined.0 in
     let media = and_parts (are_bounded a.operators a.media) (list_all (is_medium (length a.operators)) a.media) distinct.0 in
-    let stands = and_parts _ (nat_le (stands_in_all a.media) 64) media.0 in
+    let stands = and_parts _ (nat_le (connections_in a.media) 64) media.0 in
     let many = and_parts _ (nat_le (length a.media) 16) stands.0 in
     leb-true (length a.operators) 16 (and_parts (nat_le 1 (length a.operators)) (nat_le (length a.operators) 16) many.0).1
 

@@ -4,11 +4,15 @@ use Rattle.std.specs.Prelude.{slice_get, slice_set}
 use Rattle.std.specs.List.{list_any}
 use Rattle.std.proofs.lemmas.Bool.{false≢true, eqb-true, cases_Bool}
 use Rattle.std.proofs.lemmas.Option.{same_Some}
-use Rattle.executive_program.specs.declared.program.Buffer.{Buffer}
-use Rattle.executive_program.specs.Instructions.{Reader}
+use Rattle.sequence_build_laws.specs.declared.Buffer.{Buffer}
+use Rattle.sequence_build_laws.specs.Instructions.{Reader}
 use Rattle.sequence_build_laws.specs.Guarded.{guarded_buffers}
 use Rattle.sequence_build.specs.declared.pairs.Pair.{Pair}
-use Rattle.sequence_build.specs.Pairs.{deep_buffer, deepened, reader_of}
+use Rattle.sequence_build.specs.Pairs.{deep_buffer, deepened}
+
+-- The entry of the readers that a pair is.
+abbrev pub reader_of : Pair → Reader
+reader_of p = record { buffer = p.buffer; sequence = p.reader }
 
 -- with this many places, where the test says so
 abbrev deep : ℕ → Bool → Option Buffer → Option Buffer

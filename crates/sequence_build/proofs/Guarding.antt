@@ -6,23 +6,23 @@ use Rattle.std.proofs.lemmas.Bool.{false≢true, eqb-true, ne_eqb}
 use Rattle.std.proofs.lemmas.Option.{same_Some}
 use Rattle.std.proofs.lemmas.List.{append_assoc}
 use Rattle.std.proofs.Math.Seq.{take-append_seam, drop-append_seam}
-use Rattle.executive_program.specs.declared.program.Instr.{Instr}
-use Rattle.executive_program.specs.declared.program.Instr.TheVariants.{Suc0, Suc1, Pre0, Pre1}
-use Rattle.executive_program.specs.declared.program.SeqCode.{SeqCode}
-use Rattle.executive_program.specs.declared.program.Program.{Program}
-use Rattle.executive_program.specs.Blocks.{repeated}
-use Rattle.executive_program.specs.Instructions.{reads, Reader, readers}
+use Rattle.sequence_build_laws.specs.declared.Instr.{Instr}
+use Rattle.sequence_build_laws.specs.declared.Instr.TheVariants.{Suc0, Suc1, Pre0, Pre1}
+use Rattle.sequence_build_laws.specs.declared.SeqCode.{SeqCode}
+use Rattle.sequence_build_laws.specs.declared.Program.{Program}
+use Rattle.sequence_build_laws.specs.Blocks.{repeated}
+use Rattle.sequence_build_laws.specs.Instructions.{reads, Reader, readers}
 use Rattle.sequence_build_laws.specs.InTurn.{Standing, in_turn_after}
 use Rattle.sequence_build_laws.specs.Serial.{numbers_where, pairs_where}
 use Rattle.sequence_build_laws.specs.Guarded.{is_first, is_last, fills, lines_at, guarded_loop, opening, guarded_codes}
 use Rattle.sequence_build_laws.proofs.Lists.{get_past}
 use Rattle.sequence_build.specs.declared.pairs.Pair.{Pair}
 use Rattle.sequence_build.specs.declared.around.Moment.TheVariants.{FirstRead, LastRead, Write}
-use Rattle.sequence_build.specs.Uses.{first_from, last_from}
-use Rattle.sequence_build.specs.Pairs.{plain_pairs, reader_of}
+use Rattle.sequence_build.specs.Pairs.{plain_pairs}
 use Rattle.sequence_build.specs.Around.{is_at, is_then, lines_with, loop_with, opening_with, codes_with}
-use Rattle.sequence_build.proofs.Places.{first_is, last_is_at}
+use Rattle.sequence_build.proofs.Places.{first_is, last_is_at, first_from, last_from}
 use Rattle.sequence_build.proofs.Pairing.{WritesOnce, OfPair, of_pair, written_is, readers_are}
+use Rattle.sequence_build.proofs.Deepening.{reader_of}
 
 numbers-map : {A B : Type 0} (p : B → Bool) (f : A → B) (n : ℕ) (xs : List A) → numbers_where p n (map f xs) ≡ numbers_where (λ x. p (f x)) n xs
 numbers-map p f n [] = refl

@@ -5,30 +5,30 @@ use Rattle.std.specs.List.{flat_map, sum_by}
 use Rattle.std.proofs.lemmas.Bool.{cases_lt}
 use Rattle.std.proofs.lemmas.Option.{slice_get_past}
 use Rattle.std.proofs.lemmas.List.{length-map}
-use Rattle.flat_graph.specs.Graph.{Graph}
-use Rattle.flat_graph.specs.Valid.{is_flat}
-use Rattle.archi_graph.specs.Archi.{Architecture, is_archi, is_depth}
-use Rattle.archi_graph.specs.Sequences.{sequences}
-use Rattle.archi_graph.specs.declared.medium.Seq.{Seq}
-use Rattle.schedule.specs.declared.decision.Decision.{Decision}
-use Rattle.schedule.specs.declared.decision.Schedule.{Schedule}
-use Rattle.schedule.specs.declared.decision.Transfer.{Transfer}
-use Rattle.schedule.specs.Acts.{Act, carry, run, acts, acts_of, Copy, copy}
 use Rattle.syn_base.specs.declared.limits.LimitKind.{LimitKind}
-use Rattle.syn_base.specs.Limits.{bound_of}
+use Rattle.syn_base.specs.Limits.{bound_of, above}
 use Rattle.syn_base.specs.declared.limits.LimitKind.TheVariants.{Words, MicroSteps}
 use Rattle.syn_base.specs.declared.limits.LimitFault.{LimitFault}
-use Rattle.interleavings.specs.Owners.{sum_below}
-use Rattle.interleavings.proofs.Sums.{same_below}
-use Rattle.executive_program.specs.declared.program.Program.{Program}
-use Rattle.executive_program.specs.Instructions.{Reader, len_in, len_of, depth_in, depth_of, depth_at, pair_depth}
-use Rattle.executive_program.specs.Places.{reader}
-use Rattle.executive_program.specs.MicroSteps.{is_on, longest_on, wire_len, words}
-use Rattle.executive_program.specs.Sizes.{looks_at, turn_looks}
-use Rattle.executive_program.specs.Steps.{all_turns}
-use Rattle.executive_program.specs.WellFormed.{IsOrder}
-use Rattle.executive_program.proofs.DeepPairs.{looks_are}
-use Rattle.executive_program.proofs.MicroCounts.{all_turns_size, constant}
+use Rattle.sequence_build_laws.specs.Graph.{Graph}
+use Rattle.sequence_build_laws.specs.FlatValid.{is_flat}
+use Rattle.sequence_build_laws.specs.Archi.{Architecture, is_archi, is_depth}
+use Rattle.sequence_build_laws.specs.Sequences.{sequences}
+use Rattle.sequence_build_laws.specs.declared.Seq.{Seq}
+use Rattle.sequence_build_laws.specs.declared.Decision.{Decision}
+use Rattle.sequence_build_laws.specs.declared.Schedule.{Schedule}
+use Rattle.sequence_build_laws.specs.declared.Transfer.{Transfer}
+use Rattle.sequence_build_laws.specs.Acts.{Act, carry, run, acts, acts_of, Copy, copy}
+use Rattle.sequence_build_laws.specs.Owners.{sum_below}
+use Rattle.sequence_build_laws.proofs.InterleavingSums.{same_below}
+use Rattle.sequence_build_laws.specs.declared.Program.{Program}
+use Rattle.sequence_build_laws.specs.Instructions.{Reader, len_in, len_of, depth_in, depth_of, depth_at, pair_depth}
+use Rattle.sequence_build_laws.specs.Places.{reader}
+use Rattle.sequence_build_laws.specs.MicroSteps.{is_on, longest_on, wire_len, words}
+use Rattle.sequence_build_laws.specs.Sizes.{looks_at, turn_looks}
+use Rattle.sequence_build_laws.specs.Steps.{all_turns}
+use Rattle.sequence_build_laws.specs.WellFormed.{IsOrder}
+use Rattle.sequence_build_laws.proofs.DeepPairs.{looks_are}
+use Rattle.sequence_build_laws.proofs.MicroCounts.{all_turns_size, constant}
 use Rattle.sequence_build_laws.specs.Serial.{Step, buffer, buffer_for, copies, number_of, numbers_where, is_other, pairs, plain_program, plain_steps, steps_of}
 use Rattle.sequence_build_laws.specs.Built.{is_guarded, operator_of, order_of, program_of}
 use Rattle.sequence_build_laws.proofs.Guards as guards
@@ -39,7 +39,7 @@ use Rattle.sequence_build_laws.proofs.Whole as whole
 use Rattle.sequence_build.specs.declared.site.Site.{Site}
 use Rattle.sequence_build.specs.Answers.{IsValid}
 use Rattle.sequence_build.specs.Counted.{all_micros, all_words, buffer_sum, limit_of, longest, pair_micros, step_micros, carried_len, IsLimit, IsLimitOf}
-use Rattle.sequence_build.specs.Limit.{above, program_limit}
+use Rattle.sequence_build.specs.Limit.{program_limit}
 use Rattle.sequence_build.specs.Pairs.{plain_pairs}
 use Rattle.sequence_build.specs.Plain.{numbering, steps_at, steps_of as steps_by}
 use Rattle.sequence_build.specs.Touched.{Counts, readers_in}

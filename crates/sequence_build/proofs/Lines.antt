@@ -5,22 +5,22 @@ use Rattle.std.specs.List.{sum_by, filter}
 use Rattle.std.proofs.lemmas.Bool.{false≢true, cases_eq, cases_lt, eq-eqb, ne_eqb}
 use Rattle.std.proofs.lemmas.List.Sums.{sum_by-cons, sum_by-append}
 use Rattle.std.proofs.lemmas.Option.{slice_get_past}
-use Rattle.archi_graph.specs.declared.medium.Seq.{Seq}
-use Rattle.flat_graph.specs.Graph.{Graph}
-use Rattle.interleavings.specs.Owners.{sum_below}
-use Rattle.interleavings.proofs.Sums.{same_below, none_below, both_below}
-use Rattle.executive_program.specs.declared.program.Instr.{Instr}
-use Rattle.executive_program.specs.declared.program.Instr.TheVariants.{Suc0, Suc1, Pre0, Pre1, Call, Send, Recv, Sync}
-use Rattle.executive_program.specs.declared.program.SeqCode.{SeqCode}
-use Rattle.executive_program.specs.declared.program.Program.{Program}
-use Rattle.executive_program.specs.Instructions.{turn, turn_of, len_of}
-use Rattle.executive_program.specs.Places.{takes_empty, takes_full, signals_empty, signals_full, pair, places}
-use Rattle.executive_program.specs.Sizes.{plain_of, plain_in, plain_turns}
-use Rattle.executive_program.specs.Steps.{len_by, len_at, elements_in}
-use Rattle.executive_program.specs.WellFormed.{IsOrder, IsOnly, NamesIn, Stands, writer_of}
-use Rattle.executive_program.proofs.MicroCounts.{by_place, sum_of_sums, constant}
-use Rattle.executive_program.proofs.Passing.{empty_taken, full_taken, empty_signalled, full_signalled}
-use Rattle.executive_program.proofs.Sums.{swapped, picked, summed, none_passes, one_passes}
+use Rattle.sequence_build_laws.specs.declared.Seq.{Seq}
+use Rattle.sequence_build_laws.specs.Graph.{Graph}
+use Rattle.sequence_build_laws.specs.Owners.{sum_below}
+use Rattle.sequence_build_laws.proofs.InterleavingSums.{same_below, none_below, both_below}
+use Rattle.sequence_build_laws.specs.declared.Instr.{Instr}
+use Rattle.sequence_build_laws.specs.declared.Instr.TheVariants.{Suc0, Suc1, Pre0, Pre1, Call, Send, Recv, Sync}
+use Rattle.sequence_build_laws.specs.declared.SeqCode.{SeqCode}
+use Rattle.sequence_build_laws.specs.declared.Program.{Program}
+use Rattle.sequence_build_laws.specs.Instructions.{turn, turn_of, len_of, len_by}
+use Rattle.sequence_build_laws.specs.Places.{takes_empty, takes_full, signals_empty, signals_full, pair, places}
+use Rattle.sequence_build_laws.specs.Sizes.{plain_of, plain_in, plain_turns}
+use Rattle.sequence_build_laws.specs.Steps.{len_at, elements_in}
+use Rattle.sequence_build_laws.specs.WellFormed.{IsOrder, IsOnly, NamesIn, Stands, writer_of}
+use Rattle.sequence_build_laws.proofs.MicroCounts.{by_place, sum_of_sums, constant}
+use Rattle.sequence_build_laws.proofs.Passing.{empty_taken, full_taken, empty_signalled, full_signalled}
+use Rattle.sequence_build_laws.proofs.Sums.{swapped, picked, summed, none_passes, one_passes}
 use Rattle.sequence_build_laws.specs.Serial.{Step, projection, codes, numbers_where}
 use Rattle.sequence_build_laws.proofs.Lines.{is_plain}
 use Rattle.sequence_build.specs.declared.pairs.Pair.{Pair}

@@ -4,14 +4,14 @@ use Rattle.std.specs.List.{flat_map, sum_by}
 use Rattle.std.proofs.lemmas.List.{append-nil, drop_more}
 use Rattle.std.proofs.lemmas.List.Concat.{flat_map-append}
 use Rattle.std.proofs.lemmas.List.Sums.{sum_by-cons, sum_by-append}
-use Rattle.schedule.specs.declared.decision.Decision.{Decision}
-use Rattle.schedule.specs.declared.decision.Transfer.{Transfer}
-use Rattle.schedule.specs.Acts.{Act, carry, run, acts_of, Copy, copy, read_by, made_by}
-use Rattle.executive_program.specs.declared.program.Instr.TheVariants.{Call, Send, Recv, Sync}
-use Rattle.executive_program.specs.declared.program.Program.{Program}
-use Rattle.executive_program.specs.Instructions.{len_of}
-use Rattle.executive_program.specs.Sizes.{plain_of}
-use Rattle.executive_program.specs.Steps.{elements_in}
+use Rattle.sequence_build_laws.specs.declared.Decision.{Decision}
+use Rattle.sequence_build_laws.specs.declared.Transfer.{Transfer}
+use Rattle.sequence_build_laws.specs.Acts.{Act, carry, run, acts_of, Copy, copy, read_by, made_by}
+use Rattle.sequence_build_laws.specs.declared.Instr.TheVariants.{Call, Send, Recv, Sync}
+use Rattle.sequence_build_laws.specs.declared.Program.{Program}
+use Rattle.sequence_build_laws.specs.Instructions.{len_of}
+use Rattle.sequence_build_laws.specs.Sizes.{plain_of}
+use Rattle.sequence_build_laws.specs.Steps.{elements_in}
 use Rattle.sequence_build_laws.specs.Serial.{Step, step, numbers_where, is_other}
 use Rattle.sequence_build.specs.declared.site.Site.{Site}
 use Rattle.sequence_build.specs.Counted.{carried_len, longest, step_micros}

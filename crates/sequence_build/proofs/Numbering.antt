@@ -6,8 +6,8 @@ use Rattle.std.specs.Cmp.Derive.{both_true}
 use Rattle.std.proofs.lemmas.Bool.{and_parts, eqb-true, ltb-true, cases_Bool, cases_lt, lt-ltb, le-leb}
 use Rattle.std.proofs.lemmas.List.{get_or_past}
 use Rattle.std.proofs.lemmas.Nat.{mul-add-lt, div-mul-add, mod-mul-add}
-use Rattle.schedule.specs.Acts.{Copy, same_copy}
-use Rattle.schedule.proofs.Copies.{copy_is, same_bool}
+use Rattle.sequence_build_laws.specs.Acts.{Copy, same_copy}
+use Rattle.sequence_build_laws.proofs.Copies.{copy_is, same_bool}
 use Rattle.sequence_build.specs.Numbers.{covers, place, number_in, IsCovered, AreCovered}
 
 position-map : {A B : Type 0} (p : B → Bool) (f : A → B) (xs : List A) → position_or_len p (map f xs) ≡ position_or_len (λ x. p (f x)) xs

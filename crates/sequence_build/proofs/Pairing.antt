@@ -5,21 +5,23 @@ use Rattle.std.specs.List.{list_any}
 use Rattle.std.proofs.lemmas.Bool.{false≢true, eqb-true, cases_Bool, and_parts}
 use Rattle.std.proofs.lemmas.Option.{same_Some}
 use Rattle.std.proofs.lemmas.List.{map-append}
-use Rattle.schedule.proofs.Copies.{same_bool}
-use Rattle.executive_program.specs.declared.program.Instr.{Instr}
-use Rattle.executive_program.specs.declared.program.SeqCode.{SeqCode}
-use Rattle.executive_program.specs.declared.program.Program.{Program}
-use Rattle.executive_program.specs.Blocks.{blocks}
-use Rattle.executive_program.specs.Instructions.{reads, writes, Reader, readers_from, readers}
-use Rattle.executive_program.proofs.Reading.{any_at, any_of}
+use Rattle.sequence_build_laws.proofs.Copies.{same_bool}
+use Rattle.sequence_build_laws.specs.declared.Instr.{Instr}
+use Rattle.sequence_build_laws.specs.declared.SeqCode.{SeqCode}
+use Rattle.sequence_build_laws.specs.declared.Program.{Program}
+use Rattle.sequence_build_laws.specs.Blocks.{blocks}
+use Rattle.sequence_build_laws.specs.Instructions.{reads, writes, Reader, readers_from, readers}
+use Rattle.sequence_build_laws.proofs.Reading.{any_at, any_of}
 use Rattle.sequence_build_laws.proofs.Guards.{in_blocks}
 use Rattle.sequence_build.specs.declared.uses.Use.{Use}
 use Rattle.sequence_build.specs.declared.uses.Place.{Place}
 use Rattle.sequence_build.specs.declared.pairs.Pair.{Pair}
-use Rattle.sequence_build.specs.Uses.{use_of, uses_at, write_at, uses_by, write_by, first_from, last_from}
-use Rattle.sequence_build.specs.Pairs.{is_in, pairs_with, pairs_below, pairs_at, plain_pairs, reader_of}
+use Rattle.sequence_build.specs.Uses.{use_of, uses_at, write_at, uses_by, write_by}
+use Rattle.sequence_build.specs.Pairs.{is_in, pairs_with, pairs_below, pairs_at, plain_pairs}
 use Rattle.sequence_build.specs.Around.{is_at}
 use Rattle.sequence_build.proofs.Sequencing.{all_uses, uses_from_none, write_found, write_there}
+use Rattle.sequence_build.proofs.Places.{first_from, last_from}
+use Rattle.sequence_build.proofs.Deepening.{reader_of}
 
 readers_same : (b s : ℕ) (w : Option Place) (qs : List SeqCode) → ((i : ℕ) (q : SeqCode) → slice_get qs i ≡ Some q → is_in w (s + i) ≡ list_any (writes b) q.turn)
     → map reader_of (pairs_with b w (all_uses (reads b) s qs)) ≡ readers_from s qs b

@@ -7,7 +7,20 @@ use Rattle.std.proofs.lemmas.Option.{same_Some}
 use Rattle.std.proofs.lemmas.List.{append-nil}
 use Rattle.std.proofs.Math.Bool.{and-false}
 use Rattle.sequence_build.specs.declared.uses.Use.{Use}
-use Rattle.sequence_build.specs.Uses.{use_of, is_by, prolonged, last_of, noted, uses_in, first_from, last_from}
+use Rattle.sequence_build.specs.Uses.{use_of, is_by, prolonged, last_of, noted, uses_in}
+
+module _ {A : Type 0} (test : A → Bool) where
+  -- The place of the first of these that passes the test, if the first of all has place `at`; the place
+  -- after them if none does.
+  abbrev pub first_from : ℕ → List A → ℕ
+  first_from at [] = at
+  first_from at (x ∷ xs) = cond (test x) at (first_from (suc at) xs)
+
+  -- The place of the last of these that passes the test, if the first of all has place `at`, and
+  -- otherwise `least`.
+  abbrev pub last_from : ℕ → ℕ → List A → ℕ
+  last_from least at [] = least
+  last_from least at (x ∷ xs) = last_from (cond (test x) at least) (suc at) xs
 
 last_index : {A : Type 0} (xs : List A) (x : A) → length (xs ++ x ∷ []) - 1 ≡ length xs
 last_index xs x = let e = length-append xs (x ∷ []) in omega arith

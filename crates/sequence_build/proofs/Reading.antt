@@ -4,12 +4,12 @@ use Rattle.std.specs.Prelude.{slice_get, slice_set, slice_index_or}
 use Rattle.std.proofs.Math.Seq.{drop-cons}
 use Rattle.std.proofs.lemmas.Bool.{false≢true, eqb-true, cases_Bool}
 use Rattle.std.proofs.lemmas.List.{append-nil, map-append}
-use Rattle.flat_graph.specs.declared.vertex.Guard.{Guard}
-use Rattle.flat_graph.specs.declared.vertex.Source.{Source}
-use Rattle.flat_graph.specs.declared.vertex.Vertex.{Vertex}
-use Rattle.schedule.specs.declared.decision.Decision.{Decision}
-use Rattle.schedule.specs.Acts.{run, Copy, copy, read_by, made_by, outputs_from, outputs_of, sources_of}
-use Rattle.executive_program.specs.declared.program.Instr.{Instr}
+use Rattle.sequence_build_laws.specs.declared.Guard.{Guard}
+use Rattle.sequence_build_laws.specs.declared.Source.{Source}
+use Rattle.sequence_build_laws.specs.declared.Vertex.{Vertex}
+use Rattle.sequence_build_laws.specs.declared.Decision.{Decision}
+use Rattle.sequence_build_laws.specs.Acts.{run, Copy, copy, read_by, made_by, outputs_from, outputs_of, sources_of}
+use Rattle.sequence_build_laws.specs.declared.Instr.{Instr}
 use Rattle.sequence_build_laws.proofs.Guards.{map-map}
 use Rattle.sequence_build.specs.Plain.{loop_at, elements, outs_in, guards_in, ins_in}
 use Rattle.sequence_build.proofs.Deepening.{set_here, set_there}

@@ -7,10 +7,10 @@ use Rattle.std.proofs.lemmas.Option.{same_Some}
 use Rattle.std.proofs.lemmas.List.{append-nil}
 use Rattle.sequence_build.specs.declared.uses.Use.{Use}
 use Rattle.sequence_build.specs.declared.uses.Place.{Place}
-use Rattle.executive_program.specs.declared.program.Instr.{Instr}
-use Rattle.executive_program.specs.declared.program.SeqCode.{SeqCode}
-use Rattle.sequence_build.specs.Uses.{use_of, place_of, is_by, last_of, uses_by, write_in, write_by, first_from, last_from}
-use Rattle.sequence_build.proofs.Places.{IsFresh, uses_are, use_in, last_is}
+use Rattle.sequence_build_laws.specs.declared.Instr.{Instr}
+use Rattle.sequence_build_laws.specs.declared.SeqCode.{SeqCode}
+use Rattle.sequence_build.specs.Uses.{use_of, place_of, is_by, last_of, uses_by, write_in, write_by}
+use Rattle.sequence_build.proofs.Places.{IsFresh, uses_are, use_in, last_is, first_from, last_from}
 
 -- none of the sequences from this one on is the last of these
 abbrev AreFresh : ℕ → List Use → Type 0

@@ -8,21 +8,33 @@ use Rattle.std.proofs.lemmas.List.{drop_all, drop_more, get_or-replicate, length
 use Rattle.std.proofs.lemmas.List.Folds.{list_any-append}
 use Rattle.std.proofs.lemmas.Nat.{mul-add-lt, div-mul-add, mod-mul-add}
 use Rattle.std.proofs.Math.Nat.{mul_comm}
-use Rattle.executive_program.specs.declared.program.Instr.{Instr}
-use Rattle.executive_program.specs.declared.program.Instr.TheVariants.{Sync}
-use Rattle.executive_program.specs.Instructions.{reads, writes}
-use Rattle.executive_program.proofs.Marks.{put_at}
-use Rattle.interleavings.specs.Owners.{sum_below}
-use Rattle.interleavings.proofs.Sums.{same_below}
-use Rattle.schedule.specs.declared.decision.Decision.{Decision}
-use Rattle.schedule.specs.declared.decision.Transfer.{Transfer}
-use Rattle.schedule.specs.Acts.{carry, run, copy, read_by, made_by}
-use Rattle.schedule.proofs.Copies.{same_bool}
+use Rattle.sequence_build_laws.specs.declared.Instr.{Instr}
+use Rattle.sequence_build_laws.specs.declared.Instr.TheVariants.{Sync}
+use Rattle.sequence_build_laws.specs.Instructions.{reads, writes}
+use Rattle.sequence_build_laws.proofs.Marks.{put_at}
+use Rattle.sequence_build_laws.specs.Owners.{sum_below}
+use Rattle.sequence_build_laws.proofs.InterleavingSums.{same_below}
+use Rattle.sequence_build_laws.specs.declared.Decision.{Decision}
+use Rattle.sequence_build_laws.specs.declared.Transfer.{Transfer}
+use Rattle.sequence_build_laws.specs.Acts.{carry, run, copy, read_by, made_by}
+use Rattle.sequence_build_laws.proofs.Copies.{same_bool}
 use Rattle.sequence_build_laws.specs.Serial.{Step, step, numbers_where, is_other}
 use Rattle.sequence_build.specs.declared.site.Site.{Site}
 use Rattle.sequence_build.specs.declared.touched.Touched.{Touched}
-use Rattle.sequence_build.specs.Touched.{reads_in, writes_in, mark_at, put_in, readers_of, waits, Counts, IsNoted, Puts, PutsUp, Notes, NotesUp}
+use Rattle.sequence_build.specs.Touched.{reads_in, writes_in, mark_at, put_in, readers_of, waits, Counts, IsNoted, Puts, Notes}
 use Rattle.sequence_build.specs.Plain.{numbering, sequence_of, steps_at}
+
+-- The marks that were put come, with those that are left, to the whole.
+pub record PutsUp (width : ℕ) (old new : List Bool) (left whole : ℕ → ℕ → Bool) : Type 0 where
+  pub many : length new ≡ length old
+  pub marks : (b s : ℕ) → s < width → b * width + s < length old →
+      (left b s || mark_at width new b s) ≡ (whole b s || mark_at width old b s)
+
+-- What was noted comes, with what is left, to the whole.
+pub record NotesUp (old new : Touched) (left whole : List Step) : Type 0 where
+  pub width : new.width ≡ old.width
+  pub reads : PutsUp old.width old.reads.items new.reads.items (reads_in left) (reads_in whole)
+  pub writes : PutsUp old.width old.writes.items new.writes.items (writes_in left) (writes_in whole)
 
 -- tests in another order
 swap_or : (x y z : Bool) → (x || (y || z)) ≡ ((y || x) || z)

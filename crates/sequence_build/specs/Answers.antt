@@ -1,12 +1,12 @@
 -- What `build` answers.
 use Rattle.std.specs.Prelude.{◌≡◌, ℕ, true, length, Option, Some, None}
-use Rattle.flat_graph.specs.Graph.{Graph}
-use Rattle.archi_graph.specs.Archi.{Architecture}
-use Rattle.archi_graph.specs.Sequences.{sequences}
-use Rattle.schedule.specs.declared.decision.Schedule.{Schedule}
-use Rattle.schedule.specs.Valid.{is_valid}
-use Rattle.executive_program.specs.declared.program.Program.{Program}
-use Rattle.executive_program.specs.WellFormed.{IsOrder}
+use Rattle.sequence_build_laws.specs.Graph.{Graph}
+use Rattle.sequence_build_laws.specs.Archi.{Architecture}
+use Rattle.sequence_build_laws.specs.Sequences.{sequences}
+use Rattle.sequence_build_laws.specs.declared.Schedule.{Schedule}
+use Rattle.sequence_build_laws.specs.ScheduleValid.{is_valid}
+use Rattle.sequence_build_laws.specs.declared.Program.{Program}
+use Rattle.sequence_build_laws.specs.WellFormed.{IsOrder}
 use Rattle.sequence_build_laws.specs.Built.{program_of, order_of}
 use Rattle.sequence_build.specs.declared.error.BuildError.{BuildError}
 use Rattle.sequence_build.specs.declared.error.BuildError.TheVariants.{Limit, OutOfMemory}

@@ -21,9 +21,9 @@ use Rattle.std.specs.Prelude.{
 }
 use Rattle.std.specs.List.{flat_map}
 use Rattle.std.specs.Global.{Vec}
-use Rattle.executive_program.specs.declared.program.Instr.{Instr}
-use Rattle.executive_program.specs.declared.program.Instr.TheVariants.{Suc0, Suc1, Pre0, Pre1}
-use Rattle.executive_program.specs.declared.program.SeqCode.{SeqCode}
+use Rattle.sequence_build_laws.specs.declared.Instr.{Instr}
+use Rattle.sequence_build_laws.specs.declared.Instr.TheVariants.{Suc0, Suc1, Pre0, Pre1}
+use Rattle.sequence_build_laws.specs.declared.SeqCode.{SeqCode}
 use Rattle.sequence_build_laws.specs.Serial.{numbers_where}
 use Rattle.sequence_build.specs.declared.uses.Place.{Place}
 use Rattle.sequence_build.specs.declared.pairs.Pair.{Pair}

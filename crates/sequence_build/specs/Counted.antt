@@ -18,23 +18,23 @@ use Rattle.std.specs.Prelude.{
   None,
 }
 use Rattle.std.specs.List.{flat_map, sum_by}
-use Rattle.interleavings.specs.Owners.{sum_below}
 use Rattle.syn_base.specs.declared.limits.LimitKind.TheVariants.{Words, MicroSteps}
 use Rattle.syn_base.specs.declared.limits.LimitFault.{LimitFault}
-use Rattle.flat_graph.specs.Graph.{Graph}
-use Rattle.archi_graph.specs.Archi.{Architecture}
-use Rattle.archi_graph.specs.Sequences.{sequences}
-use Rattle.schedule.specs.declared.decision.Schedule.{Schedule}
-use Rattle.schedule.specs.Acts.{Act, carry, run, acts, Copy, copy}
-use Rattle.executive_program.specs.declared.program.Buffer.{Buffer}
-use Rattle.executive_program.specs.declared.program.Program.{Program}
-use Rattle.executive_program.specs.Instructions.{len_of}
-use Rattle.executive_program.specs.Sizes.{plain_of, looks_at}
+use Rattle.sequence_build_laws.specs.Owners.{sum_below}
+use Rattle.sequence_build_laws.specs.Graph.{Graph}
+use Rattle.sequence_build_laws.specs.Archi.{Architecture}
+use Rattle.sequence_build_laws.specs.Sequences.{sequences}
+use Rattle.sequence_build_laws.specs.declared.Schedule.{Schedule}
+use Rattle.sequence_build_laws.specs.Acts.{Act, carry, run, acts, Copy, copy}
+use Rattle.sequence_build_laws.specs.declared.Buffer.{Buffer}
+use Rattle.sequence_build_laws.specs.declared.Program.{Program}
+use Rattle.sequence_build_laws.specs.Instructions.{len_of}
+use Rattle.sequence_build_laws.specs.Sizes.{plain_of, looks_at}
 use Rattle.sequence_build_laws.specs.Serial.{Step, copies, buffer_for, plain_steps}
 use Rattle.sequence_build.specs.declared.site.Site.{Site}
-use Rattle.sequence_build.specs.Limit.{above}
 use Rattle.sequence_build.specs.Plain.{numbering, steps_at}
 use Rattle.sequence_build.specs.Touched.{Counts}
+use Rattle.syn_base.specs.Limits.{above}
 
 -- In a program with these buffers, where a copy's buffer has the number that a function gives it.
 module _ (p : Program) (number : Copy → ℕ) where

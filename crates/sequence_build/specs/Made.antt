@@ -1,9 +1,9 @@
 -- What was made so far: a buffer for each copy, and its place in a table.
 use Rattle.std.specs.Prelude.{◌≡◌, List, ◌++◌, map, length}
-use Rattle.flat_graph.specs.declared.vertex.Vertex.{Vertex}
-use Rattle.flat_graph.specs.Graph.{len_of}
-use Rattle.schedule.specs.Acts.{Copy}
-use Rattle.executive_program.specs.declared.program.Buffer.{Buffer}
+use Rattle.sequence_build_laws.specs.declared.Vertex.{Vertex}
+use Rattle.sequence_build_laws.specs.Graph.{len_of}
+use Rattle.sequence_build_laws.specs.Acts.{Copy}
+use Rattle.sequence_build_laws.specs.declared.Buffer.{Buffer}
 use Rattle.sequence_build.specs.declared.made.Made.{Made}
 use Rattle.sequence_build.specs.Numbers.{place}
 
@@ -14,9 +14,3 @@ buffer_of vertices c = record { operator = c.operator; len = len_of vertices c.s
 pub record Makes (vertices : List Vertex) (old new : Made) (copies : List Copy) : Type 0 where
   pub buffers : new.buffers.items ≡ old.buffers.items ++ map (buffer_of vertices) copies
   pub places : new.places.items ≡ old.places.items ++ map (place (length vertices)) copies
-
--- what was made comes, with what is left, to the whole
-pub record ComesTo (vertices : List Vertex) (old new : Made) (left whole : List Copy) : Type 0 where
-  pub buffers : new.buffers.items ++ map (buffer_of vertices) left ≡ old.buffers.items ++ map (buffer_of vertices) whole
-  pub places : new.places.items ++ map (place (length vertices)) left ≡
-      old.places.items ++ map (place (length vertices)) whole

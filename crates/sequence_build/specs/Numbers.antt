@@ -16,7 +16,7 @@ use Rattle.std.specs.Prelude.{
   slice_get,
   slice_index_or,
 }
-use Rattle.schedule.specs.Acts.{Copy}
+use Rattle.sequence_build_laws.specs.Acts.{Copy}
 
 -- among this many operations, the copy has a place of its own
 abbrev pub covers : ℕ → Copy → Bool

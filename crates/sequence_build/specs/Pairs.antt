@@ -16,10 +16,10 @@ use Rattle.std.specs.Prelude.{
   slice_set,
 }
 use Rattle.std.specs.Global.{Vec}
-use Rattle.executive_program.specs.declared.program.Buffer.{Buffer}
-use Rattle.executive_program.specs.Blocks.{blocks}
-use Rattle.executive_program.specs.declared.program.Program.{Program}
-use Rattle.executive_program.specs.Instructions.{Reader, reads, writes}
+use Rattle.sequence_build_laws.specs.declared.Buffer.{Buffer}
+use Rattle.sequence_build_laws.specs.Blocks.{blocks}
+use Rattle.sequence_build_laws.specs.declared.Program.{Program}
+use Rattle.sequence_build_laws.specs.Instructions.{reads, writes}
 use Rattle.sequence_build.specs.declared.uses.Use.{Use}
 use Rattle.sequence_build.specs.declared.uses.Place.{Place}
 use Rattle.sequence_build.specs.declared.pairs.Pair.{Pair}
@@ -40,9 +40,6 @@ pairs_with b w (u ∷ us) =
 -- those of the first n buffers
 abbrev pub pairs_below : List (Vec Use) → List (Option Place) → ℕ → List Pair
 pairs_below uses writes n = blocks (λ b. pairs_with b (write_at writes b) (uses_at uses b)) n
-
-abbrev pub reader_of : Pair → Reader
-reader_of p = record { buffer = p.buffer; sequence = p.reader }
 
 -- a buffer with this many places, if it is there
 abbrev pub deep_buffer : ℕ → Option Buffer → List Buffer → ℕ → List Buffer

@@ -2,17 +2,17 @@
 use Rattle.std.specs.Prelude.{◌≡◌, ℕ, ◌<◌, List, [], ◌∷◌, ◌++◌, map, length, Option, Some, None, slice_get}
 use Rattle.std.specs.List.{position_or_len}
 use Rattle.std.specs.Global.{Vec}
-use Rattle.flat_graph.specs.declared.vertex.Guard.{Guard}
-use Rattle.flat_graph.specs.declared.vertex.Source.{Source}
-use Rattle.flat_graph.specs.declared.vertex.Vertex.{Vertex}
-use Rattle.archi_graph.specs.declared.medium.Seq.{Seq}
-use Rattle.schedule.specs.declared.decision.Transfer.{Transfer}
-use Rattle.schedule.specs.Acts.{Act, carry, run, Copy, copy, read_by, made_by}
-use Rattle.executive_program.specs.declared.program.Instr.{Instr}
-use Rattle.executive_program.specs.declared.program.SeqCode.{SeqCode}
-use Rattle.executive_program.specs.declared.program.Instr.TheVariants.{Call, Send, Recv, Sync}
 use Rattle.sequence_build.specs.declared.site.Site.{Site}
 use Rattle.sequence_build.specs.Numbers.{number_in}
+use Rattle.sequence_build_laws.specs.declared.Guard.{Guard}
+use Rattle.sequence_build_laws.specs.declared.Source.{Source}
+use Rattle.sequence_build_laws.specs.declared.Vertex.{Vertex}
+use Rattle.sequence_build_laws.specs.declared.Seq.{Seq}
+use Rattle.sequence_build_laws.specs.declared.Transfer.{Transfer}
+use Rattle.sequence_build_laws.specs.Acts.{Act, carry, run, Copy, copy, read_by, made_by}
+use Rattle.sequence_build_laws.specs.declared.Instr.{Instr}
+use Rattle.sequence_build_laws.specs.declared.SeqCode.{SeqCode}
+use Rattle.sequence_build_laws.specs.declared.Instr.TheVariants.{Call, Send, Recv, Sync}
 use Rattle.sequence_build_laws.specs.Serial.{Step, step, projection, numbers_where, same_seq, is_other}
 
 -- the number of an operator's sequence
@@ -49,11 +49,6 @@ Adds old new steps = (s : ℕ) → s < length old → loop_at new s ≡ loop_at 
 -- the loops are what these steps have of their sequences
 abbrev pub HasLoops : List (Vec Instr) → List Step → Type 0
 HasLoops loops steps = (s : ℕ) → s < length loops → loop_at loops s ≡ projection steps s
-
--- what was added comes, with what is left, to the whole
-abbrev pub ComesTo : List (Vec Instr) → List (Vec Instr) → List Step → List Step → Type 0
-ComesTo old new left whole = (s : ℕ) → s < length old →
-    loop_at new s ++ projection left s ≡ loop_at old s ++ projection whole s
 
 -- what the acts of a site add
 abbrev pub numbering : Site → Copy → ℕ

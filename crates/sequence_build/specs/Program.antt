@@ -1,6 +1,6 @@
 -- A program with its pairs, first without and then with the instructions of semaphores.
 use Rattle.std.specs.Prelude.{ℕ, List, map, slice_get}
-use Rattle.executive_program.specs.declared.program.Program.{Program}
+use Rattle.sequence_build_laws.specs.declared.Program.{Program}
 use Rattle.sequence_build_laws.specs.Guarded.{operator_in}
 use Rattle.sequence_build.specs.declared.pairs.Pair.{Pair}
 use Rattle.sequence_build.specs.Pairs.{deepened, plain_pairs}

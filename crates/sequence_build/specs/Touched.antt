@@ -20,8 +20,8 @@ use Rattle.std.specs.Prelude.{
   slice_set,
 }
 use Rattle.std.specs.List.{list_any}
-use Rattle.interleavings.specs.Owners.{sum_below}
-use Rattle.executive_program.specs.Instructions.{reads, writes}
+use Rattle.sequence_build_laws.specs.Owners.{sum_below}
+use Rattle.sequence_build_laws.specs.Instructions.{reads, writes}
 use Rattle.sequence_build_laws.specs.Serial.{Step}
 use Rattle.sequence_build.specs.declared.touched.Touched.{Touched}
 
@@ -52,23 +52,11 @@ pub record Puts (width : ℕ) (old new : List Bool) (test : ℕ → ℕ → Bool
   pub marks : (b s : ℕ) → s < width → b * width + s < length old →
       mark_at width new b s ≡ (test b s || mark_at width old b s)
 
--- what was put comes, with what is left, to the whole
-pub record PutsUp (width : ℕ) (old new : List Bool) (left whole : ℕ → ℕ → Bool) : Type 0 where
-  pub many : length new ≡ length old
-  pub marks : (b s : ℕ) → s < width → b * width + s < length old →
-      (left b s || mark_at width new b s) ≡ (whole b s || mark_at width old b s)
-
 -- what these steps read and write was noted
 pub record Notes (old new : Touched) (steps : List Step) : Type 0 where
   pub width : new.width ≡ old.width
   pub reads : Puts old.width old.reads.items new.reads.items (reads_in steps)
   pub writes : Puts old.width old.writes.items new.writes.items (writes_in steps)
-
--- what was noted comes, with what is left, to the whole
-pub record NotesUp (old new : Touched) (left whole : List Step) : Type 0 where
-  pub width : new.width ≡ old.width
-  pub reads : PutsUp old.width old.reads.items new.reads.items (reads_in left) (reads_in whole)
-  pub writes : PutsUp old.width old.writes.items new.writes.items (writes_in left) (writes_in whole)
 
 -- a sequence reads a buffer and does not write it
 abbrev pub waits : Touched → ℕ → ℕ → Bool

@@ -21,8 +21,8 @@ use Rattle.std.specs.Prelude.{
   slice_set,
 }
 use Rattle.std.specs.Global.{Vec}
-use Rattle.executive_program.specs.declared.program.Instr.{Instr}
-use Rattle.executive_program.specs.declared.program.SeqCode.{SeqCode}
+use Rattle.sequence_build_laws.specs.declared.Instr.{Instr}
+use Rattle.sequence_build_laws.specs.declared.SeqCode.{SeqCode}
 use Rattle.sequence_build.specs.declared.uses.Use.{Use}
 use Rattle.sequence_build.specs.declared.uses.Place.{Place}
 use Rattle.sequence_build.specs.Plain.{elements}
@@ -64,15 +64,6 @@ module _ {A : Type 0} (test : A → Bool) where
   abbrev pub write_in : ℕ → ℕ → List A → Option Place → Option Place
   write_in s at [] w = w
   write_in s at (x ∷ xs) w = write_in s (suc at) xs (cond (test x) (Some (place_of s at)) w)
-
-  -- the place of the first that passes; that of the last, and else this one
-  abbrev pub first_from : ℕ → List A → ℕ
-  first_from at [] = at
-  first_from at (x ∷ xs) = cond (test x) at (first_from (suc at) xs)
-
-  abbrev pub last_from : ℕ → ℕ → List A → ℕ
-  last_from least at [] = least
-  last_from least at (x ∷ xs) = last_from (cond (test x) at least) (suc at) xs
 
 -- after the loops of these sequences, of which the first has number s
 module _ (test : Instr → Bool) where

@@ -1,11 +1,11 @@
 //! The semaphore lines round the instructions of a loop, put there for `build`.
 ghost use Rattle.std.specs.Prelude.{◌≡◌, ℕ, ◌<◌, ◌++◌, ◌∷◌, [], cond, map, OnOk, IfOk, replicate, vec_len};
-ghost use Rattle.executive_program.specs.declared.program.Instr.TheVariants.{Pre0};
+ghost use Rattle.sequence_build_laws.specs.declared.Instr.TheVariants.{Pre0};
 ghost use Rattle.sequence_build.specs.Around.{Gathers, Surrounds, all_between, between, code_with, codes_with, is_at, line_of, lines_after, lines_before, list_at, loop_with, moment_of, opening_with};
 
 use crate::pairs::Pair;
 use crate::uses::Place;
-use executive_program::{Instr, SeqCode};
+use sequence_build_laws::{Instr, SeqCode};
 use std::alloc::Global;
 use syn_base::{Items, OutOfMemory, to_u32};
 

@@ -2,18 +2,17 @@
 //! made. `bare` is a program that has the buffers and nothing else.
 ghost use Rattle.std.specs.Prelude.{◌≡◌, ◌+◌, ◌-◌, ◌*◌, ◌^◌, ◌≤◌, ◌∷◌, [], cond, min, nat_eq, length, map, IfOk};
 ghost use Rattle.std.specs.List.{flat_map, sum_by};
-ghost use Rattle.interleavings.specs.Owners.{sum_below};
-ghost use Rattle.executive_program.specs.Instructions.{len_of};
-ghost use Rattle.schedule.specs.Acts.{acts_of, carry, copy, run};
+ghost use Rattle.sequence_build_laws.specs.Owners.{sum_below};
+ghost use Rattle.sequence_build_laws.specs.Instructions.{len_of};
+ghost use Rattle.sequence_build_laws.specs.Acts.{acts_of, carry, copy, run};
 ghost use Rattle.sequence_build_laws.specs.Serial.{is_other};
 ghost use Rattle.sequence_build.specs.Plain.{numbering, steps_at};
 ghost use Rattle.sequence_build.specs.Counted.{buffer_sum, carried_len, longest, pair_micros, step_micros};
 
 use crate::site::{Site, is_other};
-use archi_graph::Seq;
-use executive_program::{Buffer, Program, buffer_len, elements_in};
-use flat_graph::Source;
-use schedule::{Decision, Transfer};
+use sequence_build_laws::{
+    Buffer, Decision, Program, Seq, Source, Transfer, buffer_len, elements_in,
+};
 use std::alloc::Global;
 use syn_base::OutOfMemory;
 

@@ -2,24 +2,22 @@
 ghost use Rattle.std.specs.Prelude.{◌≡◌, ◌-◌, ◌^◌, None, length, map, min, IfOk};
 ghost use Rattle.std.specs.List.{flat_map};
 ghost use Rattle.syn_base.specs.declared.limits.LimitKind.TheVariants.{MicroSteps};
-ghost use Rattle.schedule.specs.Acts.{acts, acts_of, made_by};
+ghost use Rattle.sequence_build_laws.specs.Acts.{acts, acts_of, made_by};
 ghost use Rattle.sequence_build_laws.specs.Built.{program_of};
 ghost use Rattle.sequence_build_laws.specs.Serial.{copies};
 ghost use Rattle.sequence_build.specs.Answers.{IsValid};
 ghost use Rattle.sequence_build.specs.Counted.{IsLimit, IsLimitOf, all_micros, all_words, limit_of};
-ghost use Rattle.sequence_build.specs.Limit.{above, program_limit};
+ghost use Rattle.sequence_build.specs.Limit.{program_limit};
 ghost use Rattle.sequence_build.specs.Numbers.{AreCovered, place};
 ghost use Rattle.sequence_build.specs.Plain.{numbering, steps_at};
+ghost use Rattle.syn_base.specs.Limits.{above};
 
 use crate::counted::{act_micros, buffer_words, pair_count, pair_micros, wire_words};
 use crate::made::made_of;
 use crate::numbers::numbers_of;
 use crate::site::Site;
 use crate::touched::reader_counts;
-use archi_graph::Archi;
-use executive_program::{Buffer, Program};
-use flat_graph::Flat;
-use schedule::{Decision, Schedule};
+use sequence_build_laws::{Archi, Buffer, Decision, Flat, Program, Schedule};
 use std::alloc::Global;
 use syn_base::{Items, LimitFault, LimitKind, OutOfMemory, to_u32};
 

@@ -1,14 +1,12 @@
 //! The copies of values that the acts of a schedule make: a buffer for each, and its place in a table.
 ghost use Rattle.std.specs.Prelude.{◌≡◌, ◌∷◌, [], map, length, OnOk, IfOk, slice_get, slice_index_or};
 ghost use Rattle.std.specs.List.{flat_map};
-ghost use Rattle.schedule.specs.Acts.{acts_of, carry, copy, made_by, outputs_from, run};
+ghost use Rattle.sequence_build_laws.specs.Acts.{acts_of, carry, copy, made_by, outputs_from, run};
 ghost use Rattle.sequence_build.specs.Numbers.{place};
 ghost use Rattle.sequence_build.specs.Made.{Makes, buffer_of};
 ghost use Rattle.sequence_build.specs.Plain.{outs_in};
 
-use executive_program::Buffer;
-use flat_graph::{Source, Vertex, len_of};
-use schedule::{Decision, Transfer};
+use sequence_build_laws::{Buffer, Decision, Source, Transfer, Vertex, len_of};
 use std::alloc::Global;
 use syn_base::{OutOfMemory, to_u32};
 

@@ -4,7 +4,7 @@ ghost use Rattle.sequence_build_laws.specs.Guarded.{operator_in};
 ghost use Rattle.sequence_build.specs.Pairs.{deep_buffer, deepened, is_in, pairs_below, pairs_with};
 
 use crate::uses::{Place, Use};
-use executive_program::Buffer;
+use sequence_build_laws::Buffer;
 use std::alloc::Global;
 use syn_base::{OutOfMemory, to_u32};
 

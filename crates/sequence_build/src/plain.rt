@@ -1,7 +1,7 @@
 //! The program of a schedule without semaphores: the first stage of `build`.
 ghost use Rattle.std.specs.Prelude.{◌≡◌, IfOk, length, map, vec_len};
 ghost use Rattle.std.specs.List.{flat_map};
-ghost use Rattle.schedule.specs.Acts.{acts, made_by};
+ghost use Rattle.sequence_build_laws.specs.Acts.{acts, made_by};
 ghost use Rattle.sequence_build_laws.specs.Serial.{copies, plain_program};
 ghost use Rattle.sequence_build.specs.Numbers.{AreCovered, place};
 ghost use Rattle.sequence_build.specs.Plain.{codes_from};
@@ -9,10 +9,7 @@ ghost use Rattle.sequence_build.specs.Plain.{codes_from};
 use crate::made::made_of;
 use crate::numbers::numbers_of;
 use crate::site::Site;
-use archi_graph::{Archi, Seq};
-use executive_program::{Instr, Program, SeqCode};
-use flat_graph::Flat;
-use schedule::Schedule;
+use sequence_build_laws::{Archi, Flat, Instr, Program, Schedule, Seq, SeqCode};
 use std::alloc::Global;
 use syn_base::{Items, OutOfMemory, to_u32};
 

@@ -10,10 +10,7 @@ use crate::limit::limit_of;
 use crate::pairs::{Pair, deepen_all, operators_of, pairs_of};
 use crate::plain::plain_program;
 use crate::uses::{uses_of, writes_of};
-use archi_graph::Archi;
-use executive_program::Program;
-use flat_graph::Flat;
-use schedule::Schedule;
+use sequence_build_laws::{Archi, Flat, Program, Schedule};
 use std::alloc::Global;
 use syn_base::{Items, OutOfMemory};
 

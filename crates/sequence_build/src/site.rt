@@ -1,16 +1,14 @@
 //! The instructions of a schedule's acts, put into the loops of their sequences.
 ghost use Rattle.std.specs.Prelude.{◌≡◌, ℕ, ◌<◌, ◌++◌, ◌∷◌, [], cond, map, nat_eq, None, Some, OnOk, IfOk, slice_get, vec_len, length};
 ghost use Rattle.std.specs.List.{flat_map, position_or_len};
-ghost use Rattle.schedule.specs.Acts.{acts_of, carry, copy, made_by, outputs_from, read_by, run};
-ghost use Rattle.sequence_build_laws.specs.Serial.{is_other, same_medium, same_seq, step};
+ghost use Rattle.sequence_build_laws.specs.Acts.{acts_of, carry, copy, made_by, outputs_from, read_by, run};
+ghost use Rattle.sequence_build_laws.specs.declared.Instr.TheVariants.{Call, Recv, Send, Sync};
+ghost use Rattle.sequence_build_laws.specs.Instructions.{same_medium};
+ghost use Rattle.sequence_build_laws.specs.Serial.{is_other, same_seq, step};
 ghost use Rattle.sequence_build.specs.Plain.{Adds, HasLoops, guards_in, ins_in, loop_at, numbering, sequence_of, steps_at, waits_from};
-ghost use Rattle.executive_program.specs.declared.program.Instr.TheVariants.{Call, Recv, Send, Sync};
 
 use crate::made::{outs_of, place_of};
-use archi_graph::Seq;
-use executive_program::Instr;
-use flat_graph::{Guard, Source, Vertex};
-use schedule::{Decision, Transfer};
+use sequence_build_laws::{Decision, Guard, Instr, Seq, Source, Transfer, Vertex};
 use std::alloc::Global;
 use syn_base::{Items, OutOfMemory, to_u32};
 

@@ -1,12 +1,12 @@
 //! Who reads and who writes each buffer, noted act by act before an instruction is made.
 ghost use Rattle.std.specs.Prelude.{◌≡◌, ◌+◌, ◌*◌, ◌&&◌, ◌∷◌, [], nat_eq, map, replicate, true, false, IfOk, OnOk, slice_index_or, slice_set};
 ghost use Rattle.std.specs.List.{flat_map, list_any};
-ghost use Rattle.schedule.specs.Acts.{acts_of, carry, run};
+ghost use Rattle.sequence_build_laws.specs.Acts.{acts_of, carry, run};
 ghost use Rattle.sequence_build.specs.Plain.{steps_at};
 ghost use Rattle.sequence_build.specs.Touched.{Counts, IsNoted, Notes, Puts, put_in, readers_of, waits};
 
 use crate::site::Site;
-use schedule::{Decision, Transfer};
+use sequence_build_laws::{Decision, Transfer};
 use std::alloc::Global;
 use syn_base::OutOfMemory;
 

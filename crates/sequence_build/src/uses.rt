@@ -1,10 +1,10 @@
 //! Uses of buffers: who reads and writes each in a program without semaphores.
 ghost use Rattle.std.specs.Prelude.{◌≡◌, ℕ, ◌<◌, [], cond, nat_eq, None, Some, OnOk, IfOk, length, vec_len};
 ghost use Rattle.std.specs.List.{list_any};
-ghost use Rattle.executive_program.specs.Instructions.{reads, writes};
+ghost use Rattle.sequence_build_laws.specs.Instructions.{reads, writes};
 ghost use Rattle.sequence_build.specs.Uses.{noted, uses_at, uses_by, uses_in, write_at, write_by, write_in};
 
-use executive_program::{Instr, Program};
+use sequence_build_laws::{Instr, Program};
 use std::alloc::Global;
 use syn_base::{OutOfMemory, to_u32};
 

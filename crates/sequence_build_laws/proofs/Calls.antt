@@ -4,13 +4,13 @@ use Rattle.std.specs.Prelude.{slice_get, slice_index_or, nat_lt}
 use Rattle.std.specs.List.{list_any}
 use Rattle.std.proofs.lemmas.Bool.{false≢true, and_parts, eqb-true}
 use Rattle.std.proofs.lemmas.Option.{same_Some, slice_get_within, get_or_from_slice_get}
-use Rattle.flat_graph.specs.declared.vertex.Source.{Source}
-use Rattle.flat_graph.specs.declared.vertex.Vertex.{Vertex}
-use Rattle.flat_graph.specs.declared.vertex.Kind.{Kind}
-use Rattle.flat_graph.specs.declared.vertex.Kind.TheVariants.{Sensor, Actuator, Function, Constant, Get, Set, Explode, Implode, Merge}
-use Rattle.flat_graph.specs.Graph.{Graph, with_vertex, len_of}
-use Rattle.flat_graph.specs.Valid.{is_flat, all_from, is_vertex, has_twin, has_set_half, is_set_half_of, is_set_half_by, names}
-use Rattle.archi_graph.specs.Archi.{Architecture, is_archi}
+use Rattle.schedule.specs.declared.Source.{Source}
+use Rattle.schedule.specs.declared.Vertex.{Vertex}
+use Rattle.schedule.specs.declared.Kind.{Kind}
+use Rattle.schedule.specs.declared.Kind.TheVariants.{Sensor, Actuator, Function, Constant, Get, Set, Explode, Implode, Merge}
+use Rattle.schedule.specs.Graph.{Graph, with_vertex, len_of}
+use Rattle.schedule.specs.FlatValid.{is_flat, all_from, is_vertex, has_twin, has_set_half, is_set_half_of, is_set_half_by, is_number}
+use Rattle.schedule.specs.Archi.{Architecture, is_archi}
 use Rattle.schedule.specs.declared.decision.Decision.{Decision}
 use Rattle.schedule.specs.declared.decision.Schedule.{Schedule}
 use Rattle.schedule.specs.Acts.{Act, carry, run, acts, is_on, runs, Copy, copy, outputs_from, outputs_of, sources_of, read_by, made_by}
@@ -50,12 +50,12 @@ record SetHalf (g : Graph) (v u : ℕ) : Type 0 where
   is_set : it.kind ≡ Set
   twin : it.twin ≡ Some v
 
-names_is : (o : Option ℕ) (v : ℕ) → names o v ≡ true → o ≡ Some v
+names_is : (o : Option ℕ) (v : ℕ) → is_number o v ≡ true → o ≡ Some v
 names_is None v h = absurd (false≢true h)
 names_is (Some u) v h = ap (λ (n : ℕ). Some n) (eqb-true u v h)
 
 set_half_by : (vertices : List Vertex) (v len : ℕ) (y : Vertex) (k : Kind) → is_set_half_by vertices v len y k ≡ true → (k ≡ Set) × (y.twin ≡ Some v)
-set_half_by vertices v len y Set h = (refl, names_is y.twin v (and_parts (names y.twin v) _ h).0)
+set_half_by vertices v len y Set h = (refl, names_is y.twin v (and_parts (is_number y.twin v) _ h).0)
 set_half_by vertices v len y (Sensor i) h = absurd (false≢true h)
 set_half_by vertices v len y (Actuator i) h = absurd (false≢true h)
 set_half_by vertices v len y (Function i) h = absurd (false≢true h)
@@ -82,20 +82,20 @@ set_half g flat v u x z e k t =
     by (Some y) f h = let r = set_half_by g.vertices v (length z) y y.kind h in record { it = y; there = f; is_set = r.0; twin = r.1 }
 
 -- lists of buffers
-module _ (p : Program) (names : List ℕ) (w : Places) (carried : ℕ → Source) (g : Graph) (buffer : Copy → ℕ) (o : ℕ) where
-  carry_all : (xs : List Source) → ((k : ℕ) (x : Source) → slice_get xs k ≡ Some x → (buffer (copy o x) < length p.buffers) × (carried (buffer (copy o x)) ≡ x) × HasLength p names w carried g x (core.len_of p (buffer (copy o x))))
-      → CarryInOrder p names w carried g (map buffer (map (copy o) xs)) xs
+module _ (p : Program) (is_number : List ℕ) (w : Places) (carried : ℕ → Source) (g : Graph) (buffer : Copy → ℕ) (o : ℕ) where
+  carry_all : (xs : List Source) → ((k : ℕ) (x : Source) → slice_get xs k ≡ Some x → (buffer (copy o x) < length p.buffers) × (carried (buffer (copy o x)) ≡ x) × HasLength p is_number w carried g x (core.len_of p (buffer (copy o x))))
+      → CarryInOrder p is_number w carried g (map buffer (map (copy o) xs)) xs
   carry_all [] h = tt
   carry_all (x ∷ xs) h = let z = h 0 x refl in (z.0, z.1, z.2, carry_all xs (λ k y e. h (suc k) y e))
 
   gives_all : (v port : ℕ) (ns : List ℕ)
       → ((k n : ℕ) (x : Source) → slice_get ns k ≡ Some n → slice_get (outputs_from v port ns) k ≡ Some x → (carried (buffer (copy o x)) ≡ x) × len_is p (slice_get p.buffers (buffer (copy o x))) n)
-      → CarryOutputs p names w carried g v port (map buffer (map (copy o) (outputs_from v port ns))) ns
+      → CarryOutputs p is_number w carried g v port (map buffer (map (copy o) (outputs_from v port ns))) ns
   gives_all v port [] h = tt
   gives_all v port (n ∷ ns) h = let z = h 0 n _ refl refl in (z.0, z.1, gives_all v (port + 1) ns (λ k m x e f. h (suc k) m x e f))
 
-has_length : (p : Program) (names : List ℕ) (w : Places) (carried : ℕ → Source) (g : Graph) (x : Source) (n : ℕ) (y : Vertex) → slice_get g.vertices x.vertex ≡ Some y → slice_get y.outs x.port ≡ Some n → HasLength p names w carried g x n
-has_length p names w carried g x n y e h = rw e h
+has_length : (p : Program) (is_number : List ℕ) (w : Places) (carried : ℕ → Source) (g : Graph) (x : Source) (n : ℕ) (y : Vertex) → slice_get g.vertices x.vertex ≡ Some y → slice_get y.outs x.port ≡ Some n → HasLength p is_number w carried g x n
+has_length p is_number w carried g x n y e h = rw e h
 
 module _ (g : Graph) (a : Architecture) (ticks : ℕ → ℕ → Option ℕ) (s : Schedule) (flat : is_flat g ≡ true) (right : is_archi a.operators a.media ≡ true) (valid : is_valid g a ticks s ≡ true) (depth : ℕ) where
   abbrev It : Setting

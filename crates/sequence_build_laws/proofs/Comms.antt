@@ -6,10 +6,10 @@ use Rattle.std.specs.Cmp.Derive.{both_true}
 use Rattle.std.proofs.lemmas.Bool.{false≢true, and_parts, and_right, eqb-true}
 use Rattle.std.proofs.lemmas.Option.{same_Some, slice_get_within}
 use Rattle.std.proofs.Math.Bool.{and-true}
-use Rattle.flat_graph.specs.Graph.{Graph}
-use Rattle.archi_graph.specs.declared.medium.Seq.{Seq}
-use Rattle.archi_graph.specs.Archi.{Architecture, is_archi}
-use Rattle.archi_graph.specs.Sequences.{sequences}
+use Rattle.schedule.specs.Graph.{Graph}
+use Rattle.schedule.specs.declared.Seq.{Seq}
+use Rattle.schedule.specs.Archi.{Architecture, is_archi}
+use Rattle.schedule.specs.Sequences.{sequences}
 use Rattle.schedule.specs.declared.decision.Transfer.{Transfer}
 use Rattle.schedule.specs.declared.decision.Schedule.{Schedule}
 use Rattle.schedule.proofs.Copies.{same_copy_self, same_bool}
@@ -20,9 +20,9 @@ use Rattle.schedule.specs.Valid.{is_valid}
 use Rattle.executive_program.specs.declared.program.Instr.{Instr}
 use Rattle.executive_program.specs.declared.program.Instr.TheVariants.{Suc0, Suc1, Pre0, Pre1}
 use Rattle.executive_program.specs.declared.program.Program.{Program}
-use Rattle.executive_program.specs.Instructions.{Reader, is_communication, turn, medium, operator}
+use Rattle.executive_program.specs.Instructions.{Reader, is_communication, turn, medium, operator, same_medium}
 use Rattle.executive_program.specs.WellFormed.{Stands}
-use Rattle.sequence_build_laws.specs.Serial.{Step, step, projection, numbers_where, same_medium, is_other, reads_first, reads_last, is_filled, pairs_where, block, steps_at, steps_of, number_of, plain_steps, pairs, serial}
+use Rattle.sequence_build_laws.specs.Serial.{Step, step, projection, numbers_where, is_other, reads_first, reads_last, is_filled, pairs_where, block, steps_at, steps_of, number_of, plain_steps, pairs, serial}
 use Rattle.sequence_build_laws.specs.Built.{program_with}
 use Rattle.sequence_build_laws.proofs.Lists.{map_at, starts, take_flat, tally, tally_yes, tally_not, tally-append, tally_grows, tally_rises, take_get}
 use Rattle.sequence_build_laws.proofs.Loops as loops

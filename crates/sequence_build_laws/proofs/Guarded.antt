@@ -4,10 +4,10 @@ use Rattle.std.specs.Prelude.{slice_get}
 use Rattle.std.specs.List.{flat_map, list_any, filter}
 use Rattle.std.proofs.lemmas.Bool.{eqb-true}
 use Rattle.std.proofs.lemmas.List.{append-nil}
-use Rattle.archi_graph.specs.declared.medium.Seq.{Seq}
-use Rattle.flat_graph.specs.Graph.{Graph}
-use Rattle.archi_graph.specs.Archi.{Architecture}
-use Rattle.archi_graph.specs.Sequences.{sequences}
+use Rattle.schedule.specs.declared.Seq.{Seq}
+use Rattle.schedule.specs.Graph.{Graph}
+use Rattle.schedule.specs.Archi.{Architecture}
+use Rattle.schedule.specs.Sequences.{sequences}
 use Rattle.schedule.specs.declared.decision.Schedule.{Schedule}
 use Rattle.schedule.specs.Acts.{Copy}
 use Rattle.executive_program.specs.declared.program.Instr.{Instr}

@@ -7,7 +7,7 @@ use Rattle.std.proofs.lemmas.Bool.{false≢true, cases_lt, cases_eq, eqb-true, a
 use Rattle.std.proofs.lemmas.Option.{same_Some, slice_get_within}
 use Rattle.std.proofs.lemmas.List.{length-map, append-nil, length-take-le, take_all}
 use Rattle.std.proofs.lemmas.Grind.{flat_map-append}
-use Rattle.archi_graph.specs.declared.medium.Seq.{Seq}
+use Rattle.schedule.specs.declared.Seq.{Seq}
 use Rattle.schedule.proofs.Copies.{same_bool}
 use Rattle.executive_program.proofs.Reading.{any_at, any_of, reads_of, of_reads, writes_of, of_writes}
 use Rattle.sequence_build_laws.specs.InTurn.{Standing, in_turn}

@@ -1,11 +1,11 @@
 -- The definitions computed on worked examples: one operator; two operators on a bus; a relay over two media; two transfers over a medium of four operators.
 use Rattle.std.proofs.Common.{◌≡◌, ℕ, true, false, List, [], ◌∷◌, Option, Some, None, refl}
-use Rattle.flat_graph.specs.declared.vertex.Kind.TheVariants.{Sensor, Actuator, Function}
-use Rattle.body_lang.specs.Expr.{element, index}
-use Rattle.flat_graph.specs.Graph.{Graph}
-use Rattle.flat_graph.specs.Valid.{is_flat}
-use Rattle.archi_graph.specs.Archi.{Architecture, is_archi}
-use Rattle.archi_graph.specs.Sequences.{sequences}
+use Rattle.schedule.specs.declared.Kind.TheVariants.{Sensor, Actuator, Function}
+use Rattle.schedule.specs.Expr.{element, index}
+use Rattle.schedule.specs.Graph.{Graph}
+use Rattle.schedule.specs.FlatValid.{is_flat}
+use Rattle.schedule.specs.Archi.{Architecture, is_archi}
+use Rattle.schedule.specs.Sequences.{sequences}
 use Rattle.schedule.specs.declared.decision.Schedule.{Schedule}
 use Rattle.schedule.specs.Acts.{length_of}
 use Rattle.schedule.specs.Valid.{is_valid}

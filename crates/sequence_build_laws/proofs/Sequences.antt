@@ -5,14 +5,15 @@ use Rattle.std.specs.List.{list_all, range_with_len, position_or_len}
 use Rattle.std.specs.Cmp.Derive.{both_true}
 use Rattle.std.proofs.lemmas.Bool.{false≢true, and_parts, eqb-true, ltb-true}
 use Rattle.std.proofs.lemmas.Option.{same_Some, slice_get_within}
-use Rattle.archi_graph.specs.declared.medium.Medium.{Medium}
-use Rattle.archi_graph.specs.declared.medium.Seq.{Seq}
-use Rattle.archi_graph.specs.Archi.{Architecture, is_archi, is_medium, stands_at, are_bounded, are_distinct, names_of, are_joined}
-use Rattle.archi_graph.specs.Sequences.{computation, communicator, communicators, sequences_of, sequences}
-use Rattle.archi_graph.proofs.Bounds.{stands_below}
+use Rattle.schedule.specs.declared.Medium.{Medium}
+use Rattle.schedule.specs.declared.Seq.{Seq}
+use Rattle.schedule.specs.Archi.{Architecture, is_archi, is_medium, stands_at, are_bounded, are_distinct, names_of, are_joined}
+use Rattle.schedule.specs.Sequences.{computation, communicator, communicators, sequences_of, sequences}
+use Rattle.schedule.proofs.Bounds.{stands_below}
 use Rattle.executive_program.proofs.Reading.{any_of}
-use Rattle.sequence_build_laws.specs.Serial.{same_medium, same_seq}
+use Rattle.sequence_build_laws.specs.Serial.{same_seq}
 use Rattle.sequence_build_laws.proofs.Lists.{all_at, first, in_flat, flat_at, starts}
+use Rattle.executive_program.specs.Instructions.{same_medium}
 
 same_medium_is : (m n : Option ℕ) → same_medium m n ≡ true → m ≡ n
 same_medium_is None None h = refl

@@ -4,8 +4,8 @@ use Rattle.std.specs.Prelude.{slice_get}
 use Rattle.std.specs.List.{flat_map, list_any}
 use Rattle.std.proofs.lemmas.Bool.{false≢true, or_cases, or_from, cases_Bool}
 use Rattle.std.proofs.lemmas.Option.{same_Some}
-use Rattle.archi_graph.specs.declared.medium.Seq.{Seq}
 use Rattle.sequence_build_laws.specs.InTurn.{Standing, in_turn}
+use Rattle.schedule.specs.declared.Seq.{Seq}
 use Rattle.schedule.specs.Acts.{Copy}
 use Rattle.executive_program.specs.declared.program.Instr.{Instr}
 use Rattle.executive_program.specs.declared.program.Instr.TheVariants.{Suc0, Suc1, Pre0, Pre1}

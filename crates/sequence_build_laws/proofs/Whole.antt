@@ -4,17 +4,16 @@ use Rattle.std.specs.Prelude.{nat_le, slice_get}
 use Rattle.std.proofs.lemmas.Bool.{false≢true, eqb-true, and_parts, leb-true}
 use Rattle.std.proofs.lemmas.Option.{same_Some, slice_get_within}
 use Rattle.std.proofs.lemmas.List.{length-map}
-use Rattle.flat_graph.specs.Graph.{Graph}
-use Rattle.flat_graph.specs.Valid.{is_flat}
-use Rattle.archi_graph.specs.Archi.{Architecture, is_archi}
-use Rattle.archi_graph.specs.Sequences.{sequences}
+use Rattle.schedule.specs.Graph.{Graph}
+use Rattle.schedule.specs.FlatValid.{is_flat}
+use Rattle.schedule.specs.Archi.{Architecture, is_archi}
+use Rattle.schedule.specs.Sequences.{sequences}
 use Rattle.schedule.specs.declared.decision.Schedule.{Schedule}
 use Rattle.schedule.specs.Valid.{is_valid}
 use Rattle.executive_program.specs.declared.program.Instr.{Instr}
 use Rattle.executive_program.specs.declared.program.Instr.TheVariants.{Suc0, Suc1, Pre0, Pre1, Call, Send, Recv, Sync}
 use Rattle.executive_program.specs.declared.program.Program.{Program}
-use Rattle.executive_program.specs.Instructions.{Reader, depth_of, depth_in}
-use Rattle.executive_program.specs.Instructions.{is_guarded as guarded}
+use Rattle.executive_program.specs.Instructions.{Reader, depth_of, depth_in, is_guarded as guarded}
 use Rattle.executive_program.specs.Places.{places, carried}
 use Rattle.executive_program.specs.WellFormed.{Stands, WritesAt, ReadsAt, NamesIn, IsBuffer}
 use Rattle.executive_program.proofs.Reading.{any_of, of_writes, of_reads}

@@ -18,10 +18,10 @@ use Rattle.std.specs.Prelude.{
   slice_get,
 }
 use Rattle.std.specs.List.{flat_map, list_any}
-use Rattle.flat_graph.specs.Graph.{Graph}
-use Rattle.flat_graph.specs.Valid.{is_flat}
-use Rattle.archi_graph.specs.Archi.{Architecture, is_archi, is_depth}
-use Rattle.archi_graph.specs.Sequences.{sequences}
+use Rattle.schedule.specs.Graph.{Graph}
+use Rattle.schedule.specs.FlatValid.{is_flat}
+use Rattle.schedule.specs.Archi.{Architecture, is_archi, is_depth}
+use Rattle.schedule.specs.Sequences.{sequences}
 use Rattle.schedule.specs.declared.decision.Schedule.{Schedule}
 use Rattle.schedule.specs.Acts.{Copy}
 use Rattle.schedule.specs.Valid.{is_valid}

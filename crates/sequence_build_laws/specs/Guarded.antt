@@ -27,8 +27,8 @@ use Rattle.executive_program.specs.declared.program.SeqCode.{SeqCode}
 use Rattle.executive_program.specs.declared.program.Program.{Program}
 use Rattle.executive_program.specs.Blocks.{repeated}
 use Rattle.executive_program.specs.Instructions.{reads, writes, Reader, readers}
-use Rattle.flat_graph.specs.Graph.{Graph}
-use Rattle.archi_graph.specs.Archi.{Architecture}
+use Rattle.schedule.specs.Graph.{Graph}
+use Rattle.schedule.specs.Archi.{Architecture}
 use Rattle.schedule.specs.declared.decision.Schedule.{Schedule}
 use Rattle.sequence_build_laws.specs.InTurn.{Standing, in_turn}
 use Rattle.sequence_build_laws.specs.Serial.{plain_program, pairs_where}

@@ -2,3 +2,29 @@ pub mod InTurn
 pub mod Serial
 pub mod Built
 pub mod Guarded
+-- What the definitions here speak of: schedules and programs, and what both are made for.
+pub use Rattle.executive_program.specs.Blocks
+pub use Rattle.executive_program.specs.Instructions
+pub use Rattle.executive_program.specs.MicroSteps
+pub use Rattle.executive_program.specs.Owners
+pub use Rattle.executive_program.specs.Places
+pub use Rattle.executive_program.specs.Sizes
+pub use Rattle.executive_program.specs.Steps
+pub use Rattle.executive_program.specs.WellFormed
+pub use Rattle.schedule.specs.Accepted
+pub use Rattle.schedule.specs.Acts
+pub use Rattle.schedule.specs.Archi
+pub use Rattle.schedule.specs.DurationLines
+pub use Rattle.schedule.specs.Fitting
+pub use Rattle.schedule.specs.FlatLaws
+pub use Rattle.schedule.specs.FlatOrder
+pub use Rattle.schedule.specs.FlatValid
+pub use Rattle.schedule.specs.Graph
+pub use Rattle.schedule.specs.Meaning
+pub use Rattle.schedule.specs.Refusals
+pub use Rattle.schedule.specs.Sequences
+pub use Rattle.schedule.specs.Table
+pub use Rattle.schedule.specs.Text
+pub use Rattle.schedule.specs.Tight
+pub use Rattle.schedule.specs.Valid as ScheduleValid
+pub use Rattle.schedule.specs.Windows

@@ -1,29 +1,11 @@
 -- The serial order of one reaction: the instructions of the acts of
 -- a schedule, each between the semaphore lines of its block.
-use Rattle.std.specs.Prelude.{
-  ℕ,
-  suc,
-  Bool,
-  true,
-  false,
-  ◌&&◌,
-  not,
-  cond,
-  nat_eq,
-  List,
-  [],
-  ◌∷◌,
-  ◌++◌,
-  map,
-  Option,
-  Some,
-  None,
-}
+use Rattle.std.specs.Prelude.{ℕ, suc, Bool, ◌&&◌, not, cond, nat_eq, List, [], ◌∷◌, ◌++◌, map, Some, None}
 use Rattle.std.specs.List.{flat_map, list_any, filter, position_or_len}
-use Rattle.flat_graph.specs.Graph.{Graph, len_of}
-use Rattle.archi_graph.specs.declared.medium.Seq.{Seq}
-use Rattle.archi_graph.specs.Archi.{Architecture}
-use Rattle.archi_graph.specs.Sequences.{sequences}
+use Rattle.schedule.specs.Graph.{Graph, len_of}
+use Rattle.schedule.specs.declared.Seq.{Seq}
+use Rattle.schedule.specs.Archi.{Architecture}
+use Rattle.schedule.specs.Sequences.{sequences}
 use Rattle.schedule.specs.declared.decision.Transfer.{Transfer}
 use Rattle.schedule.specs.declared.decision.Schedule.{Schedule}
 use Rattle.sequence_build_laws.specs.InTurn.{Standing, in_turn}
@@ -33,7 +15,7 @@ use Rattle.executive_program.specs.declared.program.Instr.TheVariants.{Suc0, Suc
 use Rattle.executive_program.specs.declared.program.Buffer.{Buffer}
 use Rattle.executive_program.specs.declared.program.SeqCode.{SeqCode}
 use Rattle.executive_program.specs.declared.program.Program.{Program}
-use Rattle.executive_program.specs.Instructions.{reads, writes, Reader, readers}
+use Rattle.executive_program.specs.Instructions.{reads, writes, Reader, readers, same_medium}
 
 -- an instruction of a sequence
 pub record Step : Type 0 where
@@ -52,13 +34,6 @@ projection xs s = map (λ x. x.instr) (filter (λ (x : Step). nat_eq x.sequence 
 abbrev pub numbers_where : {A : Type 0} → (A → Bool) → ℕ → List A → List ℕ
 numbers_where test n [] = []
 numbers_where test n (x ∷ xs) = cond (test x) (n ∷ numbers_where test (suc n) xs) (numbers_where test (suc n) xs)
-
--- It is true if both are the same medium, or both are none.
-abbrev pub same_medium : Option ℕ → Option ℕ → Bool
-same_medium None None = true
-same_medium None (Some n) = false
-same_medium (Some m) None = false
-same_medium (Some m) (Some n) = nat_eq m n
 
 -- Two sequences are the same if they belong to one operator, and either to one medium
 -- or both to none.
@@ -144,7 +119,7 @@ module _ (g : Graph) (a : Architecture) (s : Schedule) where
   abbrev pub plain_steps : List Step
   plain_steps = flat_map steps_of (acts s)
 
-  -- a buffer that a pair guards has this many places, and any other one
+  -- The buffer of a copy of this value, with this many places.
   abbrev pub buffer : ℕ → Copy → Buffer
   buffer depth c = record { operator = c.operator; len = len_of g.vertices c.source; depth = depth }
 

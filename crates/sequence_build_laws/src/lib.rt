@@ -9,6 +9,14 @@
 ghost use Rattle.sequence_build_laws.specs.Built.{BuiltAreWellFormed};
 ghost use Rattle.sequence_build_laws.specs.Guarded.{BuiltAreGuarded};
 
+// What the clauses here speak of: schedules and programs, and what both are made for.
+pub use executive_program::{Buffer, Instr, Program, SeqCode, buffer_len, elements_in};
+pub use schedule::{
+    Archi, ArchiCause, ArchiError, ArchiText, Decision, DurationLine, Durations, Flat, Guard, Hop,
+    Kind, Medium, Schedule, Seq, Source, Transfer, Vertex, accepted_are_durations, durations_fit,
+    durations_of, is_archi, is_flat, is_valid, len_of,
+};
+
 /// The program of a valid schedule is well formed by its serial order, where the buffers between
 /// sequences have 1 to 4 places, as many as the architecture says.
 pub fn built_are_well_formed()

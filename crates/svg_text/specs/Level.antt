@@ -19,7 +19,7 @@ use Rattle.std.specs.Prelude.{
 use Rattle.syn_base.specs.Rows.{element}
 use Rattle.svg_text.specs.declared.range.Range.{Range}
 
--- the least of a value and of these; the greatest
+-- The least of a value and of these values.
 abbrev pub least : ℤ → List ℤ → ℤ
 least low [] = low
 least low (v ∷ vs) = least (if int_lt v low then v else low) vs
@@ -29,7 +29,7 @@ abbrev pub greatest : ℤ → List ℤ → ℤ
 greatest high [] = high
 greatest high (v ∷ vs) = greatest (if int_lt high v then v else high) vs
 
--- the same for vector a of each of these reactions
+-- The least of a value and of all elements of vector a in these reactions.
 abbrev pub least_in : ℕ → ℤ → List (List (List ℤ)) → ℤ
 least_in a low [] = low
 least_in a low (row ∷ rows) = least_in a (least low (slice_index_or row a [])) rows

@@ -53,7 +53,8 @@ abbrev pub from_digits : Bool → List ℕ → Result ℤ NumFault
 from_digits negative [] = Err Empty
 from_digits negative (b ∷ bs) = with_sign negative (number_of (b ∷ bs))
 
--- A byte that is no digit comes before all other faults.
+-- What reading a number gives, if the first byte that is no digit is at this place: the refusal of
+-- that byte, which comes before all other faults. If there is no such byte, it is the given result.
 abbrev pub unless_other : Option ℕ → Result ℤ NumFault → Result ℤ NumFault
 unless_other (Some place) number = Err (NotDigit place)
 unless_other None number = number

@@ -1,5 +1,5 @@
 -- The bounds of this profile, and the words that messages have for them.
-use Rattle.std.specs.Prelude.{ℕ, List, codes}
+use Rattle.std.specs.Prelude.{ℕ, List, codes, nat_lt, cond, Option, Some}
 use Rattle.syn_base.specs.declared.limits.LimitKind.{LimitKind}
 use Rattle.syn_base.specs.declared.limits.LimitKind.TheVariants.{
   File,
@@ -21,6 +21,7 @@ use Rattle.syn_base.specs.declared.limits.LimitKind.TheVariants.{
   Output,
   Total,
 }
+use Rattle.syn_base.specs.declared.limits.LimitFault.{LimitFault}
 
 -- The word by which messages name a quantity.
 abbrev pub word_of : LimitKind → List ℕ
@@ -64,9 +65,18 @@ bound_of Reactions = 10000
 bound_of Output = 2000000
 bound_of Total = 20000000
 
+-- The fault of this count, if it is above the bound of its quantity, and otherwise what comes next.
+abbrev pub above : LimitKind → ℕ → Option LimitFault → Option LimitFault
+above which count next = cond (nat_lt (bound_of which) count)
+    (Some (record { which = which; count = count; bound = bound_of which })) next
+
 -- The most operations of a flat graph.
 abbrev pub most_operations : ℕ
 most_operations = 2048
+
+-- The most definitions that name one another in a chain from `main` on.
+abbrev pub most_depth : ℕ
+most_depth = 8
 
 -- No file has as many lines, names or definitions, and whatever is counted up to it has a number of 32 bits.
 abbrev pub most_in_text : ℕ

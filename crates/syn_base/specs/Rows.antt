@@ -31,7 +31,7 @@ cut (len ∷ lens) row = take len row ∷ cut lens (drop len row)
 abbrev pub cut_all : List ℕ → List (List ℤ) → List (List (List ℤ))
 cut_all lens rows = map (cut lens) rows
 
--- A vector of a reaction, and an element of it.
+-- Vector v of reaction k, each counted from 0, and the empty vector if there is none.
 abbrev pub vector_of : List (List (List ℤ)) → ℕ → ℕ → List ℤ
 vector_of reactions k v = slice_index_or (slice_index_or reactions k []) v []
 

@@ -4,8 +4,7 @@ use Rattle.std.specs.Prelude.{Option, None, Some, slice_get, slice_index_or, rep
 use Rattle.std.specs.List.{list_all}
 use Rattle.std.proofs.lemmas.Bool.{and_parts, eqb-true}
 use Rattle.std.proofs.lemmas.List.{length-map}
-use Rattle.body_lang.specs.Expr.{Expr}
-use Rattle.level_meaning.specs.Level.{Vector, Values, vector_at, zeros}
+use Rattle.flat_graph.specs.Expr.{Expr}
 use Rattle.flat_graph.specs.declared.vertex.Source.{Source}
 use Rattle.flat_graph.specs.declared.vertex.Guard.{Guard}
 use Rattle.flat_graph.specs.declared.vertex.Kind.{Kind}
@@ -20,6 +19,7 @@ use Rattle.flat_graph.proofs.KindLens.{length-vector_at, length-zeros, none_is, 
 use Rattle.flat_graph.proofs.Facts.{sensor_at, vertex_valid, fits_of}
 use Rattle.flat_graph.proofs.ReadLens.{cell_len_is, seen_len_is, out_lens_is}
 use Rattle.sync_meaning.specs.Store.{lengths, lens_read, first_kept, given, value_at, HasRead}
+use Rattle.syn_base.specs.Vectors.{Vector, Values, vector_at, zeros}
 
 -- the same of two lists, place by place
 pub same_at : {A X C : Type 0} (f : A → C) (h : X → C) (ts : List A) (xs : List X) (v : ℕ) (x : X) (d : A) → map f ts ≡ map h xs → slice_get xs v ≡ Some x → f (get_or ts v d) ≡ h x

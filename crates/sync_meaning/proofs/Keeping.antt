@@ -3,13 +3,12 @@ use Rattle.std.proofs.Common.{◌≡◌, ℕ, zero, suc, ◌+◌, ◌<◌, List,
 use Rattle.std.specs.Prelude.{Option, None, Some, slice_get, slice_index_or, IsTrue, nat_lt, if◌then◌else◌}
 use Rattle.std.proofs.lemmas.Bool.{and_parts, false≢true}
 use Rattle.std.proofs.lemmas.List.{map-set, set-get_or, length-map, get_or-map}
-use Rattle.level_meaning.specs.Level.{Vector, Values, vector_at}
 use Rattle.flat_graph.specs.declared.vertex.Source.{Source}
 use Rattle.flat_graph.specs.declared.vertex.Kind.{Kind}
 use Rattle.flat_graph.specs.declared.vertex.Kind.TheVariants.{Sensor, Actuator, Function, Constant, Get, Set, Explode, Implode, Merge}
 use Rattle.flat_graph.specs.declared.vertex.Vertex.{Vertex}
 use Rattle.flat_graph.specs.Graph.{Graph, with_vertex, lens_of}
-use Rattle.flat_graph.specs.Valid.{is_flat, is_vertex, names, is_only, is_set_half_by, is_set_half_of, has_set_half, has_twin}
+use Rattle.flat_graph.specs.Valid.{is_flat, is_vertex, is_only, is_set_half_by, is_set_half_of, has_set_half, has_twin, is_number}
 use Rattle.flat_graph.specs.Fire.{guards_hold, stored, kept}
 use Rattle.flat_graph.specs.Meaning.{is_get, conditions, inputs, next_cell, next_from, initial_cell, initial_cells}
 use Rattle.flat_graph.specs.Laws.{delay_len, delay_lens}
@@ -19,13 +18,14 @@ use Rattle.flat_graph.proofs.KindLens.{only_is}
 use Rattle.sync_meaning.specs.Store.{lengths, first_kept, value_at, CellsFit, delay_cells, HasSetHalf}
 use Rattle.sync_meaning.specs.Reaction.{next_kept, all_kept}
 use Rattle.sync_meaning.proofs.Facts.{input_lens}
+use Rattle.syn_base.specs.Vectors.{Vector, Values, vector_at}
 
 -- a value put in a place changes no test that it passes alike
 pub same_map : {A B : Type 0} (f : A → B) (l : List A) (i : ℕ) (a d : A) → f a ≡ f (get_or l i d) → map f (set l i a) ≡ map f l
 same_map f l i a d e = map-set f l i a ∙ ap (set (map f l) i) e ∙ sym (map-set f l i (get_or l i d)) ∙ ap (map f) (set-get_or l i d)
 
 set_half_by : (vertices : List Vertex) (v len : ℕ) (y : Vertex) (kind : Kind) → is_set_half_by vertices v len y kind ≡ true → (kind ≡ Set) × (lens_of vertices y.ins ≡ len ∷ [])
-set_half_by vertices v len y Set h = (refl, only_is len (lens_of vertices y.ins) (and_parts (names y.twin v) (is_only len (lens_of vertices y.ins)) h).1)
+set_half_by vertices v len y Set h = (refl, only_is len (lens_of vertices y.ins) (and_parts (is_number y.twin v) (is_only len (lens_of vertices y.ins)) h).1)
 set_half_by vertices v len y (Sensor i) h = absurd (false≢true h)
 set_half_by vertices v len y (Actuator i) h = absurd (false≢true h)
 set_half_by vertices v len y (Function f) h = absurd (false≢true h)

@@ -1,7 +1,6 @@
 -- What a reaction of one operation does to the store.
 use Rattle.std.proofs.Common.{◌≡◌, ◌≢◌, ℕ, ◌<◌, List, [], ◌∷◌, ◌++◌, map, take, drop, length, get_or, set, true, refl, sym, ap, subst, ◌∙◌, arith, get_or-set_same, get_or-set_other}
 use Rattle.std.specs.Prelude.{Some, slice_get, ℤ, slice_index_or}
-use Rattle.level_meaning.specs.Level.{Vector, Values, vector_at}
 use Rattle.flat_graph.specs.declared.vertex.Source.{Source}
 use Rattle.flat_graph.specs.declared.vertex.Vertex.{Vertex}
 use Rattle.flat_graph.specs.Graph.{Graph}
@@ -14,6 +13,7 @@ use Rattle.sync_meaning.specs.declared.layout.Store.{Store}
 use Rattle.sync_meaning.specs.Reaction.{kept_in, FitsStore, Gives, HasRun}
 use Rattle.sync_meaning.proofs.Facts.{same_at, same_vertex, fired_is, set_outs, set_fires}
 use Rattle.sync_meaning.proofs.Keeping.{same_map}
+use Rattle.syn_base.specs.Vectors.{Vector, Values, vector_at}
 
 -- the two names of one vertex
 there_is : (g : Graph) (v : ℕ) (x y : Vertex) → slice_get g.vertices v ≡ Some x → slice_get g.vertices v ≡ Some y → x ≡ y

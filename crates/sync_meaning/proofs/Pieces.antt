@@ -2,13 +2,13 @@
 use Rattle.std.proofs.Common.{◌≡◌, ℕ, ◌+◌, List, ◌++◌, map, take, drop, length, Bool, true, false, refl, sym, ap, ◌∙◌, arith, length-append}
 use Rattle.std.proofs.lemmas.Bool.{false≢true}
 use Rattle.std.proofs.lemmas.List.{length-map, map-append, length-take-le, take_at, drop_at, take-map, take-append-drop}
-use Rattle.level_meaning.specs.Level.{Vector, Values}
 use Rattle.flat_graph.specs.declared.vertex.Source.{Source}
 use Rattle.flat_graph.specs.declared.vertex.Guard.{Guard}
 use Rattle.flat_graph.specs.declared.vertex.Vertex.{Vertex}
 use Rattle.flat_graph.specs.Fire.{guards_hold}
 use Rattle.flat_graph.specs.Meaning.{conditions, inputs}
 use Rattle.sync_meaning.specs.Store.{lengths, HasRead}
+use Rattle.syn_base.specs.Vectors.{Vector, Values}
 
 module _ (look : Source → Vector) (x : Vertex) (old : Values) (fits : lengths old ≡ lengths (inputs look x) ++ lengths (conditions look x)) where
   inputs_count : length (lengths (inputs look x)) ≡ length x.ins

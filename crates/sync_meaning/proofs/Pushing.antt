@@ -2,7 +2,8 @@
 use Rattle.std.proofs.Common.{◌≡◌, ℕ, ◌+◌, ◌<◌, List, [], ◌∷◌, ◌++◌, map, take, drop, length, get_or, refl, sym, ap, ◌∙◌}
 use Rattle.std.specs.Prelude.{replicate}
 use Rattle.std.proofs.lemmas.List.{map_push, map_more, drop_more, replicate_more, append_assoc}
-use Rattle.level_meaning.specs.Level.{Vector, Values, all_joined}
+use Rattle.syn_base.specs.Vectors.{Vector, Values}
+use Rattle.algo_tree.specs.Level.{all_joined}
 
 pub pushed : {X Y Z : Type 0} (f : Y → Z) (h : X → Z) (xs : List X) (i : ℕ) (x : X) (ys new : List Y) (y : Y) → i < length xs → x ≡ get_or xs i x → f y ≡ h x → new ≡ ys ++ y ∷ [] → map f ys ≡ map h (take i xs)
     → map f new ≡ map h (take (i + 1) xs)

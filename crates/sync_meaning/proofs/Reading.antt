@@ -1,10 +1,10 @@
 -- Vectors that are written one after another over others of the same lengths.
 use Rattle.std.proofs.Common.{◌≡◌, ℕ, zero, suc, ◌+◌, ◌<◌, ◌≤◌, List, [], ◌∷◌, ◌++◌, map, take, drop, length, get_or, set, refl, sym, ap, ◌∙◌, arith, length-append}
 use Rattle.std.proofs.lemmas.List.{length-map}
-use Rattle.level_meaning.specs.Level.{Vector, Values, vector_at}
 use Rattle.flat_graph.proofs.Fill.{fill, at_seam, in_front, all_written}
 use Rattle.flat_graph.proofs.KindLens.{length-vector_at}
 use Rattle.sync_meaning.specs.Store.{lengths}
+use Rattle.syn_base.specs.Vectors.{Vector, Values, vector_at}
 
 pub same_count : (target initial : Values) → lengths target ≡ lengths initial → length target ≡ length initial
 same_count target initial same = sym (length-map target length) ∙ ap (λ (ns : List ℕ). length ns) same ∙ length-map initial length

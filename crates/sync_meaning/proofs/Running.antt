@@ -6,7 +6,7 @@ use Rattle.std.proofs.lemmas.List.{map-append}
 use Rattle.std.proofs.lemmas.List.Sums.{sum_by-cons}
 use Rattle.std.proofs.Math.Seq.{take-append_seam, drop-append_seam}
 use Rattle.syn_base.specs.Rows.{Reactions, cut}
-use Rattle.level_meaning.specs.Level.{Vector, Values, vector_at, numbers_below, all_joined}
+use Rattle.algo_tree.specs.Level.{all_joined}
 use Rattle.flat_graph.specs.declared.vertex.Source.{Source}
 use Rattle.flat_graph.specs.declared.vertex.Kind.{Kind}
 use Rattle.flat_graph.specs.declared.vertex.Kind.TheVariants.{Sensor, Actuator, Function, Constant, Get, Set, Explode, Implode, Merge}
@@ -23,6 +23,8 @@ use Rattle.sync_meaning.specs.Ran.{taken_len, taken_lens, ran}
 use Rattle.sync_meaning.proofs.Facts.{input_lens}
 use Rattle.sync_meaning.proofs.Keeping.{cells_next}
 use Rattle.sync_meaning.proofs.Table.{same_look}
+use Rattle.syn_base.specs.Vectors.{Vector, Values, vector_at}
+use Rattle.syn_base.specs.Numbers.{numbers_below}
 
 cut-joined : (vs : Values) → cut (lengths vs) (all_joined vs) ≡ vs
 cut-joined [] = refl

@@ -2,7 +2,6 @@
 use Rattle.std.proofs.Common.{◌≡◌, ℕ, List, [], ◌∷◌, ◌++◌, map, length, refl, sym, ap, ◌∙◌}
 use mathlib.Core.Path.{fun_ext}
 use Rattle.syn_base.specs.Rows.{Reactions}
-use Rattle.level_meaning.specs.Level.{Values, numbers_below}
 use Rattle.algo_tree.specs.Tree as tree
 use Rattle.algo_tree.specs.Meaning.{act_row}
 use Rattle.flat_graph.specs.declared.vertex.Kind.{Kind}
@@ -12,9 +11,12 @@ use Rattle.flat_graph.specs.Graph.{Graph}
 use Rattle.flat_graph.specs.Meaning.{initial_cells, flat_act_row}
 use Rattle.flat_laws.specs.Flat.{Operation}
 use Rattle.flat_laws.specs.Stands.{KeepsGraph}
-use Rattle.flat_laws.specs.EndLengths.{HasEndLengths, actuator_len, actuator_lens}
+use Rattle.flat_laws.specs.EndLengths.{HasEndLengths}
 use Rattle.sync_meaning.specs.Ran.{taken_len, taken_lens, ran}
 use Rattle.sync_meaning.specs.Simulated.{simulated}
+use Rattle.syn_base.specs.Vectors.{Values}
+use Rattle.syn_base.specs.Numbers.{numbers_below}
+use Rattle.flat_graph.specs.Laws.{actuator_lens, actuator_len}
 
 same_len : (g : Graph) (x : Vertex) (kind : Kind) → taken_len g.vertices x kind ≡ actuator_len g x kind
 same_len g x (Sensor i) = refl

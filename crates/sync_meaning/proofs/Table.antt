@@ -6,8 +6,8 @@ use mathlib.Core.Path.{fun_ext}
 use Rattle.std.proofs.lemmas.Bool.{and_parts, cases_lt, false≢true}
 use Rattle.std.proofs.lemmas.List.{take_more, get_or_past}
 use Rattle.std.proofs.lemmas.Option.{slice_get_past}
-use Rattle.body_lang.specs.Expr.{Expr}
-use Rattle.level_meaning.specs.Level.{Vector, Values, vector_at, zeros, out, with_node}
+use Rattle.algo_tree.specs.Level.{out, with_node}
+use Rattle.flat_graph.specs.Expr.{Expr}
 use Rattle.flat_graph.specs.declared.vertex.Source.{Source}
 use Rattle.flat_graph.specs.declared.vertex.Guard.{Guard}
 use Rattle.flat_graph.specs.declared.vertex.Kind.{Kind}
@@ -24,6 +24,7 @@ use Rattle.flat_graph.proofs.Settled.{fixed_point}
 use Rattle.sync_meaning.specs.Order.{is_among, is_ready}
 use Rattle.sync_meaning.specs.Store.{given, value_at, delay_cells}
 use Rattle.sync_meaning.proofs.Among.{same_or_not, among_other}
+use Rattle.syn_base.specs.Vectors.{Vector, Values, vector_at, zeros}
 
 -- the cell of a get half stands beside it
 pub cell_beside : (xs : List Vertex) (cells : Values) (v : ℕ) (x : Vertex) → slice_get xs v ≡ Some x → is_get x.kind ≡ true → vector_at (delay_cells xs cells) (delay_number xs v) ≡ vector_at cells v

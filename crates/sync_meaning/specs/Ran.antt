@@ -1,12 +1,12 @@
 -- What a run of a flat graph returns.
 use Rattle.std.specs.Prelude.{ℕ, List, [], ◌∷◌, ◌++◌, length, map}
 use Rattle.syn_base.specs.Rows.{Reactions}
-use Rattle.level_meaning.specs.Level.{numbers_below}
 use Rattle.flat_graph.specs.declared.vertex.Kind.{Kind}
 use Rattle.flat_graph.specs.declared.vertex.Kind.TheVariants.{Actuator}
 use Rattle.flat_graph.specs.declared.vertex.Vertex.{Vertex}
 use Rattle.flat_graph.specs.Graph.{Graph, lens_of}
 use Rattle.flat_graph.specs.Meaning.{initial_cells, flat_act_row}
+use Rattle.syn_base.specs.Numbers.{numbers_below}
 
 -- The lengths of the inputs of an actuator, which has one.
 abbrev pub taken_len : List Vertex → Vertex → Kind → List ℕ

@@ -15,7 +15,6 @@ use Rattle.std.specs.Prelude.{
   slice_set,
 }
 use Rattle.syn_base.specs.Rows.{Reactions}
-use Rattle.level_meaning.specs.Level.{Vector, Values, vector_at}
 use Rattle.flat_graph.specs.declared.vertex.Source.{Source}
 use Rattle.flat_graph.specs.declared.vertex.Kind.TheVariants.{Set}
 use Rattle.flat_graph.specs.declared.vertex.Vertex.{Vertex}
@@ -24,6 +23,7 @@ use Rattle.flat_graph.specs.Fire.{fired}
 use Rattle.flat_graph.specs.Meaning.{is_get, sensed, conditions, inputs, outputs_in, next_cell}
 use Rattle.sync_meaning.specs.declared.layout.Store.{Store}
 use Rattle.sync_meaning.specs.Store.{Fits, lengths, given, value_at, delay_cells}
+use Rattle.syn_base.specs.Vectors.{Vector, Values, vector_at}
 
 -- The sensors' vectors of a reaction.
 abbrev pub row_of : Reactions → ℕ → Values

@@ -18,7 +18,6 @@ use Rattle.std.specs.Prelude.{
   slice_get,
   slice_index_or,
 }
-use Rattle.level_meaning.specs.Level.{Vector, Values, vector_at}
 use Rattle.flat_graph.specs.declared.vertex.Source.{Source}
 use Rattle.flat_graph.specs.declared.vertex.Kind.{Kind}
 use Rattle.flat_graph.specs.declared.vertex.Kind.TheVariants.{Get, Set}
@@ -26,6 +25,7 @@ use Rattle.flat_graph.specs.declared.vertex.Vertex.{Vertex}
 use Rattle.flat_graph.specs.Graph.{Graph, lens_of}
 use Rattle.flat_graph.specs.Fire.{guards_hold}
 use Rattle.flat_graph.specs.Meaning.{is_get, conditions, inputs}
+use Rattle.syn_base.specs.Vectors.{Vector, Values, vector_at}
 
 -- The outputs of operation v in a table.
 abbrev pub given : List Values → ℕ → Values

@@ -4,8 +4,7 @@ ghost use Rattle.flat_graph.specs.Graph.{lens_of};
 ghost use Rattle.flat_graph.specs.Meaning.{initial_cells};
 ghost use Rattle.sync_meaning.specs.Store.{lengths, lens_read, first_kept, Fits, delay_cells};
 
-use body_lang::Ins;
-use flat_graph::{Flat, Guard, Kind, Source, Vertex, len_of};
+use flat_graph::{Flat, Guard, Ins, Kind, Source, Vertex, len_of};
 use std::alloc::Global;
 use syn_base::OutOfMemory;
 

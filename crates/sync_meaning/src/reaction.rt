@@ -1,7 +1,6 @@
 //! One reaction of a flat graph: all operations are fired in order, and then the delays keep.
 ghost use Rattle.std.specs.Prelude.{◌≡◌, ℕ, ◌+◌, ◌<◌, ◌++◌, ◌∷◌, [], IsTrue, length, map, take, drop};
 ghost use Rattle.syn_base.specs.Rows.{AreCut};
-ghost use Rattle.level_meaning.specs.Level.{vector_at};
 ghost use Rattle.flat_graph.specs.Fire.{kept, read_lens, cell_len, seen_len};
 ghost use Rattle.flat_graph.specs.Laws.{sensor_lens};
 ghost use Rattle.flat_graph.specs.Valid.{is_flat};
@@ -9,11 +8,11 @@ ghost use Rattle.flat_graph.specs.Meaning.{sensed, conditions, inputs, next_cell
 ghost use Rattle.sync_meaning.specs.Order.{IsOrder};
 ghost use Rattle.sync_meaning.specs.Store.{lengths, value_at, HasRead, CellsFit, HasSetHalf};
 ghost use Rattle.sync_meaning.specs.Reaction.{row_of, FitsStore, Gives, KeepsCell, HasRun, HasFired, HasKept, KeepsAt};
+ghost use Rattle.syn_base.specs.Vectors.{vector_at};
 
 use crate::layout::Store;
 use crate::values::{are_holding, put, value_of};
-use body_lang::Ins;
-use flat_graph::{Flat, Guard, Kind, Source, Vertex, fire};
+use flat_graph::{Flat, Guard, Ins, Kind, Source, Vertex, fire};
 use syn_base::SensorRows;
 
 /// Reads the values of an operation's inputs.

@@ -1,7 +1,7 @@
 //! The run of a flat graph over rows of its sensors: `run_flat`.
 ghost use Rattle.std.specs.Prelude.{◌≡◌, ◌++◌, [], length, IfOk, OnOk};
 ghost use Rattle.syn_base.specs.Rows.{AreCut};
-ghost use Rattle.level_meaning.specs.Level.{all_joined, vector_at};
+ghost use Rattle.algo_tree.specs.Level.{all_joined};
 ghost use Rattle.flat_graph.specs.Graph.{lens_of};
 ghost use Rattle.flat_graph.specs.Laws.{sensor_lens};
 ghost use Rattle.flat_graph.specs.Meaning.{taken, taken_by, initial_cells, inputs};
@@ -9,13 +9,13 @@ ghost use Rattle.sync_meaning.specs.Order.{IsOrder};
 ghost use Rattle.sync_meaning.specs.Store.{value_at, delay_cells};
 ghost use Rattle.sync_meaning.specs.Reaction.{FitsStore, kept_in};
 ghost use Rattle.sync_meaning.specs.Ran.{taken_len, taken_lens, ran};
+ghost use Rattle.syn_base.specs.Vectors.{vector_at};
 
 use crate::layout::{Store, new_store, push_lens};
 use crate::order::find_order;
 use crate::reaction::{fire_all, keep_all};
 use crate::values::value_of;
-use body_lang::Ins;
-use flat_graph::{Flat, Kind, Vertex};
+use flat_graph::{Flat, Ins, Kind, Vertex};
 use std::alloc::Global;
 use syn_base::{ActRows, OutOfMemory, SensorRows};
 

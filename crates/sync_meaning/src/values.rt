@@ -1,11 +1,11 @@
 //! The values of sources, from the table of what the operations give, and the guards that they decide.
 ghost use Rattle.std.specs.Prelude.{◌≡◌, ◌<◌, ◌==◌, length, map, slice_set};
-ghost use Rattle.level_meaning.specs.Level.{element_at, selected, vector_at};
+ghost use Rattle.algo_tree.specs.Level.{element_at, selected};
 ghost use Rattle.flat_graph.specs.Fire.{guards_hold};
 ghost use Rattle.sync_meaning.specs.Store.{value_at};
+ghost use Rattle.syn_base.specs.Vectors.{vector_at};
 
-use body_lang::Ins;
-use flat_graph::{Guard, Source};
+use flat_graph::{Guard, Ins, Source};
 
 /// The output of this number, empty where there is none.
 fn output(outs: &Ins, port: usize) -> &[i64]

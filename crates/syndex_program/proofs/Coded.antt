@@ -2,30 +2,30 @@
 use Rattle.std.proofs.Common.{◌≡◌, ◌∙◌, List, [], ◌∷◌, map, length, Option, Some, Result, Ok, Err, refl, sym, ap, subst, inl, inr}
 use Rattle.std.specs.Prelude.{IsTrue}
 use Rattle.syn_base.specs.Bytes.{Bytes}
-use Rattle.outside.specs.Shelf.{Held}
-use Rattle.outside.specs.Sink.{Sunk}
-use Rattle.outside.specs.declared.file.File.TheVariants.{Code}
-use Rattle.archi_graph.specs.Archi.{Architecture as Archi, is_archi}
-use Rattle.archi_graph.specs.Sequences.{sequences}
-use Rattle.flat_graph.specs.Graph.{Graph}
-use Rattle.executive_program.specs.declared.program.Program.{Program}
-use Rattle.executive_program.specs.WellFormed.{IsWellFormed}
-use Rattle.macro_code.specs.ReadText.{program_in}
-use Rattle.macro_code.specs.declared.fault.CodeError.{CodeError}
-use Rattle.macro_code.specs.declared.fault.CodeError.TheVariants as code
-use Rattle.code_reader.specs.Given.{Fails}
-use Rattle.check_cause.specs.declared.cause.CheckCause.{CheckCause}
-use Rattle.check_cause.specs.declared.cause.CheckCause.TheVariants.{Sequences, Calls, Transfers, Buffers, Pairs, Prologue, Stuck}
-use Rattle.check_cause.specs.declared.cause.Stop.{Stop}
+use Rattle.text_lines.specs.declared.fault.TextError.TheVariants as error
+use Rattle.text_lines.specs.Refusals.{Refused, Limit, Fails}
+use Rattle.self_timed.specs.Archi.{Architecture as Archi, is_archi}
+use Rattle.self_timed.specs.Sequences.{sequences}
+use Rattle.self_timed.specs.Graph.{Graph}
+use Rattle.self_timed.specs.declared.Program.{Program}
+use Rattle.self_timed.specs.WellFormed.{IsWellFormed}
 use Rattle.compiler.specs.Checked.{IsLacking}
 use Rattle.macro_check.specs.Awaiting.{place_of}
 use Rattle.macro_check.specs.Causes.{cause_of}
 use Rattle.word_rule.specs.Driven.{Driven, driven_by}
-use Rattle.command_plan.specs.Ending.{Ending, no_memory, refused}
-use Rattle.command_plan.specs.Run.{Makes, Ran, WasRead, refuses, was_read}
-use Rattle.command_plan.proofs.Makes.{after_err, after_ok, memory, wanting}
-use Rattle.command_status.specs.Status.{Refusal, ending_of, failed_check, of_code, status_of_code}
-use Rattle.command_status.specs.declared.status.Status.{Status}
+use Rattle.top_plans.specs.Shelf.{Held}
+use Rattle.top_plans.specs.Sink.{Sunk}
+use Rattle.top_plans.specs.declared.File.TheVariants.{Code}
+use Rattle.top_plans.specs.ReadText.{program_in}
+use Rattle.top_plans.specs.CodeRefusals.{CodeError}
+use Rattle.top_plans.specs.declared.CheckCause.{CheckCause}
+use Rattle.top_plans.specs.declared.CheckCause.TheVariants.{Sequences, Calls, Transfers, Buffers, Pairs, Prologue, Stuck}
+use Rattle.top_plans.specs.declared.Stop.{Stop}
+use Rattle.top_plans.specs.Ending.{Ending, no_memory, refused}
+use Rattle.top_plans.specs.Run.{Makes, Ran, WasRead, refuses, was_read}
+use Rattle.top_plans.proofs.Makes.{after_err, after_ok, memory, wanting}
+use Rattle.top_plans.specs.Status.{Refusal, ending_of, failed_check, of_code, status_of_code}
+use Rattle.top_plans.specs.declared.Status.{Status}
 use Rattle.top_plans.specs.Checks.{lacking, stop_of, told}
 use Rattle.top_plans.proofs.Checks.{lacks, lacks_nothing}
 use Rattle.top_plans.specs.Given.{Given, stages}
@@ -58,9 +58,9 @@ module _ (g : Graph) (a : Archi) where
 
     -- a text is refused
     pub code_refused : (held : Held) (e : CodeError) → Fails e (program_in text g a) → Makes held held (code_in text g a next) (Err (ending_of (status_of_code e)))
-    code_refused held (code.Refused fault) is = after_err held of_code (program_in text g a) checked (code.Refused fault) is
-    code_refused held (code.Limit fault) is = after_err held of_code (program_in text g a) checked (code.Limit fault) is
-    code_refused held code.OutOfMemory is = memory held (code_in text g a next)
+    code_refused held (error.Refused fault) is = after_err held of_code (program_in text g a) checked (Refused fault) is
+    code_refused held (error.Limit fault) is = after_err held of_code (program_in text g a) checked (Limit fault) is
+    code_refused held error.OutOfMemory is = memory held (code_in text g a next)
 
     -- its program fails the check
     pub check_refused : (held : Held) (c : CheckCause) → IsLacking text g a c → Makes held held (code_in text g a next) (Err (refused (failed_check c)))

@@ -8,7 +8,12 @@ use Rattle.syn_base.specs.Name.{is_digit}
 use Rattle.syn_base.specs.Integer.{number_of}
 use Rattle.syn_base.specs.Bytes.{Bytes}
 use Rattle.command_words.specs.Command.{Arguments, Command, check, sim, flat, chart, code, run, exec, arguments_of, command_by, command_of, counted, dated, exec_by, four, loaded, number_up_to, one, one_or_two, plain_by, run_by, three, two, with_count}
-use Rattle.syndex_program.specs.Counts.{AreCounted}
+use Rattle.syndex_program.specs.Counts.{IsCounted}
+
+-- If there is a command, its numbers are within their bounds.
+abbrev pub AreCounted : Option Command → Type 0
+AreCounted None = Unit {0}
+AreCounted (Some command) = IsCounted command
 
 either : (b : Bool) (x y : Option Command) → AreCounted x → AreCounted y → AreCounted (if b then x else y)
 either true x y h k = h

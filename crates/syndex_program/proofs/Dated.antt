@@ -2,24 +2,24 @@
 use Rattle.std.proofs.Common.{◌≡◌, ℕ, List, Result, Err, subst}
 use Rattle.std.specs.Prelude.{Vec}
 use Rattle.syn_base.specs.Bytes.{Bytes}
-use Rattle.outside.specs.Shelf.{Held}
-use Rattle.flat_graph.specs.Graph.{Graph}
-use Rattle.archi_graph.specs.Archi.{Architecture as Archi}
-use Rattle.durations.specs.Table.{Table}
-use Rattle.schedule.specs.declared.decision.Schedule.{Schedule}
-use Rattle.actual_defs.specs.declared.fault.ActualError.{ActualError}
-use Rattle.actual_defs.specs.declared.fault.ActualError.TheVariants as error
-use Rattle.actual_durations.specs.Actual.{actual_of}
-use Rattle.actual_durations.specs.Answers as answers
 use Rattle.algo_tree.specs.Tree.{Vertex}
-use Rattle.archi_defs.specs.Text.{Described}
-use Rattle.flat_laws.specs.FlatOf.{flat_of}
-use Rattle.outside.specs.declared.file.File.TheVariants.{Durations}
-use Rattle.dates_text.specs.Listing.{dates_text}
-use Rattle.command_plan.specs.Plan.{after, give}
-use Rattle.command_plan.specs.Run.{Makes}
-use Rattle.command_plan.proofs.Makes.{after_err, memory}
-use Rattle.command_status.specs.Status.{ending_of, of_durations, status_of_durations}
+use Rattle.self_timed.specs.Graph.{Graph}
+use Rattle.self_timed.specs.Archi.{Architecture as Archi}
+use Rattle.self_timed.specs.Table.{Table}
+use Rattle.self_timed.specs.declared.Schedule.{Schedule}
+use Rattle.self_timed.specs.Text.{Described}
+use Rattle.top_plans.specs.Shelf.{Held}
+use Rattle.top_plans.specs.declared.ActualError.{ActualError}
+use Rattle.top_plans.specs.declared.ActualError.TheVariants as error
+use Rattle.top_plans.specs.Actual.{actual_of}
+use Rattle.top_plans.specs.ActualAnswers as answers
+use Rattle.top_plans.specs.FlatOf.{flat_of}
+use Rattle.top_plans.specs.declared.File.TheVariants.{Durations}
+use Rattle.top_plans.specs.Listing.{dates_text}
+use Rattle.top_plans.specs.Plan.{after, give}
+use Rattle.top_plans.specs.Run.{Makes}
+use Rattle.top_plans.proofs.Makes.{after_err, memory}
+use Rattle.top_plans.specs.Status.{ending_of, of_durations, status_of_durations}
 use Rattle.top_plans.specs.Given.{written}
 use Rattle.top_plans.specs.Plans.{Made, durations_in, program_plan, read_file, schedule_of}
 use Rattle.syndex_program.specs.Dates.{dated_in}

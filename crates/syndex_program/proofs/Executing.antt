@@ -1,24 +1,24 @@
 -- Carrying out the plan of a program that is executed.
 use Rattle.std.proofs.Common.{◌≡◌, ◌≤◌, ◌∙◌, length, Some, None, Result, Ok, Err, refl, sym, subst, inl}
-use Rattle.outside.specs.Shelf.{Held}
 use Rattle.syn_base.specs.Rows.{Reactions}
 use Rattle.syn_base.specs.declared.limits.LimitFault.{LimitFault}
 use Rattle.algo_tree.specs.Tree.{Vertex}
 use Rattle.algo_tree.specs.Ends.{sensor_lengths}
-use Rattle.archi_graph.specs.Archi.{Architecture as Archi}
-use Rattle.archi_graph.specs.Sequences.{sequences}
-use Rattle.durations.specs.Table.{Table}
-use Rattle.flat_graph.specs.Graph.{Graph}
-use Rattle.flat_laws.specs.FlatOf.{flat_of}
-use Rattle.accepted_laws.specs.Flat.{HasFlat}
-use Rattle.executive_program.specs.declared.program.Program.{Program}
-use Rattle.executive_program.specs.WellFormed.{IsWellFormed}
-use Rattle.sequence_build.specs.Limit.{program_limit}
-use Rattle.semaphore_core.specs.IsJob.{FitTogether, limit_of}
-use Rattle.command_plan.specs.Ending.{Ending, refused}
-use Rattle.command_plan.specs.Plan.{give}
-use Rattle.command_plan.specs.Run.{Makes, gives}
-use Rattle.command_status.specs.Status.{Refusal, above}
+use Rattle.word_rule.specs.IsJob.{FitTogether, limit_of}
+use Rattle.self_timed.specs.Archi.{Architecture as Archi}
+use Rattle.self_timed.specs.Sequences.{sequences}
+use Rattle.self_timed.specs.Table.{Table}
+use Rattle.self_timed.specs.Graph.{Graph}
+use Rattle.self_timed.specs.declared.Program.{Program}
+use Rattle.self_timed.specs.WellFormed.{IsWellFormed}
+use Rattle.top_plans.specs.Shelf.{Held}
+use Rattle.top_plans.specs.FlatOf.{flat_of}
+use Rattle.top_plans.specs.Flat.{HasFlat}
+use Rattle.top_plans.specs.Limit.{program_limit}
+use Rattle.top_plans.specs.Ending.{Ending, refused}
+use Rattle.top_plans.specs.Plan.{give}
+use Rattle.top_plans.specs.Run.{Makes, gives}
+use Rattle.top_plans.specs.Status.{Refusal, above}
 use Rattle.top_plans.specs.Given.{Given, Execution, one_job}
 use Rattle.top_plans.specs.Plans.{execution, execution_plan, program_by}
 use Rattle.syndex_program.specs.Executes.{rest_plan}

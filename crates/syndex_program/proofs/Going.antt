@@ -1,17 +1,17 @@
 -- One window more.
 use Rattle.std.proofs.Common.{◌≡◌, ℕ, suc, ◌+◌, ◌<◌, ◌≤◌, List, ◌∷◌, length, drop, take, sym, ap, subst, ◌∙◌, arith, length-take, Bool}
 use Rattle.syn_base.specs.Bytes.{Bytes}
-use Rattle.outside.specs.Sink.{Sunk, Wrote}
-use Rattle.level_meaning.specs.Level.{Values}
 use Rattle.algo_tree.specs.Tree.{Vertex}
-use Rattle.command_plan.specs.Stage.{Stage, after_jobs, RunsSome}
-use Rattle.phase_laws.specs.Windows.{window}
 use Rattle.run_laws.specs.Windows.{reactions_from}
-use Rattle.semaphore_core.specs.Job.{JobData, reactions}
+use Rattle.word_rule.specs.Windows.{window}
+use Rattle.word_rule.specs.Job.{JobData, reactions}
 use Rattle.word_rule.specs.Driven.{Driven, driven_by}
 use Rattle.job_windows.specs.Windowed.{WindowsData, first_of, next_job}
+use Rattle.top_plans.specs.Sink.{Sunk, Wrote}
+use Rattle.top_plans.specs.Stage.{Stage, after_jobs, RunsSome}
 use Rattle.syndex_program.specs.Left.{job_from, jobs_left, stage_from, stages_left}
 use Rattle.syndex_program.proofs.Leaving.{after_next, one_more}
+use Rattle.syn_base.specs.Vectors.{Values}
 
 -- rows of a window, numbered from its first reaction on
 pub few_numbers : (first s n : ℕ) (acts rows : List Values) → first < 20000 → rows ≡ window s (reactions_from n s) acts → first + length rows ≤ 18446744073709551615

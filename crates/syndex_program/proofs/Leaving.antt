@@ -4,25 +4,27 @@ use Rattle.std.specs.Prelude.{slice_index_or}
 use Rattle.std.specs.List.{range_with_len}
 use Rattle.std.proofs.lemmas.List.{map-append}
 use Rattle.std.proofs.lemmas.List.FromFn.{length-map-range_with_len, map-range_with_len_more}
-use Rattle.flat_graph.specs.Meaning.{flat_act_row, initial_cells}
-use Rattle.flat_laws.specs.FlatOf.{flat_of}
-use Rattle.accepted_laws.specs.Flat.{HasFlat}
-use Rattle.level_meaning.specs.declared.source.Source.{Source}
-use Rattle.level_meaning.specs.Level.{Values, Vector, level_value, numbers_below}
+use Rattle.algo_tree.specs.declared.Source.{Source}
+use Rattle.algo_tree.specs.Level.{level_value}
 use Rattle.algo_tree.specs.Tree.{Kind, sensor, actuator, constant, delay, function, explode, implode, merge, graph, switch, repeat, Label, Vertex, vertex, Vertices, no_vertices, and_vertex}
 use Rattle.algo_tree.specs.Ends.{actuator_length, actuator_lengths_in, actuator_lengths}
 use Rattle.algo_tree.specs.Meaning.{act_row, actuator_value, actuator_values, inside, past}
 use Rattle.algo_tree.specs.Typed.{outs_of, source_length}
-use Rattle.act_text.specs.Names.{actuator_names}
-use Rattle.act_text.specs.Text.{text_from}
-use Rattle.semaphore_core.specs.Job.{JobData, reactions}
-use Rattle.phase_laws.specs.Ended.{all_acts}
-use Rattle.phase_laws.specs.Windows.{window}
+use Rattle.word_rule.specs.Job.{JobData, reactions}
+use Rattle.word_rule.specs.Ended.{all_acts}
+use Rattle.word_rule.specs.Windows.{window}
+use Rattle.self_timed.specs.Meaning.{flat_act_row, initial_cells}
 use Rattle.run_laws.specs.Windows.{windows_in, reactions_from, starts, window_text, window_jobs}
+use Rattle.top_plans.specs.FlatOf.{flat_of}
+use Rattle.top_plans.specs.Flat.{HasFlat}
+use Rattle.top_plans.specs.ActNames.{actuator_names}
+use Rattle.top_plans.specs.ActText.{text_from}
 use Rattle.top_plans.specs.Given.{Execution, acts_of, one_job, window_stages}
 use Rattle.job_windows.specs.Windowed.{WindowsData, first_of}
 use Rattle.syndex_program.specs.Sums.{AreFew}
 use Rattle.syndex_program.specs.Left.{starts_left, jobs_left, job_from, stage_from, stages_left}
+use Rattle.syn_base.specs.Vectors.{Vector, Values}
+use Rattle.syn_base.specs.Numbers.{numbers_below}
 
 -- the window after this one
 abbrev pub after_next : WindowsData → WindowsData

@@ -1,24 +1,24 @@
 -- Carrying out the plan of texts that are executed.
 use Rattle.std.proofs.Common.{Result, Ok, Err}
 use Rattle.syn_base.specs.Bytes.{Bytes}
-use Rattle.outside.specs.Shelf.{Held}
 use Rattle.csv.specs.Reading.{default_config, records, strip_bom}
 use Rattle.syn_base.specs.Rows.{Reactions}
 use Rattle.algo_text.specs.declared.definition.Defs.{Defs}
 use Rattle.algo_text.specs.declared.fault.AlgoError.{AlgoError}
 use Rattle.algo_tree.specs.Tree.{Vertex}
-use Rattle.archi_defs.specs.Text.{Described}
-use Rattle.archi_defs.specs.declared.fault.ArchiError.{ArchiError}
-use Rattle.durations.specs.Table.{Table}
-use Rattle.sensor_table.specs.SensorTable.{rows_of}
-use Rattle.sensor_table.specs.declared.fault.SensorError.{SensorError}
-use Rattle.command_plan.specs.Ending.{Ending}
-use Rattle.command_plan.specs.Run.{Makes}
-use Rattle.command_status.specs.Status.{Refusal, ending_of, status_of_algorithm, status_of_architecture, status_of_sensors}
+use Rattle.self_timed.specs.Text.{Described, described_by}
+use Rattle.self_timed.specs.Refusals.{ArchiError}
+use Rattle.self_timed.specs.Table.{Table}
+use Rattle.top_plans.specs.Shelf.{Held}
+use Rattle.top_plans.specs.SensorTable.{rows_of}
+use Rattle.top_plans.specs.declared.SensorError.{SensorError}
+use Rattle.top_plans.specs.Ending.{Ending}
+use Rattle.top_plans.specs.Run.{Makes}
+use Rattle.top_plans.specs.Status.{Refusal, ending_of, status_of_algorithm, status_of_architecture, status_of_sensors}
 use Rattle.top_plans.specs.Given.{Given, Execution}
 use Rattle.top_plans.specs.Plans.{Made, architecture_in, table_in}
 use Rattle.syndex_program.specs.Executes.{rest_plan, texts_plan}
-use Rattle.compiler.specs.Compiles.{IsAlgorithm, IsCompilation, MakesAlgorithm, MakesCompilation, described}
+use Rattle.compiler.specs.Compiles.{IsAlgorithm, IsCompilation, MakesAlgorithm, MakesCompilation}
 use Rattle.compiler.specs.Reads.{MakesTable}
 use Rattle.compiler.specs.declared.stages.Algorithm.{Algorithm}
 use Rattle.compiler.specs.declared.stages.Compilation.{Compilation}
@@ -43,7 +43,7 @@ module _ (next : Execution → Given) (held : Held) (a h s : Bytes) where
 
     module _ (compilation : Compilation) (says : IsCompilation algorithm.tree h compilation) where
       -- both texts were accepted, and then the plan went on with the table
-      both_so : (made : Result Given (Ending Refusal)) → Makes held held (behind_table algorithm.tree (described compilation.text) compilation.durations) made → Makes held held (texts_plan next a h s) made
+      both_so : (made : Result Given (Ending Refusal)) → Makes held held (behind_table algorithm.tree (described_by compilation.text) compilation.durations) made → Makes held held (texts_plan next a h s) made
       both_so made m =
           steps.resolved_so a behind_algorithm held held algorithm made is
           (architectures.described_so algorithm.tree h (behind_table algorithm.tree) held held compilation made says m)

@@ -1,10 +1,10 @@
 -- The texts of a load are short.
 use Rattle.std.proofs.Common.{ℕ, zero, suc, ◌+◌, ◌%◌, ◌≤◌, ◌<◌, length, arith, lit≤, ◌++◌}
 use Rattle.std.specs.Fmt.{digits}
-use Rattle.outside.specs.Shelf.{file_bound}
 use Rattle.load_texts.specs.Algorithm.{algorithm_text, compound_definitions, main_graph, vector_definitions}
 use Rattle.load_texts.specs.Architecture.{architecture_text}
 use Rattle.load_texts.specs.Lines.{lines_text}
+use Rattle.top_plans.specs.Shelf.{file_bound}
 
 -- the longest texts have eight layers
 layers_short : (l : ℕ) → l < 8 → length (lines_text vector_definitions ++ (lines_text compound_definitions ++ main_graph (1 + l))) ≤ file_bound

@@ -1,12 +1,5 @@
 -- What the two calls answer, from what was carried out.
 use Rattle.std.proofs.Common.{Option, Some, None, Err, inl, inr, refl}
-use Rattle.outside.specs.Shelf.{Held}
-use Rattle.outside.specs.Sink.{Sunk}
-use Rattle.command_plan.specs.Ending.{no_memory, refused}
-use Rattle.command_plan.specs.Run.{refuses}
-use Rattle.command_plan.proofs.Makes.{memory}
-use Rattle.command_status.specs.Status.{ending_of, usage}
-use Rattle.command_status.specs.declared.status.Status.{Status}
 use Rattle.command_words.specs.Command.{Command, check, sim, flat, chart, code, run, load, exec, dates}
 use Rattle.command_words.specs.View.{job_view, plain_view}
 use Rattle.command_words.specs.declared.commands.JobCommand.{JobCommand}
@@ -14,6 +7,13 @@ use Rattle.command_words.specs.declared.commands.JobCommand.TheVariants.{Run, Lo
 use Rattle.command_words.specs.declared.commands.PlainCommand.{PlainCommand}
 use Rattle.command_words.specs.declared.commands.PlainCommand.TheVariants.{Check, Sim, Flat, Chart, Code, Dates}
 use Rattle.word_rule.specs.Driven.{Driven}
+use Rattle.top_plans.specs.Shelf.{Held}
+use Rattle.top_plans.specs.Sink.{Sunk}
+use Rattle.top_plans.specs.Ending.{no_memory, refused}
+use Rattle.top_plans.specs.Run.{refuses}
+use Rattle.top_plans.proofs.Makes.{memory}
+use Rattle.top_plans.specs.Status.{ending_of, usage}
+use Rattle.top_plans.specs.declared.Status.{Status}
 use Rattle.top_plans.specs.Names.{IsPlain, RunsJobs}
 use Rattle.top_plans.specs.Plans.{plan_of}
 use Rattle.top_plans.specs.Replies.{CommandsReply, PlainCommandsReply, PlainReplies, Replies}

@@ -5,10 +5,11 @@ use Rattle.std.specs.Int.{int_wrap}
 use Rattle.std.specs.List.{flat_map}
 use Rattle.std.proofs.lemmas.Int.{ints, int_wrap-add_left}
 use Rattle.std.proofs.lemmas.List.{drop_all}
-use Rattle.level_meaning.specs.Level.{Values, all_joined}
-use Rattle.body_lang.specs.Expr.{total}
 use Rattle.syn_base.specs.Arithmetic.{wrapped}
+use Rattle.algo_tree.specs.Level.{all_joined}
+use Rattle.algo_text.specs.Expr.{total}
 use Rattle.syndex_program.specs.Sums.{total_of}
+use Rattle.syn_base.specs.Vectors.{Values}
 
 add_assoc_ℤ : (a b c : ℤ) → (a +ℤ b) +ℤ c ≡ a +ℤ (b +ℤ c)
 add_assoc_ℤ a b c = omega (arith, ints)

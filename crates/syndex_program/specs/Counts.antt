@@ -1,5 +1,5 @@
 -- Which numbers words may give.
-use Rattle.std.specs.Prelude.{◌≤◌, Option, Some, None}
+use Rattle.std.specs.Prelude.{◌≤◌}
 use Rattle.command_words.specs.Command.{Command, load, dates}
 
 -- 1 to 1,000 layers are loaded, and 1 to 1,000 reactions are dated
@@ -7,7 +7,3 @@ abbrev pub IsCounted : Command → Type 0
 IsCounted (load n) = (1 ≤ n) × (n ≤ 1000)
 IsCounted (dates a h g n) = (1 ≤ n) × (n ≤ 1000)
 IsCounted _ = Unit {0}
-
-abbrev pub AreCounted : Option Command → Type 0
-AreCounted None = Unit {0}
-AreCounted (Some command) = IsCounted command

@@ -1,11 +1,11 @@
 -- What is made of a text of actual durations.
 use Rattle.std.specs.Prelude.{ℕ}
 use Rattle.syn_base.specs.Bytes.{Bytes}
-use Rattle.flat_graph.specs.Graph.{Graph}
-use Rattle.archi_graph.specs.Archi.{Architecture as Archi}
-use Rattle.durations.specs.Table.{Table}
-use Rattle.dates_text.specs.Listing.{dates_text}
-use Rattle.command_plan.specs.Plan.{give}
+use Rattle.self_timed.specs.Graph.{Graph}
+use Rattle.self_timed.specs.Archi.{Architecture as Archi}
+use Rattle.self_timed.specs.Table.{Table}
+use Rattle.top_plans.specs.Listing.{dates_text}
+use Rattle.top_plans.specs.Plan.{give}
 use Rattle.top_plans.specs.Given.{written}
 use Rattle.top_plans.specs.Plans.{Made, durations_in, program_plan, schedule_of}
 

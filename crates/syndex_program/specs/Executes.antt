@@ -1,21 +1,21 @@
 -- Programs that are executed: what is asked of their parts, and what reading them answers.
 use Rattle.std.specs.Prelude.{◌≡◌, ◌⊎◌, length, None, Result, Ok, Err}
 use Rattle.syn_base.specs.Bytes.{Bytes}
-use Rattle.outside.specs.Sink.{Sunk}
-use Rattle.outside.specs.declared.file.File.TheVariants.{Architecture, Code}
 use Rattle.syn_base.specs.Rows.{Reactions}
 use Rattle.algo_tree.specs.Tree.{Vertex}
-use Rattle.archi_graph.specs.Archi.{Architecture as Archi}
-use Rattle.durations.specs.Table.{Table}
-use Rattle.flat_laws.specs.FlatOf.{flat_of}
-use Rattle.accepted_laws.specs.Flat.{HasFlat}
-use Rattle.semaphore_core.specs.Job.{total_steps}
-use Rattle.semaphore_core.specs.IsJob.{FitTogether, limit_of}
-use Rattle.command_plan.specs.Ending.{Ending, no_memory}
-use Rattle.command_plan.specs.Run.{Ends}
-use Rattle.command_status.specs.Status.{Refusal, ending_of}
-use Rattle.command_status.specs.declared.status.Status.{Status}
+use Rattle.word_rule.specs.Job.{total_steps}
+use Rattle.word_rule.specs.IsJob.{FitTogether, limit_of}
 use Rattle.word_rule.specs.Driven.{Driven, driven_by}
+use Rattle.self_timed.specs.Archi.{Architecture as Archi}
+use Rattle.self_timed.specs.Table.{Table}
+use Rattle.top_plans.specs.Sink.{Sunk}
+use Rattle.top_plans.specs.declared.File.TheVariants.{Architecture, Code}
+use Rattle.top_plans.specs.FlatOf.{flat_of}
+use Rattle.top_plans.specs.Flat.{HasFlat}
+use Rattle.top_plans.specs.Ending.{Ending, no_memory}
+use Rattle.top_plans.specs.Run.{Ends}
+use Rattle.top_plans.specs.Status.{Refusal, ending_of}
+use Rattle.top_plans.specs.declared.Status.{Status}
 use Rattle.top_plans.specs.Given.{Given, Execution as Executed, one_job, stages}
 use Rattle.top_plans.specs.Plans.{
   Made,

@@ -1,17 +1,17 @@
 -- What a text of macro-code answers, where its program is checked.
 use Rattle.std.specs.Prelude.{◌≡◌, length, None, Result, Ok, Err}
 use Rattle.syn_base.specs.Bytes.{Bytes}
-use Rattle.outside.specs.Shelf.{Held}
-use Rattle.outside.specs.declared.file.File.TheVariants.{Code}
-use Rattle.archi_graph.specs.Archi.{Architecture as Archi}
-use Rattle.archi_graph.specs.Sequences.{sequences}
-use Rattle.flat_graph.specs.Graph.{Graph}
-use Rattle.executive_program.specs.declared.program.Program.{Program}
-use Rattle.executive_program.specs.WellFormed.{IsWellFormed}
-use Rattle.macro_code.specs.ReadText.{program_in}
-use Rattle.command_plan.specs.Run.{Makes, WasRead}
-use Rattle.command_status.specs.Status.{ending_of}
-use Rattle.command_status.specs.declared.status.Status.{Status}
+use Rattle.self_timed.specs.Archi.{Architecture as Archi}
+use Rattle.self_timed.specs.Sequences.{sequences}
+use Rattle.self_timed.specs.Graph.{Graph}
+use Rattle.self_timed.specs.declared.Program.{Program}
+use Rattle.self_timed.specs.WellFormed.{IsWellFormed}
+use Rattle.top_plans.specs.Shelf.{Held}
+use Rattle.top_plans.specs.declared.File.TheVariants.{Code}
+use Rattle.top_plans.specs.ReadText.{program_in}
+use Rattle.top_plans.specs.Run.{Makes, WasRead}
+use Rattle.top_plans.specs.Status.{ending_of}
+use Rattle.top_plans.specs.declared.Status.{Status}
 use Rattle.top_plans.specs.Checks.{lacking}
 use Rattle.top_plans.specs.Plans.{Made, code_in, read_file}
 

@@ -2,11 +2,11 @@
 use Rattle.std.specs.Prelude.{ℕ, ◌-◌, List, [], ◌∷◌, map}
 use Rattle.std.specs.List.{range_with_len}
 use Rattle.algo_tree.specs.Tree.{Vertex}
-use Rattle.act_text.specs.Names.{actuator_names}
-use Rattle.semaphore_core.specs.Job.{JobData, reactions}
-use Rattle.command_plan.specs.Stage.{Stage}
-use Rattle.phase_laws.specs.Windows.{window_job}
+use Rattle.word_rule.specs.Job.{JobData, reactions}
+use Rattle.word_rule.specs.Windows.{window_job}
 use Rattle.run_laws.specs.Windows.{windows_in, reactions_from, window_text}
+use Rattle.top_plans.specs.ActNames.{actuator_names}
+use Rattle.top_plans.specs.Stage.{Stage}
 use Rattle.top_plans.specs.Given.{acts_of}
 use Rattle.job_windows.specs.Windowed.{WindowsData, first_of}
 

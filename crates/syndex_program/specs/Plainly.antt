@@ -1,13 +1,13 @@
 -- What the commands that run no job answer.
 use Rattle.std.specs.Prelude.{◌≡◌, Option, Some, None}
-use Rattle.outside.specs.Shelf.{Held}
-use Rattle.outside.specs.Sink.{Sunk}
-use Rattle.command_plan.specs.Ending.{Ending}
-use Rattle.command_plan.specs.Run.{Ran}
-use Rattle.command_status.specs.Status.{Refusal, ending_of}
-use Rattle.command_status.specs.declared.status.Status.{Status}
 use Rattle.command_words.specs.Command.{Command}
 use Rattle.word_rule.specs.Driven.{Driven, driven_by}
+use Rattle.top_plans.specs.Shelf.{Held}
+use Rattle.top_plans.specs.Sink.{Sunk}
+use Rattle.top_plans.specs.Ending.{Ending}
+use Rattle.top_plans.specs.Run.{Ran}
+use Rattle.top_plans.specs.Status.{Refusal, ending_of}
+use Rattle.top_plans.specs.declared.Status.{Status}
 use Rattle.top_plans.specs.Given.{stages}
 use Rattle.top_plans.specs.Names.{RunsJobs}
 use Rattle.top_plans.specs.Plans.{plan_for}

@@ -1,9 +1,9 @@
 -- How windows go on, and how they end.
 use Rattle.std.specs.Prelude.{◌≡◌, ℕ, List, [], ◌∷◌, Option, Some, None, Result, Ok, Err, Vec}
-use Rattle.command_plan.specs.Ending.{Ending, done, unwritten, no_memory}
-use Rattle.command_plan.specs.Stage.{Stage, after_jobs, RunsSome}
-use Rattle.semaphore_core.specs.Job.{JobData}
+use Rattle.word_rule.specs.Job.{JobData}
 use Rattle.word_rule.specs.Driven.{Driven, driven_by}
+use Rattle.top_plans.specs.Ending.{Ending, done, unwritten, no_memory}
+use Rattle.top_plans.specs.Stage.{Stage, after_jobs, RunsSome}
 use Rattle.syndex_program.specs.declared.lines.Stopped.{Stopped}
 use Rattle.syndex_program.specs.declared.lines.Stopped.TheVariants as stopped
 

@@ -1,10 +1,11 @@
 -- The sum of all that the actuators take.
 use Rattle.std.specs.Prelude.{ℕ, ◌≤◌, ◌<◌, ℤ, List, [], length, drop, slice_index_or}
 use Rattle.std.specs.List.{flat_map}
-use Rattle.level_meaning.specs.Level.{Values, all_joined}
-use Rattle.body_lang.specs.Expr.{total}
-use Rattle.phase_laws.specs.Ended.{all_acts}
+use Rattle.algo_tree.specs.Level.{all_joined}
+use Rattle.algo_text.specs.Expr.{total}
+use Rattle.word_rule.specs.Ended.{all_acts}
 use Rattle.job_windows.specs.Windowed.{WindowsData, first_of}
+use Rattle.syn_base.specs.Vectors.{Values}
 
 -- of these rows, not brought back
 abbrev pub total_of : List Values → ℤ

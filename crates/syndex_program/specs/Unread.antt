@@ -1,7 +1,7 @@
 -- For which words nothing is read.
 use Rattle.std.specs.Prelude.{◌≡◌, Option, Some, None}
-use Rattle.outside.specs.Shelf.{Held}
 use Rattle.command_words.specs.Command.{Command, load}
+use Rattle.top_plans.specs.Shelf.{Held}
 
 -- nothing is read for words that are no command, or for a load
 abbrev pub LeavesUnread : Option Command → Held → Held → Type 0

@@ -1,10 +1,10 @@
 //! The commands, one a module, and which function carries out which, for the two calls of the crate.
 ghost use Rattle.std.specs.Prelude.{Some};
-ghost use Rattle.command_plan.specs.Run.{Ends, Makes, Performs, Ran};
-ghost use Rattle.command_status.specs.Status.{ending_of};
 ghost use Rattle.command_words.specs.View.{job_view, plain_view, view_of};
-ghost use Rattle.outside.specs.Shelf.{Stays};
 ghost use Rattle.word_rule.specs.Driven.{Driven as Drives, driven_by};
+ghost use Rattle.top_plans.specs.Run.{Ends, Makes, Performs, Ran};
+ghost use Rattle.top_plans.specs.Status.{ending_of};
+ghost use Rattle.top_plans.specs.Shelf.{Stays};
 ghost use Rattle.top_plans.specs.Given.{stages, written};
 ghost use Rattle.top_plans.specs.Plans.{plan_for};
 ghost use Rattle.syndex_program.specs.Counts.{IsCounted};
@@ -32,13 +32,12 @@ use crate::commands::load::finish_load;
 use crate::commands::run::finish_run;
 use crate::commands::sim::sim_text;
 use crate::execution::{load_execution, read_execution};
-use command_status::Status;
 use command_words::{Command, JobCommand, PlainCommand};
 use job_windows::Drive;
-use outside::{Failed, Gate, Shelf, Sink, write_whole};
 use std::alloc::Global;
 use std::sync::Wait;
 use std::thread::Threads;
+use top_plans::{Failed, Gate, Shelf, Sink, Status, write_whole};
 use word_table::Driven;
 
 /// Carries out a command, and returns how it ended.

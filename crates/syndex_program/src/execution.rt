@@ -1,33 +1,29 @@
 //! What the commands `run`, `load` and `exec` execute: a program on an architecture over rows, within all limits.
 ghost use Rattle.std.specs.Prelude.{◌≡◌, ◌≤◌, IfOk, length};
-ghost use Rattle.accepted_laws.specs.Flat.{HasFlat};
 ghost use Rattle.algo_tree.specs.Ends.{sensor_lengths};
-ghost use Rattle.archi_graph.specs.Sequences.{sequences};
-ghost use Rattle.command_plan.specs.Run.{Makes};
-ghost use Rattle.executive_program.specs.WellFormed.{IsWellFormed};
-ghost use Rattle.flat_laws.specs.FlatOf.{flat_of};
-ghost use Rattle.outside.specs.Shelf.{Held, Stays};
+ghost use Rattle.self_timed.specs.Sequences.{sequences};
+ghost use Rattle.self_timed.specs.WellFormed.{IsWellFormed};
+ghost use Rattle.top_plans.specs.Flat.{HasFlat};
+ghost use Rattle.top_plans.specs.Run.{Makes};
+ghost use Rattle.top_plans.specs.FlatOf.{flat_of};
+ghost use Rattle.top_plans.specs.Shelf.{Held, Stays};
 ghost use Rattle.top_plans.specs.Given.{Given, Execution as Executed};
 ghost use Rattle.top_plans.specs.Loads.{load_algorithm, load_architecture, load_table};
 ghost use Rattle.top_plans.specs.Plans.{execution, execution_plan};
 ghost use Rattle.syndex_program.specs.Executes.{IsExecuted, files_plan, made_of, rest_plan, texts_plan};
 ghost use Rattle.compiler.specs.Compiles.{HasDurations};
 
-use accepted_laws::accepted_have_flat;
 use algo_tree::Tree;
-use archi_defs::ArchiText;
-use command_status::Status;
 use compiler::{
     Algorithm, Compilation, compile_to_durations, compile_to_program, parse_algorithm, parse_table,
     read_algorithm, read_architecture, read_table,
 };
-use executive_program::Program;
-use flat_graph::Flat;
 use load_texts::load_texts;
-use outside::Shelf;
-use semaphore_core::run_limit;
+use self_timed::{ArchiText, Flat, Program};
 use std::alloc::Global;
 use syn_base::SensorRows;
+use top_plans::{Shelf, Status, accepted_have_flat};
+use word_rule::run_limit;
 
 /// A program that is well formed for the flat graph of an algorithm and the architecture of a text, and the rows
 /// over which it is executed.

@@ -5,24 +5,22 @@
 
 ghost use Rattle.std.specs.Prelude.{◌≡◌, map, IfSome, Some};
 ghost use Rattle.std.specs.String.{string_bytes};
-ghost use Rattle.command_status.specs.Lines.{line_of, Said};
-ghost use Rattle.command_status.specs.Status.{ending_of};
 ghost use Rattle.command_words.specs.Command.{command_of};
-ghost use Rattle.outside.specs.Shelf.{Stays};
+ghost use Rattle.top_plans.specs.Lines.{line_of, Said};
+ghost use Rattle.top_plans.specs.Status.{ending_of};
+ghost use Rattle.top_plans.specs.Shelf.{Stays};
 ghost use Rattle.top_plans.specs.Replies.{PlainReplies, Replies};
 ghost use Rattle.top_plans.specs.Values.{WritesValues};
 ghost use Rattle.syndex_program.specs.Plainly.{RepliesOrLeaves, ending_in};
 ghost use Rattle.syndex_program.specs.Unread.{LeavesUnread};
 
 use crate::commands::{carry_out, carry_out_plain};
-use command_status::say;
 use command_words::command_of;
 use job_windows::Drive;
-use outside::{Gate, Shelf, Sink};
 use std::alloc::Global;
 use std::sync::Wait;
 use std::thread::Threads;
-use top_plans::{commands_reply, plain_commands_reply, values_are_written};
+use top_plans::{Gate, Shelf, Sink, commands_reply, plain_commands_reply, say, values_are_written};
 use word_table::Driven;
 
 mod commands;
@@ -30,7 +28,7 @@ mod execution;
 mod lines;
 mod windows;
 
-pub use command_status::Status;
+pub use top_plans::Status;
 
 /// Every command that starts no thread. It answers how the command of the words ended, and writes
 /// its line to `err`; what happens there changes no status. It answers None exactly for a command that

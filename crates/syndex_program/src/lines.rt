@@ -1,27 +1,25 @@
 //! The lines that an execution writes, window by window, for the commands `run` and `exec`.
 ghost use Rattle.std.specs.Prelude.{◌≡◌, IfOk};
 ghost use Rattle.algo_tree.specs.Ends.{actuator_lengths};
-ghost use Rattle.command_plan.specs.Run.{Performs};
-ghost use Rattle.command_status.specs.Status.{Refusal, ending_of as status_ending};
-ghost use Rattle.phase_laws.specs.Ended.{all_acts};
-ghost use Rattle.operation_desks.specs.RowLens.{actuator_lens};
+ghost use Rattle.word_rule.specs.Ended.{all_acts};
 ghost use Rattle.word_rule.specs.Driven.{driven_by};
+ghost use Rattle.top_plans.specs.Run.{Performs};
+ghost use Rattle.top_plans.specs.Status.{Refusal, ending_of as status_ending};
 ghost use Rattle.top_plans.specs.Given.{acts_of, window_stages};
 ghost use Rattle.syndex_program.specs.Executes.{IsExecuted, executed};
 ghost use Rattle.syndex_program.specs.Left.{stages_left};
 ghost use Rattle.syndex_program.specs.Stopped.{GoesOn, ending_of};
+ghost use Rattle.self_timed.specs.FlatLaws.{actuator_lens};
 
 use crate::execution::Execution;
 use crate::windows::windows_of;
-use act_text::acts_text_from;
 use algo_tree::Tree;
-use command_status::Status;
 use job_windows::{Drive, JobWindows};
-use outside::{Gate, Sink, write_whole};
 use std::alloc::Global;
 use std::sync::Wait;
 use std::thread::Threads;
 use syn_base::OutOfMemory;
+use top_plans::{Gate, Sink, Status, acts_text_from, write_whole};
 use word_table::Driven;
 
 /// Why windows stopped.

@@ -19,11 +19,15 @@ use Rattle.std.specs.Prelude.{
   if◌then◌else◌,
   position,
   slice_range,
+  slice_index_or,
+  pos,
 }
 use Rattle.std.specs.List.{position_or_len}
 use Rattle.syn_base.specs.Bytes.{Bytes}
 use Rattle.syn_base.specs.Name.{is_name}
 use Rattle.text_lines.specs.declared.Span.{Span}
+use Rattle.std.specs.Str.{bytes_eq}
+use Rattle.std.specs.Fmt.{signed_decimal}
 
 -- The byte ends a line.
 abbrev pub is_feed : ℕ → Bool
@@ -69,6 +73,18 @@ with_letter b (c ∷ _) ws = if is_blank c then (b ∷ []) ∷ ws else with_byte
 abbrev pub words_of : List ℕ → List (List ℕ)
 words_of [] = []
 words_of (b ∷ bs) = if is_blank b then words_of bs else with_letter b bs (words_of bs)
+
+-- The word at this place of a line, counted from 0; the empty word if there is none.
+abbrev pub word : List Bytes → ℕ → Bytes
+word words place = slice_index_or words place []
+
+-- The first of these words is this one.
+abbrev pub begins : List Bytes → Bytes → Bool
+begins words key = bytes_eq (word words 0) key
+
+-- The word of a count: its decimal digits.
+abbrev pub count_text : ℕ → Bytes
+count_text n = signed_decimal (pos n)
 
 -- The name that a word is, if it is one.
 abbrev pub some_name : Bytes → Option Bytes

@@ -4,12 +4,14 @@
 //! Lines end at a line feed; the last line may lack one. Tab, carriage return and space are blanks
 //! (`is_blank_byte`). From `#` on a line is comment. `line_end` finds the end of a line, `code` cuts off its
 //! comment, `foreign` finds a byte that may not stand there, `Words` are its words, `read_name` reads a word as
-//! a name, and `check_limit` refuses a quantity above its bound.
+//! a name, and `check_limit` refuses a quantity above its bound. `TextError` is the error of all readers of such texts,
+//! with the causes of its own text in each.
 //!
 //! `Names` are found by hash, with `add` and `find`. The readers of texts and whoever looks up definitions by
 //! name use them.
 #![tactic(auto)]
 
+mod fault;
 mod key;
 mod limit;
 mod names;
@@ -19,6 +21,7 @@ ghost use Rattle.std.specs.Prelude.{◌≡◌, ◌+◌, ◌<◌, ◌≤◌, leng
 ghost use Rattle.std.specs.List.{position_or_len};
 ghost use Rattle.text_lines.specs.Text.{is_feed, is_blank, is_foreign, is_hash, code_of, foreign_place, words_of, text_at, IsWithin};
 
+pub use fault::{TextError, TextFault, refused_at};
 pub use key::TableKey;
 pub use limit::check_limit;
 pub use names::Names;

@@ -4,13 +4,14 @@ use Rattle.std.specs.List.{flat_map}
 use Rattle.std.proofs.lemmas.List.{map-append}
 use Rattle.std.proofs.lemmas.List.Concat.{flat_map-cons}
 use Rattle.syn_base.specs.Bytes.{Bytes}
-use Rattle.algo_text.specs.declared.definition.Def.{Def}
-use Rattle.algo_text.specs.declared.definition.Body.{Body}
-use Rattle.algo_text.specs.declared.definition.Body.TheVariants.{Sensor, Actuator, Constant, Delay, Function, Graph, Switch, Repeat}
-use Rattle.algo_text.specs.declared.definition.Case.{Case}
-use Rattle.algo_text.specs.declared.definition.Reference.{Reference}
+use Rattle.algo_rules.specs.declared.Def.{Def}
+use Rattle.algo_rules.specs.declared.Body.{Body}
+use Rattle.algo_rules.specs.declared.Body.TheVariants.{Sensor, Actuator, Constant, Delay, Function, Graph, Switch, Repeat}
+use Rattle.algo_rules.specs.declared.Case.{Case}
+use Rattle.algo_rules.specs.declared.Reference.{Reference}
 use Rattle.algo_rules.specs.Links.{Mention, mentions, mentions_in}
-use Rattle.text_lint.specs.Named.{named_by, named_in}
+use Rattle.text_lint.specs.Named.{named_in}
+use Rattle.algo_check.specs.Linked.{named}
 
 abbrev names_in : List Mention → List Bytes
 names_in ms = map (λ m. m.def) ms
@@ -23,7 +24,7 @@ of_cases : (cs : List Case) → names_in (map (λ c. record { line = c.line; def
 of_cases [] = refl
 of_cases (c ∷ cs) = ap (λ (ws : List Bytes). c.def ∷ ws) (of_cases cs)
 
-of_body : (n : ℕ) (b : Body) → names_in (mentions_in n b) ≡ named_by b
+of_body : (n : ℕ) (b : Body) → names_in (mentions_in n b) ≡ named b
 of_body n (Sensor len) = refl
 of_body n (Actuator len) = refl
 of_body n (Constant values) = refl
@@ -39,5 +40,5 @@ pub mentioned : (ds : List Def) → names_in (flat_map mentions ds) ≡ named_in
 mentioned [] = refl
 mentioned (d ∷ ds) =
     ap names_in (flat_map-cons mentions d ds) ∙ map-append (λ (m : Mention). m.def) (mentions d) (flat_map mentions ds)
-    ∙ ap (λ (ws : List Bytes). ws ++ names_in (flat_map mentions ds)) (of_body d.line d.body) ∙ ap (λ (ws : List Bytes). named_by d.body ++ ws) (mentioned ds)
-    ∙ sym (flat_map-cons (λ (e : Def). named_by e.body) d ds)
+    ∙ ap (λ (ws : List Bytes). ws ++ names_in (flat_map mentions ds)) (of_body d.line d.body) ∙ ap (λ (ws : List Bytes). named d.body ++ ws) (mentioned ds)
+    ∙ sym (flat_map-cons (λ (e : Def). named e.body) d ds)

@@ -3,8 +3,8 @@ use Rattle.std.proofs.Common.{◌≡◌, ℕ, ℤ, ◌++◌, List, sym, ap, ◌�
 use Rattle.std.specs.Prelude.{Option, Some, None}
 use Rattle.std.proofs.lemmas.List.{append-nil}
 use Rattle.syn_base.specs.Bytes.{Bytes}
-use Rattle.body_lang.specs.declared.expression.Port.{Port}
-use Rattle.algo_text.specs.declared.definition.Def.{Def}
+use Rattle.algo_rules.specs.declared.Port.{Port}
+use Rattle.algo_rules.specs.declared.Def.{Def}
 use Rattle.text_lint.specs.Algorithm.{outside_port}
 use Rattle.text_lint.specs.Architecture.{idle_duration}
 use Rattle.text_lint.specs.declared.finding.Finding.{Finding}

@@ -6,7 +6,7 @@ use Rattle.std.specs.Str.{bytes_eq}
 use Rattle.std.proofs.lemmas.Option.{slice_get_past}
 use Rattle.text_lines.proofs.Places.{found_at, missing_at}
 use Rattle.syn_base.specs.Bytes.{Bytes}
-use Rattle.algo_text.specs.declared.definition.Def.{Def}
+use Rattle.algo_rules.specs.declared.Def.{Def}
 use Rattle.algo_rules.specs.Links.{definition}
 use Rattle.algo_check.specs.Placing.{names_of}
 use Rattle.algo_check.proofs.Found.{found}

@@ -5,14 +5,14 @@ use Rattle.std.specs.Fmt.{digits}
 use Rattle.syn_base.specs.Bytes.{Bytes}
 use Rattle.syn_base.specs.declared.arithmetic.Op.TheVariants.{Add, Sub}
 use Rattle.body_lang.specs.Expr.{Expr, literal, index, element, sum_over, negation, apply, select}
-use Rattle.body_lang.specs.declared.expression.Port.{Port}
-use Rattle.algo_text.specs.declared.definition.Def.{Def}
-use Rattle.algo_text.specs.declared.definition.Body.{Body}
-use Rattle.algo_text.specs.declared.definition.Body.TheVariants.{Actuator, Constant, Delay, Function, Graph, Switch, Repeat}
-use Rattle.algo_text.specs.declared.definition.Edge.{Edge}
-use Rattle.algo_text.specs.declared.definition.End.{End}
-use Rattle.algo_text.specs.declared.definition.Output.{Output}
-use Rattle.algo_text.specs.declared.definition.Reference.{Reference}
+use Rattle.algo_rules.specs.declared.Port.{Port}
+use Rattle.algo_rules.specs.declared.Def.{Def}
+use Rattle.algo_rules.specs.declared.Body.{Body}
+use Rattle.algo_rules.specs.declared.Body.TheVariants.{Actuator, Constant, Delay, Function, Graph, Switch, Repeat}
+use Rattle.algo_rules.specs.declared.Edge.{Edge}
+use Rattle.algo_rules.specs.declared.End.{End}
+use Rattle.algo_rules.specs.declared.Output.{Output}
+use Rattle.algo_rules.specs.declared.Reference.{Reference}
 use Rattle.archi_defs.specs.Text.{Described}
 use Rattle.archi_defs.specs.declared.text.DurationLine.{DurationLine}
 use Rattle.text_lint.specs.Algorithm.{algorithm_findings}

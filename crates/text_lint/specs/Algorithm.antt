@@ -35,22 +35,22 @@ use Rattle.body_lang.specs.Expr.{
   apply,
   select,
 }
-use Rattle.body_lang.specs.declared.expression.Port.{Port}
-use Rattle.algo_text.specs.Among.{is_among}
-use Rattle.algo_text.specs.declared.definition.Def.{Def}
-use Rattle.algo_text.specs.declared.definition.Body.{Body}
-use Rattle.algo_text.specs.declared.definition.Body.TheVariants.{
+use Rattle.algo_rules.specs.declared.Port.{Port}
+use Rattle.algo_rules.specs.Among.{is_among}
+use Rattle.algo_rules.specs.declared.Def.{Def}
+use Rattle.algo_rules.specs.declared.Body.{Body}
+use Rattle.algo_rules.specs.declared.Body.TheVariants.{
   Constant,
   Delay,
   Function,
   Graph,
   Switch,
 }
-use Rattle.algo_text.specs.declared.definition.Case.{Case}
-use Rattle.algo_text.specs.declared.definition.Edge.{Edge}
-use Rattle.algo_text.specs.declared.definition.End.{End}
-use Rattle.algo_text.specs.declared.definition.Output.{Output}
-use Rattle.algo_text.specs.declared.definition.Reference.{Reference}
+use Rattle.algo_rules.specs.declared.Case.{Case}
+use Rattle.algo_rules.specs.declared.Edge.{Edge}
+use Rattle.algo_rules.specs.declared.End.{End}
+use Rattle.algo_rules.specs.declared.Output.{Output}
+use Rattle.algo_rules.specs.declared.Reference.{Reference}
 use Rattle.algo_rules.specs.Links.{definition, is_main}
 use Rattle.text_lint.specs.Named.{named_in}
 use Rattle.text_lint.specs.declared.finding.Finding.{Finding}
@@ -71,7 +71,9 @@ unused_by ds d =
 abbrev pub unused : List Def → List Def → List Finding
 unused ds these = flat_map (unused_by ds) these
 
--- 2. An element that an expression takes by a number which its port has not, so that it is 0.
+-- 2. Elements that an expression takes by a number which their port has not, so that they are 0.
+
+-- A port of this length has no element of this number.
 abbrev pub is_outside : ℕ → ℤ → Bool
 is_outside len (pos n) = nat_le len n
 is_outside len (negsuc n) = true
@@ -83,12 +85,14 @@ outside_port d n None = []
 outside_port d n (Some p) =
     if is_outside p.len n then OutsideElement d.line d.name p.name n p.len ∷ [] else []
 
--- element `at` of input k
+-- The finding that the element of input k which this expression numbers is outside the input; none
+-- unless the expression is a literal.
 abbrev pub outside_at : Def → List Port → ℕ → Expr → List Finding
 outside_at d ins k (literal n) = outside_port d n (slice_get ins k)
 outside_at d ins k _ = []
 
--- in an expression over these inputs, from left to right
+-- The findings of elements outside their inputs in an expression over these inputs, from left to
+-- right.
 abbrev pub outside_in : Def → List Port → Expr → List Finding
 outside_in d ins (literal n) = []
 outside_in d ins index = []
@@ -115,8 +119,10 @@ outside_by d = outside_body d d.body
 abbrev pub outside : List Def → List Finding
 outside these = flat_map outside_by these
 
--- 3. A case that a reference to its switch never takes, since a constant of another value selects. An `otherwise`,
--- which every switch has to have, is not told.
+-- 3. Cases that a reference to their switch never takes, since a constant of another value
+-- selects. An `otherwise`, which every switch has to have, is not told.
+
+-- A reference owns the port, and it is this one.
 abbrev pub is_owned_by : Bytes → Option Bytes → Bool
 is_owned_by reference None = false
 is_owned_by reference (Some owner) = bytes_eq reference owner
@@ -199,7 +205,10 @@ never_by ds _ = []
 abbrev pub never_taken : List Def → List Def → List Finding
 never_taken ds these = flat_map (λ d. never_by ds d.body) these
 
--- 4. A reference to a delay from which no edge leads. One that leads back to the delay itself counts.
+-- 4. References to a delay from which no edge leads. An edge that leads back to the delay itself
+-- counts.
+
+-- The body is that of a delay.
 abbrev pub is_delay : Body → Bool
 is_delay (Delay depth values) = true
 is_delay _ = false

@@ -23,10 +23,10 @@ use Rattle.std.specs.Prelude.{
 }
 use Rattle.std.specs.List.{list_any}
 use Rattle.syn_base.specs.Bytes.{Bytes}
-use Rattle.algo_text.specs.Among.{is_among}
-use Rattle.algo_text.specs.declared.definition.Def.{Def}
-use Rattle.algo_text.specs.declared.definition.Body.{Body}
-use Rattle.algo_text.specs.declared.definition.Body.TheVariants.{Sensor, Actuator, Function}
+use Rattle.algo_rules.specs.Among.{is_among}
+use Rattle.algo_rules.specs.declared.Def.{Def}
+use Rattle.algo_rules.specs.declared.Body.{Body}
+use Rattle.algo_rules.specs.declared.Body.TheVariants.{Sensor, Actuator, Function}
 use Rattle.algo_rules.specs.Links.{definition}
 use Rattle.archi_defs.specs.Text.{Described}
 use Rattle.archi_defs.specs.declared.text.DurationLine.{DurationLine}
@@ -74,7 +74,9 @@ durations_from ds operators numbers i (line ∷ lines) =
     duration_by ds operators (slice_index_or numbers i 0) line ++
     durations_from ds operators numbers (suc i) lines
 
--- 6. An operator on which no duration that changes something lets anything stand.
+-- 6. Operators on which no duration that changes something lets anything stand.
+
+-- The line gives a duration on operator o, and that changes something.
 abbrev pub lets_stand : List Def → ℕ → DurationLine → Bool
 lets_stand ds o line = (line.operator == o) && not (is_some (why_idle ds line.def))
 

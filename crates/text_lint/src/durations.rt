@@ -5,7 +5,7 @@ ghost use Rattle.text_lint.specs.Architecture.{duration_by, durations_from, idle
 
 use crate::finding::{Finding, Why};
 use crate::known::Known;
-use algo_text::{Body, Def};
+use algo_rules::{Body, Def};
 use archi_defs::DurationLine;
 use std::alloc::Global;
 use syn_base::{Name, OutOfMemory};

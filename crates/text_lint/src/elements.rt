@@ -4,7 +4,7 @@ ghost use Rattle.body_lang.specs.Expr.{view};
 ghost use Rattle.text_lint.specs.Algorithm.{is_outside, outside, outside_at, outside_by, outside_in, outside_outputs, outside_port};
 
 use crate::finding::Finding;
-use algo_text::{Body, Def, Output};
+use algo_rules::{Body, Def, Output};
 use body_lang::{Expr, Port};
 use std::alloc::Global;
 use syn_base::OutOfMemory;

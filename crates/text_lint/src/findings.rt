@@ -1,6 +1,6 @@
 //! All findings of a text, for whoever tells them.
 ghost use Rattle.std.specs.Prelude.{◌≡◌, ◌++◌, IfOk, OnOk, codes};
-ghost use Rattle.algo_tree.specs.Well.{AreDistinctNames};
+ghost use Rattle.algo_rules.specs.Well.{AreDistinctNames};
 ghost use Rattle.algo_check.specs.Placing.{names_of};
 ghost use Rattle.archi_defs.specs.Text.{described_by};
 ghost use Rattle.text_lint.specs.Algorithm.{algorithm_findings, findings_at};
@@ -16,7 +16,7 @@ use crate::operators::append_operators;
 use crate::switches::append_never_taken;
 use crate::unread::append_unread;
 use crate::unused::append_unused;
-use algo_text::Def;
+use algo_rules::Def;
 use archi_defs::ArchiText;
 use std::alloc::Global;
 use syn_base::OutOfMemory;

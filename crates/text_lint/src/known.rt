@@ -1,14 +1,14 @@
 //! The definitions of a text by their names, and which of them are named: what the search for findings asks.
 ghost use Rattle.std.specs.Prelude.{◌≡◌, IfOk, option_copied, slice_get};
 ghost use Rattle.syn_base.specs.Bytes.{Bytes};
-ghost use Rattle.algo_text.specs.Among.{is_among};
-ghost use Rattle.algo_tree.specs.Well.{AreDistinctNames};
+ghost use Rattle.algo_rules.specs.Among.{is_among};
+ghost use Rattle.algo_rules.specs.Well.{AreDistinctNames};
 ghost use Rattle.algo_rules.specs.Links.{definition};
 ghost use Rattle.algo_check.specs.Placing.{names_of};
 ghost use Rattle.text_lint.specs.Named.{named_in};
 
 use crate::named::{append_named, table_of};
-use algo_text::Def;
+use algo_rules::Def;
 use std::alloc::Global;
 use std::marker::Model;
 use syn_base::OutOfMemory;
@@ -27,8 +27,8 @@ pub struct Known<'a> {
 impl<'a> Model for Known<'a> {
     ghost use Rattle.std.specs.Prelude.{List};
     ghost use Rattle.std.specs.Coded.{codes};
-    ghost use Rattle.body_lang.specs.Code.{expr_code};
-    ghost use Rattle.algo_text.specs.declared.definition.Def.{Def};
+    ghost use Rattle.algo_rules.specs.BodyCode.{expr_code};
+    ghost use Rattle.algo_rules.specs.declared.Def.{Def};
     ghost use Rattle.text_lint.specs.Named.{AreKnown};
 
     ghost Value = { List Def };

@@ -1,10 +1,11 @@
 //! The names that the lines of definitions name, for `known`.
 ghost use Rattle.std.specs.Prelude.{◌≡◌, ◌++◌, ◌∷◌, [], IfOk, OnOk, map};
 ghost use Rattle.syn_base.specs.Bytes.{Bytes};
-ghost use Rattle.algo_text.specs.Among.{is_among};
-ghost use Rattle.text_lint.specs.Named.{named_by, named_in};
+ghost use Rattle.algo_rules.specs.Among.{is_among};
+ghost use Rattle.text_lint.specs.Named.{named_in};
+ghost use Rattle.algo_check.specs.Linked.{named as named_by};
 
-use algo_text::{Body, Case, Def, Reference};
+use algo_rules::{Body, Case, Def, Reference};
 use std::alloc::Global;
 use syn_base::OutOfMemory;
 use text_lines::{Names, TableKey};

@@ -22,7 +22,7 @@ ghost use Rattle.text_lint.specs.Algorithm.{
 
 use crate::finding::Finding;
 use crate::known::Known;
-use algo_text::{Body, Case, Def, Edge, End, Reference};
+use algo_rules::{Body, Case, Def, Edge, End, Reference};
 use std::alloc::Global;
 use syn_base::{Name, OutOfMemory};
 

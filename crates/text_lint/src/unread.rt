@@ -7,7 +7,7 @@ ghost use Rattle.text_lint.specs.Algorithm.{is_delay_of, is_read, unread, unread
 use crate::finding::Finding;
 use crate::known::Known;
 use crate::switches::is_owned_by;
-use algo_text::{Body, Def, Edge, Reference};
+use algo_rules::{Body, Def, Edge, Reference};
 use std::alloc::Global;
 use syn_base::{Name, OutOfMemory};
 

@@ -5,7 +5,7 @@ ghost use Rattle.text_lint.specs.Algorithm.{unused, unused_by};
 
 use crate::finding::Finding;
 use crate::known::Known;
-use algo_text::Def;
+use algo_rules::Def;
 use std::alloc::Global;
 use syn_base::{Name, OutOfMemory};
 

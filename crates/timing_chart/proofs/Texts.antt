@@ -4,7 +4,7 @@ use Rattle.std.specs.List.{filter}
 use Rattle.std.proofs.lemmas.Bool.{eq-eqb, ne_eqb}
 use Rattle.std.proofs.lemmas.List.{append_assoc}
 use Rattle.std.proofs.lemmas.List.Elements.{filter-append}
-use Rattle.flat_graph.specs.declared.vertex.Vertex.{Vertex}
+use Rattle.schedule.specs.declared.Vertex.{Vertex}
 use Rattle.schedule.specs.declared.decision.Transfer.{Transfer}
 use Rattle.schedule.specs.declared.decision.Decision.{Decision}
 use Rattle.schedule.specs.Acts.{Act, carry, run, acts_of, is_on, is_over}

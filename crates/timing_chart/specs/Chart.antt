@@ -1,12 +1,12 @@
 -- The timing chart of a schedule.
-use Rattle.std.specs.Prelude.{ℕ, suc, Bool, List, [], ◌∷◌, ◌++◌, map, codes, slice_get, slice_index_or}
+use Rattle.std.specs.Prelude.{ℕ, suc, Bool, List, [], ◌∷◌, ◌++◌, map, codes}
 use Rattle.std.specs.Fmt.{decimal}
 use Rattle.std.specs.List.{filter, flat_map}
 use Rattle.syn_base.specs.Bytes.{Bytes}
-use Rattle.flat_graph.specs.declared.vertex.Vertex.{Vertex}
-use Rattle.flat_graph.specs.Graph.{Graph, with_vertex}
-use Rattle.archi_graph.specs.declared.medium.Medium.{Medium}
-use Rattle.archi_graph.specs.Archi.{Architecture}
+use Rattle.schedule.specs.declared.Vertex.{Vertex}
+use Rattle.schedule.specs.Graph.{Graph, operation_name}
+use Rattle.schedule.specs.declared.Medium.{Medium}
+use Rattle.schedule.specs.Archi.{Architecture, operator_name}
 use Rattle.schedule.specs.declared.decision.Schedule.{Schedule}
 use Rattle.schedule.specs.Acts.{Act, carry, run, acts, is_over, is_on, length_of}
 
@@ -29,20 +29,12 @@ abbrev pub text_of : List Line → Bytes
 text_of lines = flat_map line_text lines
 
 module _ (vertices : List Vertex) (operators : List Bytes) where
-  -- The name of operation v, and the empty text if there is no operation v.
-  abbrev pub operation_name : ℕ → Bytes
-  operation_name v = with_vertex (slice_get vertices v) [] (λ x. x.name)
-
-  -- The name of operator o, and the empty text if there is no operator o.
-  abbrev pub operator_name : ℕ → Bytes
-  operator_name o = slice_index_or operators o []
-
   -- START END OPERATION, and of a transfer PORT FROM TO
   abbrev pub act_line : Act → Line
-  act_line (run d) = decimal d.start ∷ decimal d.end ∷ operation_name d.op ∷ []
+  act_line (run d) = decimal d.start ∷ decimal d.end ∷ operation_name vertices d.op ∷ []
   act_line (carry c) =
-      decimal c.start ∷ decimal c.end ∷ operation_name c.source.vertex ∷ decimal c.source.port ∷
-      operator_name c.from ∷ operator_name c.to ∷ []
+      decimal c.start ∷ decimal c.end ∷ operation_name vertices c.source.vertex ∷ decimal c.source.port ∷
+      operator_name operators c.from ∷ operator_name operators c.to ∷ []
 
   -- a head, and then the acts that pass, in their order
   abbrev pub part : Bytes → Bytes → (Act → Bool) → List Act → List Line

@@ -5,9 +5,7 @@ ghost use Rattle.schedule.specs.Acts.{acts_of, carry, is_on, is_over};
 ghost use Rattle.timing_chart.specs.Chart.{act_line, chart, medium_parts, operator_parts, text_of};
 
 use crate::line::{Named, append_head, append_operation, append_transfer};
-use archi_graph::{Archi, Medium};
-use flat_graph::Flat;
-use schedule::{Decision, Schedule, Transfer};
+use schedule::{Archi, Decision, Flat, Medium, Schedule, Transfer};
 use std::alloc::Global;
 use syn_base::{OutOfMemory, append, append_count};
 

@@ -1,11 +1,12 @@
 //! The lines of a chart, which `chart` puts one after the other.
 ghost use Rattle.std.specs.Prelude.{◌≡◌, ◌++◌, ◌∷◌, [], OnOk, codes};
 ghost use Rattle.std.specs.Fmt.{decimal};
+ghost use Rattle.schedule.specs.Graph.{operation_name};
+ghost use Rattle.schedule.specs.Archi.{operator_name};
 ghost use Rattle.schedule.specs.Acts.{carry, run};
-ghost use Rattle.timing_chart.specs.Chart.{act_line, line_text, operation_name, operator_name, rest_of_line};
+ghost use Rattle.timing_chart.specs.Chart.{act_line, line_text, rest_of_line};
 
-use flat_graph::Vertex;
-use schedule::{Decision, Transfer};
+use schedule::{Decision, Transfer, Vertex};
 use syn_base::{Name, OutOfMemory, append, append_count};
 
 /// The operations and the operators of which a chart tells.
@@ -62,7 +63,7 @@ fn append_value(
     transfer: Transfer,
 ) -> Result<(), OutOfMemory>
     ensures { OnOk result (out.new.items ≡ out.old.items ++
-        (operation_name vertices.now [] transfer.source.vertex ++
+        (operation_name vertices.now transfer.source.vertex ++
         (codes " " ++ decimal transfer.source.port))) }
 {
     append(out, operation_name(vertices, transfer.source.vertex))?;
@@ -73,8 +74,8 @@ fn append_value(
 /// Appends both operators, and the end of the line.
 fn append_ends(out: &mut Vec<u8>, operators: &[Name], transfer: Transfer) -> Result<(), OutOfMemory>
     ensures { OnOk result (out.new.items ≡ out.old.items ++
-        rest_of_line (operator_name [] operators.now transfer.from ∷
-        operator_name [] operators.now transfer.to ∷ [])) }
+        rest_of_line (operator_name operators.now transfer.from ∷
+        operator_name operators.now transfer.to ∷ [])) }
 {
     append(out, b" ")?;
     append(out, operator_name(operators, transfer.from))?;
@@ -95,7 +96,7 @@ pub fn append_head(out: &mut Vec<u8>, word: &[u8], name: &[u8]) -> Result<(), Ou
 
 /// The name of an operation, empty where there is none of this number.
 fn operation_name(vertices: &[Vertex], op: u32) -> &[u8]
-    ensures { result.now ≡ operation_name vertices.now [] op }
+    ensures { result.now ≡ operation_name vertices.now op }
 {
     match vertices.get(op as usize) {
         Some(vertex) => vertex.name.as_slice(),
@@ -105,7 +106,7 @@ fn operation_name(vertices: &[Vertex], op: u32) -> &[u8]
 
 /// The name of an operator, empty where there is none of this number.
 fn operator_name(operators: &[Name], operator: u32) -> &[u8]
-    ensures { result.now ≡ operator_name [] operators.now operator }
+    ensures { result.now ≡ operator_name operators.now operator }
 {
     let operator = operator as usize;
     if operator < operators.len() {

@@ -1,13 +1,13 @@
 -- What is told of a check, from the check itself.
 use Rattle.std.proofs.Common.{◌≡◌, length, Some, None, ap}
 use Rattle.std.specs.Prelude.{IsTrue, option_map}
-use Rattle.flat_graph.specs.Graph.{Graph}
-use Rattle.archi_graph.specs.Archi.{Architecture, is_archi}
-use Rattle.archi_graph.specs.Sequences.{sequences}
-use Rattle.executive_program.specs.declared.program.Program.{Program}
-use Rattle.executive_program.specs.WellFormed.{IsWellFormed}
 use Rattle.check_laws.specs.Tests.{Cause, cause}
 use Rattle.check_laws.proofs.Whole.{no_cause_is_well_formed}
+use Rattle.self_timed.specs.Graph.{Graph}
+use Rattle.self_timed.specs.Archi.{Architecture, is_archi}
+use Rattle.self_timed.specs.Sequences.{sequences}
+use Rattle.self_timed.specs.declared.Program.{Program}
+use Rattle.self_timed.specs.WellFormed.{IsWellFormed}
 use Rattle.top_plans.specs.Checks.{told, lacking}
 
 pub lacks : (g : Graph) (a : Architecture) (p : Program) (k : Cause) → cause p g.vertices (sequences a) (length a.operators) (length a.media) ≡ Some k → lacking g a p ≡ Some (told k)

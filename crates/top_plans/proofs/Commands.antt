@@ -2,12 +2,12 @@
 use Rattle.std.proofs.Common.{◌≡◌, ℕ, Bool, true, false, length, Option, Some, None, Result, Ok, Err, refl, subst, arith}
 use Rattle.std.specs.Prelude.{◌⊎◌, if◌then◌else◌, nat_lt, option_and_then}
 use Rattle.syn_base.specs.Bytes.{Bytes}
-use Rattle.outside.specs.Shelf.{Held, file_bound}
-use Rattle.outside.specs.declared.file.File.{File}
-use Rattle.outside.specs.Sink.{Sunk}
-use Rattle.command_plan.specs.Plan.{Plan, read, outcome, ReadsOnly, GivesOnly}
-use Rattle.command_plan.specs.Ending.{Ending, done, unwritten}
-use Rattle.command_plan.specs.Answers.{Answers, IsOnce, RunsNone}
+use Rattle.command_status.specs.Shelf.{Held, file_bound}
+use Rattle.command_status.specs.declared.File.{File}
+use Rattle.command_status.specs.Sink.{Sunk}
+use Rattle.command_status.specs.Plan.{Plan, read, outcome, ReadsOnly, GivesOnly}
+use Rattle.command_status.specs.Ending.{Ending, done, unwritten}
+use Rattle.command_status.specs.PlanAnswers.{Answers, IsOnce, RunsNone}
 use Rattle.command_status.specs.Status.{Refusal}
 use Rattle.command_words.specs.Command.{Command, check, sim, flat, chart, code, run, load, exec, dates}
 use Rattle.word_rule.specs.Driven.{Driven, driven_by}

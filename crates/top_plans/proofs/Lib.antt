@@ -5,10 +5,8 @@ pub mod Only
 pub mod TextRefusals
 mod DefinitionRefusals
 pub mod MarkRefusals
-pub mod ArchitectureRefusals
 pub mod DurationRefusals
 pub mod TableRefusals
-pub mod CodeRefusals
 pub mod Walk
 pub mod Commands
 mod Refusals
@@ -18,3 +16,9 @@ pub mod Written
 pub mod Usage
 pub mod Values
 mod Worked
+-- Lemmas from below, which proofs above cite with those of this crate.
+pub use Rattle.accepted_laws.proofs.Bounded
+pub use Rattle.accepted_laws.proofs.EndCounts
+pub use Rattle.accepted_laws.proofs.Whole
+pub use Rattle.command_status.proofs.Made
+pub use Rattle.command_status.proofs.Makes

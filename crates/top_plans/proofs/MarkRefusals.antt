@@ -2,19 +2,20 @@
 use Rattle.std.proofs.Common.{List, Option, Some, None, Result, Ok, Err}
 use Rattle.syn_base.specs.Bytes.{Bytes}
 use Rattle.syn_base.specs.declared.limits.LimitFault.{LimitFault}
-use Rattle.algo_tree.specs.Tree.{Vertex}
-use Rattle.algo_text.specs.declared.definition.Def.{Def}
-use Rattle.algo_text.specs.declared.definition.Defs.{Defs}
-use Rattle.algo_text.specs.declared.definition.Reference.{Reference}
-use Rattle.algo_text.specs.declared.fault.AlgoError.{AlgoError}
+use Rattle.algo_rules.specs.Tree.{Vertex}
+use Rattle.algo_rules.specs.declared.Def.{Def}
+use Rattle.algo_rules.specs.declared.Defs.{Defs}
+use Rattle.algo_rules.specs.declared.Reference.{Reference}
+use Rattle.algo_rules.specs.declared.AlgoError.{AlgoError}
 use Rattle.algo_rules.specs.Resolved.{resolution_of}
 use Rattle.multi_period.specs.declared.fault.PeriodError.{PeriodError}
 use Rattle.multi_period.specs.declared.fault.PeriodError.TheVariants as period
 use Rattle.multi_period.specs.declared.mark.Mark.{Mark}
 use Rattle.multi_period.specs.Within.{made_within}
-use Rattle.elaboration.specs.Marking.{bad_by, bad_every, references_of, marking_by, marking_of}
-use Rattle.elaboration.specs.Elaborated as elaborated
-use Rattle.elaboration.specs.Elaborated.{made_by, marked_by, elaboration_of}
+use Rattle.accepted_laws.specs.Marking.{bad_by, bad_every, marking_by, marking_of}
+use Rattle.accepted_laws.specs.Elaborated as elaborated
+use Rattle.accepted_laws.specs.Elaborated.{made_by, marked_by, elaboration_of}
+use Rattle.accepted_laws.specs.Periods.{references_of}
 use Rattle.top_plans.proofs.Only.{Only, ok, either}
 use Rattle.top_plans.proofs.TextRefusals.{Stays}
 use Rattle.top_plans.proofs.DefinitionRefusals.{Quiet, none, at_line, choice, firsts, each, all, resolution_safe}

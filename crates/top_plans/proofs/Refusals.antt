@@ -1,7 +1,7 @@
 -- No plan refuses for want of memory.
 use Rattle.std.proofs.Common.{◌≡◌, Some, None}
-use Rattle.command_plan.specs.Plan.{RefusesOnly}
-use Rattle.command_plan.proofs.Refusals.{refused_so}
+use Rattle.command_status.specs.Plan.{RefusesOnly}
+use Rattle.command_status.proofs.Refusals.{refused_so}
 use Rattle.command_status.specs.Status.{wants_memory}
 use Rattle.top_plans.specs.Plans.{plan_of}
 use Rattle.top_plans.specs.Refusals.{NoPlanWantsMemory, NoOutcomeWantsMemory}

@@ -1,29 +1,30 @@
 -- The schedule of an accepted algorithm on an accepted architecture is valid.
 use Rattle.std.proofs.Common.{◌≡◌, true, length, Option, Some, None, Result, Ok, refl, subst}
 use Rattle.syn_base.specs.Bytes.{Bytes}
-use Rattle.archi_defs.specs.Text.{Described, description_of, refused}
-use Rattle.archi_defs.specs.declared.fault.ArchiCause.{ArchiCause}
-use Rattle.archi_defs.specs.declared.fault.ArchiError.{ArchiError}
-use Rattle.archi_defs.specs.declared.fault.ArchiCause.TheVariants.{NoDuration}
-use Rattle.durations.specs.Table.{Table, durations_of, entry_in, table, missing, unless_missing}
-use Rattle.durations.proofs.Kept as durations
-use Rattle.flat_graph.specs.Graph.{Graph}
-use Rattle.flat_graph.specs.Valid.{is_flat}
+use Rattle.text_lines.specs.Refusals.{refused}
+use Rattle.pressure_heuristic.specs.Computed.{table_of}
+use Rattle.pressure_heuristic.proofs.LeastRoutes.{routes_are_least}
 use Rattle.pressure_heuristic.specs.Tasks.{task}
 use Rattle.pressure_heuristic.proofs.Tasks.{tasks_are_given}
 use Rattle.pressure_heuristic.proofs.Tight.{runs_are_tight}
 use Rattle.pressure_heuristic.proofs.Whole.{runs_are_valid}
-use Rattle.route_table.specs.Computed.{table_of}
-use Rattle.route_table.proofs.LeastRoutes.{routes_are_least}
-use Rattle.schedule.specs.Tight.{is_tight}
-use Rattle.schedule.specs.Valid.{is_valid}
 use Rattle.archi_reader.proofs.Accepted.{described_are}
+use Rattle.self_timed.specs.Text.{Described, description_of}
+use Rattle.self_timed.specs.declared.ArchiCause.{ArchiCause}
+use Rattle.self_timed.specs.Refusals.{ArchiRefusal}
+use Rattle.self_timed.specs.declared.ArchiCause.TheVariants.{NoDuration}
+use Rattle.self_timed.specs.Table.{Table, durations_of, entry_in, table, missing, unless_missing}
+use Rattle.self_timed.proofs.Kept as durations
+use Rattle.self_timed.specs.Graph.{Graph}
+use Rattle.self_timed.specs.FlatValid.{is_flat}
+use Rattle.self_timed.specs.Tight.{is_tight}
+use Rattle.self_timed.specs.ScheduleValid.{is_valid}
 use Rattle.top_plans.specs.Plans.{schedule_of}
 
-abbrev gives : Table → Result Table ArchiError
+abbrev gives : Table → Result Table ArchiRefusal
 gives t = Ok t
 
-abbrev stops : ArchiCause → Result Table ArchiError
+abbrev stops : ArchiCause → Result Table ArchiRefusal
 stops why = refused 0 why
 
 same_table : (x y : Table) → gives x ≡ gives y → x ≡ y

@@ -1,13 +1,13 @@
 -- What a table is refused for is never want of memory.
 use Rattle.std.proofs.Common.{ℕ, suc, List, [], ◌∷◌, Result, Ok, Err}
-use Rattle.algo_tree.specs.Tree.{Vertex}
-use Rattle.algo_tree.specs.Ends.{sensor_lengths}
 use Rattle.syn_base.specs.declared.limits.LimitFault.{LimitFault}
-use Rattle.sensor_table.specs.declared.fault.SensorCause.{SensorCause}
-use Rattle.sensor_table.specs.declared.fault.SensorFault.{SensorFault}
-use Rattle.sensor_table.specs.declared.fault.SensorError.{SensorError}
-use Rattle.sensor_table.specs.declared.fault.SensorError.TheVariants.{Refused, Limit, OutOfMemory}
-use Rattle.sensor_table.specs.SensorTable.{Record, refused, with_value, with_error, before, row_in, row_of, rows_from, rows_of}
+use Rattle.algo_rules.specs.Tree.{Vertex}
+use Rattle.algo_rules.specs.Ends.{sensor_lengths}
+use Rattle.command_status.specs.declared.SensorCause.{SensorCause}
+use Rattle.command_status.specs.declared.SensorFault.{SensorFault}
+use Rattle.command_status.specs.declared.SensorError.{SensorError}
+use Rattle.command_status.specs.declared.SensorError.TheVariants.{Refused, Limit, OutOfMemory}
+use Rattle.command_status.specs.SensorTable.{Record, refused, with_value, with_error, before, row_in, row_of, rows_from, rows_of}
 use Rattle.top_plans.proofs.Only.{Only, ok, either}
 
 abbrev pub Stays : SensorError → Type 0

@@ -5,21 +5,22 @@ use Rattle.syn_base.specs.Bytes.{Bytes}
 use Rattle.syn_base.specs.declared.limits.LimitFault.{LimitFault}
 use Rattle.syn_base.specs.declared.limits.LimitKind.{LimitKind}
 use Rattle.text_lines.specs.Text.{lines_of, words_of, code_of, foreign_place}
-use Rattle.body_lang.specs.declared.expression.Port.{Port}
-use Rattle.body_lang.specs.Expr.{Expr}
 use Rattle.body_text.specs.Parse.{Parse, good, stops, parse, alone}
 use Rattle.body_text.specs.Tokens.{tokens}
-use Rattle.algo_text.specs.declared.definition.Body.{Body}
-use Rattle.algo_text.specs.declared.definition.Defs.{Defs}
-use Rattle.algo_text.specs.declared.definition.Reference.{Reference}
-use Rattle.algo_text.specs.declared.definition.Frontier.{Frontier}
-use Rattle.algo_text.specs.declared.definition.Frontier.TheVariants.{Fork, Diffuse, Iterate, Join}
-use Rattle.algo_text.specs.declared.fault.AlgoError.{AlgoError}
-use Rattle.algo_text.specs.declared.fault.AlgoError.TheVariants.{Refused, Limit, TooLarge, OutOfMemory}
-use Rattle.algo_text.specs.declared.fault.AlgoCause.{AlgoCause}
-use Rattle.algo_text.specs.Formulas.{known_by, read_by, formula_of}
-use Rattle.algo_text.specs.Blocks.{Block, refused, above, with_some, and_then, all_names, port_line, in_line, out_line, result_words, is_equals, result_at, result_line, reference_of, with_reference, plain_line, marked_line, reference_line, edge_line, on_line, case_line, otherwise_line, with_frontier, fork_line, diffuse_line, iterate_line, join_line}
-use Rattle.algo_text.specs.Text.{Stage, before_version, between, in_function, in_graph, in_switch, in_repeat, Reading, version_line, defined, end_line, numbers_of, values_line, deep_delay, deep_line, delay_line, opened, opening_line, repeat_line, between_line, in_block, block_end, function_line, graph_line, switch_line, frontier_line, by_stage, line_by, next_line, at_end, defs_in, rest_of, start, definitions_of}
+use Rattle.text_lines.specs.Refusals.{with_some, and_then}
+use Rattle.algo_rules.specs.declared.Port.{Port}
+use Rattle.algo_rules.specs.Expr.{Expr}
+use Rattle.algo_rules.specs.declared.Body.{Body}
+use Rattle.algo_rules.specs.declared.Defs.{Defs}
+use Rattle.algo_rules.specs.declared.Reference.{Reference}
+use Rattle.algo_rules.specs.declared.Frontier.{Frontier}
+use Rattle.algo_rules.specs.declared.Frontier.TheVariants.{Fork, Diffuse, Iterate, Join}
+use Rattle.algo_rules.specs.declared.AlgoError.{AlgoError}
+use Rattle.algo_rules.specs.declared.AlgoError.TheVariants.{Refused, Limit, TooLarge, OutOfMemory}
+use Rattle.algo_rules.specs.declared.AlgoCause.{AlgoCause}
+use Rattle.algo_rules.specs.Formulas.{known_by, read_by, formula_of}
+use Rattle.algo_rules.specs.Blocks.{Block, refused, above, all_names, port_line, in_line, out_line, result_words, is_equals, result_at, result_line, reference_of, with_reference, plain_line, marked_line, reference_line, edge_line, on_line, case_line, otherwise_line, with_frontier, fork_line, diffuse_line, iterate_line, join_line}
+use Rattle.algo_rules.specs.Text.{Stage, before_version, between, in_function, in_graph, in_switch, in_repeat, Reading, version_line, defined, end_line, numbers_of, values_line, deep_delay, deep_line, delay_line, opened, opening_line, repeat_line, between_line, in_block, block_end, function_line, graph_line, switch_line, frontier_line, by_stage, line_by, next_line, at_end, defs_in, rest_of, start, definitions_of}
 use Rattle.top_plans.proofs.Only.{Only, ok, either}
 
 abbrev pub Stays : AlgoError → Type 0

@@ -2,30 +2,30 @@
 use Rattle.std.proofs.Common.{◌≡◌, ◌∙◌, ℕ, true, length, Option, None, Some, Ok, refl, sym, subst}
 use Rattle.std.specs.Prelude.{replicate}
 use Rattle.syn_base.specs.Bytes.{Bytes}
-use Rattle.algo_text.specs.declared.definition.Defs.{Defs}
-use Rattle.algo_text.specs.Text.{definitions_of}
 use Rattle.algo_print.specs.Canonical.{canonical_text}
 use Rattle.algo_print.proofs.Back.{reads_back}
-use Rattle.algo_tree.specs.Tree.{Vertex}
-use Rattle.elaboration.specs.Elaborated.{elaboration_of}
-use Rattle.archi_defs.specs.Text.{Described, description_of}
+use Rattle.algo_rules.specs.declared.Defs.{Defs}
+use Rattle.algo_rules.specs.Text.{definitions_of}
+use Rattle.algo_rules.specs.Tree.{Vertex}
 use Rattle.archi_reader.specs.Canonical as architecture
 use Rattle.archi_reader.proofs.Accepted.{described_are}
 use Rattle.archi_reader.proofs.ReadBack.{canonical_back}
-use Rattle.durations.specs.Table.{Table, durations_of, entry_in}
-use Rattle.flat_graph.specs.Graph.{Graph}
-use Rattle.flat_graph.specs.Valid.{is_flat}
-use Rattle.flat_laws.specs.FlatOf.{flat_of}
 use Rattle.flat_text.specs.Listing.{listing}
-use Rattle.schedule.specs.declared.decision.Schedule.{Schedule}
-use Rattle.sequence_build_laws.specs.Built.{order_of}
-use Rattle.sequence_build_laws.proofs.Whole.{built_are_well_formed}
 use Rattle.sequence_build.specs.Limit.{program_limit}
-use Rattle.macro_code.specs.Text.{macro_code}
 use Rattle.code_laws.proofs.Described.{described_read_back}
+use Rattle.self_timed.specs.Text.{Described, description_of}
+use Rattle.self_timed.specs.Table.{Table, durations_of, entry_in}
+use Rattle.self_timed.specs.Graph.{Graph}
+use Rattle.self_timed.specs.FlatValid.{is_flat}
+use Rattle.self_timed.specs.declared.Schedule.{Schedule}
+use Rattle.self_timed.specs.Built.{order_of}
+use Rattle.self_timed.proofs.BuildingWhole.{built_are_well_formed}
 use Rattle.self_timed.proofs.Dated.{at_least}
 use Rattle.self_timed.proofs.Whole.{entries_end_in_time}
 use Rattle.dates_text.proofs.Accepted.{actual_are_within}
+use Rattle.command_status.specs.CodeText.{macro_code}
+use Rattle.accepted_laws.specs.Elaborated.{elaboration_of}
+use Rattle.accepted_laws.specs.FlatOf.{flat_of}
 use Rattle.accepted_laws.proofs.Definitions.{accepted_have_flat}
 use Rattle.accepted_laws.proofs.Told.{accepted_do_as_told}
 use Rattle.top_plans.specs.Plans.{both_texts, chart_of, program_by, schedule_of}

@@ -4,29 +4,29 @@ use Rattle.std.specs.Prelude.{nat_lt, slice_index_or, option_map}
 use Rattle.std.specs.List.{range_with_len}
 use Rattle.std.proofs.lemmas.List.{map-append}
 use Rattle.std.proofs.lemmas.List.FromFn.{map-range_with_len_more}
-use Rattle.level_meaning.specs.Level.{Values, vector_at, zeros, numbers_below}
-use Rattle.algo_tree.specs.Meaning.{act_row}
 use Rattle.multi_period.specs.Meaning.{act_row_at}
 use Rattle.csv.specs.Reading.{default_config, records, strip_bom}
 use Rattle.syn_base.specs.Bytes.{Bytes}
-use Rattle.act_text.specs.Text.{output_text}
-use Rattle.archi_graph.specs.Archi.{Architecture as Archi}
-use Rattle.archi_graph.specs.Sequences.{sequences}
-use Rattle.durations.specs.Table.{entry_in}
-use Rattle.flat_graph.specs.Meaning.{initial_cells, flat_act_row}
-use Rattle.flat_graph.specs.Graph.{lens_of}
-use Rattle.flat_laws.specs.FlatOf.{flat_of}
-use Rattle.sequence_build_laws.specs.Built.{order_of}
-use Rattle.sequence_build_laws.proofs.Whole.{built_are_well_formed}
-use Rattle.executive_program.specs.declared.program.Program.{Program}
-use Rattle.executive_program.specs.WellFormed.{IsWellFormed}
-use Rattle.macro_code.specs.Text.{macro_code}
-use Rattle.semaphore_core.specs.Core.{run, count}
-use Rattle.semaphore_core.specs.Told.{done_in}
-use Rattle.phase_laws.specs.Values.{IsSupplied}
-use Rattle.phase_laws.proofs.Together.{have_laws}
-use Rattle.phase_laws.specs.Ended.{RunsEnd, RunsTakeRows}
-use Rattle.phase_laws.specs.Windows.{WindowsMakeTheRun}
+use Rattle.algo_rules.specs.Meaning.{act_row}
+use Rattle.word_rule.specs.Core.{run, count}
+use Rattle.word_rule.specs.Told.{done_in}
+use Rattle.word_rule.specs.Values.{IsSupplied}
+use Rattle.word_rule.proofs.Together.{have_laws}
+use Rattle.word_rule.specs.Ended.{RunsEnd, RunsTakeRows}
+use Rattle.word_rule.specs.Windows.{WindowsMakeTheRun}
+use Rattle.self_timed.specs.Archi.{Architecture as Archi}
+use Rattle.self_timed.specs.Sequences.{sequences}
+use Rattle.self_timed.specs.Table.{entry_in}
+use Rattle.self_timed.specs.Meaning.{initial_cells, flat_act_row}
+use Rattle.self_timed.specs.Graph.{lens_of}
+use Rattle.self_timed.specs.Built.{order_of}
+use Rattle.self_timed.proofs.BuildingWhole.{built_are_well_formed}
+use Rattle.self_timed.specs.declared.Program.{Program}
+use Rattle.self_timed.specs.WellFormed.{IsWellFormed}
+use Rattle.command_status.specs.CodeText.{macro_code}
+use Rattle.command_status.specs.declared.CheckCause.{CheckCause}
+use Rattle.accepted_laws.specs.ActText.{output_text}
+use Rattle.accepted_laws.specs.FlatOf.{flat_of}
 use Rattle.accepted_laws.specs.Flat.{HasFlat}
 use Rattle.accepted_laws.proofs.Definitions.{accepted_have_flat}
 use Rattle.archi_reader.proofs.Accepted.{described_are}
@@ -34,7 +34,6 @@ use Rattle.accepted_laws.proofs.Tables.{tables_fit}
 use Rattle.accepted_laws.proofs.Told.{accepted_do_as_told}
 use Rattle.check_laws.specs.Tests.{Cause, cause}
 use Rattle.check_laws.proofs.Whole.{no_cause_is_well_formed}
-use Rattle.check_cause.specs.declared.cause.CheckCause.{CheckCause}
 use Rattle.command_words.specs.Command.{Command, check, sim, flat, chart, code, run as runs, load, exec, dates}
 use Rattle.top_plans.specs.Given.{Given, written, printed, executed, summed, Execution, one_job}
 use Rattle.top_plans.specs.Plans.{head, schedule_of, sum_of, summary_with}
@@ -45,6 +44,8 @@ use Rattle.top_plans.specs.Texts.{IsCode}
 use Rattle.top_plans.proofs.Texts.{is_code, checks_algorithm, checks_both, lists_true, charts_true, codes_true, dates_true}
 use Rattle.top_plans.proofs.Walk.{Comes, built, checked, IsAccepted, IsBuilt, IsSimulated, Leaf}
 use Rattle.top_plans.proofs.Commands.{IsTold, told_gives}
+use Rattle.syn_base.specs.Vectors.{Values, vector_at, zeros}
+use Rattle.syn_base.specs.Numbers.{numbers_below}
 
 same_numbers : {A : Type 0} (f : ℕ → A) (n : ℕ) → map f (range_with_len 0 n) ≡ map f (numbers_below n)
 same_numbers f zero = refl

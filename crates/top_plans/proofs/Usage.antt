@@ -2,14 +2,14 @@
 use Rattle.std.proofs.Common.{◌≡◌, append-nil, [], Option, Some, None, Result, Ok, Err, inl, inr, refl, sym, ap, subst, ◌∙◌}
 use Rattle.std.specs.Prelude.{IsOkAnd}
 use Rattle.syn_base.specs.Bytes.{Bytes}
-use Rattle.outside.specs.Shelf.{Held}
-use Rattle.outside.specs.Sink.{Sunk, Appends, AppendsPrefix}
-use Rattle.command_plan.specs.Plan.{Plan, give, refuse, read, outcome, RefusesOnly}
-use Rattle.command_plan.specs.Stage.{text_of, jobs_of, after_jobs, RunsSome}
-use Rattle.command_plan.specs.Ending.{Ending, done, refused, unread, unwritten, no_memory}
-use Rattle.command_plan.specs.Run.{FailsToRead, Makes, gives, refuses, not_read, was_read, Ends, Ran}
-use Rattle.command_plan.proofs.Meaning.{answers_of}
-use Rattle.command_plan.proofs.Stages.{not_refused}
+use Rattle.command_status.specs.Shelf.{Held}
+use Rattle.command_status.specs.Sink.{Sunk, Appends, AppendsPrefix}
+use Rattle.command_status.specs.Plan.{Plan, give, refuse, read, outcome, RefusesOnly}
+use Rattle.command_status.specs.Stage.{text_of, jobs_of, after_jobs, RunsSome}
+use Rattle.command_status.specs.Ending.{Ending, done, refused, unread, unwritten, no_memory}
+use Rattle.command_status.specs.Run.{FailsToRead, Makes, gives, refuses, not_read, was_read, Ends, Ran}
+use Rattle.command_status.proofs.Meaning.{answers_of}
+use Rattle.command_status.proofs.Stages.{not_refused}
 use Rattle.command_status.specs.Status.{Refusal, usage}
 use Rattle.command_words.specs.Command.{Command}
 use Rattle.word_rule.specs.Driven.{Driven, new_driven, driven_by}

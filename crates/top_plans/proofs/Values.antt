@@ -6,19 +6,19 @@ use Rattle.std.specs.Str.{bytes_eq}
 use Rattle.std.proofs.lemmas.Slice.Eq.{bytes_eq-Decides}
 use Rattle.csv.specs.Reading.{default_config, records, strip_bom}
 use Rattle.syn_base.specs.Bytes.{Bytes}
-use Rattle.outside.specs.Shelf.{Held, file_bound}
-use Rattle.outside.specs.Sink.{Sunk, Appends, appended}
-use Rattle.outside.specs.declared.file.File.{File}
-use Rattle.outside.specs.declared.file.File.TheVariants.{Algorithm, Architecture, Sensors, Code, Durations}
-use Rattle.algo_text.specs.declared.definition.Defs.{Defs}
+use Rattle.algo_rules.specs.declared.Defs.{Defs}
+use Rattle.algo_rules.specs.Tree.{Vertex}
 use Rattle.algo_rules.specs.Resolved.{resolution_of}
-use Rattle.algo_tree.specs.Tree.{Vertex}
-use Rattle.elaboration.specs.Marking.{marking_of}
-use Rattle.sensor_table.specs.SensorTable.{rows_of}
+use Rattle.accepted_laws.specs.Marking.{marking_of}
 use Rattle.accepted_laws.specs.Told.{lines_taken}
-use Rattle.command_plan.specs.Plan.{Plan, give, refuse, read, outcome, ReadsOnly}
-use Rattle.command_plan.specs.Stage.{text_of, jobs_of, after_jobs}
-use Rattle.command_plan.specs.Ending.{done}
+use Rattle.command_status.specs.Shelf.{Held, file_bound}
+use Rattle.command_status.specs.Sink.{Sunk, Appends, appended}
+use Rattle.command_status.specs.declared.File.{File}
+use Rattle.command_status.specs.declared.File.TheVariants.{Algorithm, Architecture, Sensors, Code, Durations}
+use Rattle.command_status.specs.SensorTable.{rows_of}
+use Rattle.command_status.specs.Plan.{Plan, give, refuse, read, outcome, ReadsOnly}
+use Rattle.command_status.specs.Stage.{text_of, jobs_of, after_jobs}
+use Rattle.command_status.specs.Ending.{done}
 use Rattle.command_status.specs.Status.{Refusal}
 use Rattle.command_words.specs.Command.{Command, Arguments, sim, run, exec, is_option, is_joined, arguments_of, with_plain, plain_by, two, run_by, exec_by, command_of}
 use Rattle.command_words.proofs.OptionWords.{joined_is}

@@ -2,43 +2,42 @@
 use Rattle.std.proofs.Common.{◌≡◌, ℕ, List, length, Option, Some, None, Result, Ok, Err, refl, sym, subst}
 use Rattle.csv.specs.Reading.{default_config, records, strip_bom}
 use Rattle.syn_base.specs.Bytes.{Bytes}
-use Rattle.outside.specs.declared.file.File.{File}
-use Rattle.outside.specs.declared.file.File.TheVariants.{Algorithm, Architecture, Sensors, Code, Durations}
 use Rattle.syn_base.specs.Rows.{Reactions}
 use Rattle.syn_base.specs.declared.limits.LimitFault.{LimitFault}
-use Rattle.algo_text.specs.declared.definition.Defs.{Defs}
-use Rattle.algo_text.specs.Text.{definitions_of}
-use Rattle.algo_text.specs.declared.fault.AlgoError.{AlgoError}
-use Rattle.algo_text.specs.declared.fault.AlgoError.TheVariants as algorithm
-use Rattle.archi_defs.specs.declared.fault.ArchiError.{ArchiError}
-use Rattle.archi_defs.specs.declared.fault.ArchiError.TheVariants as architecture
-use Rattle.sensor_table.specs.declared.fault.SensorError.{SensorError}
-use Rattle.sensor_table.specs.declared.fault.SensorError.TheVariants as sensors
-use Rattle.macro_code.specs.declared.fault.CodeError.{CodeError}
-use Rattle.macro_code.specs.declared.fault.CodeError.TheVariants as macros
-use Rattle.macro_code.specs.ReadText.{program_in}
-use Rattle.check_cause.specs.declared.cause.CheckCause.{CheckCause}
-use Rattle.actual_defs.specs.declared.fault.ActualError.{ActualError}
-use Rattle.actual_defs.specs.declared.fault.ActualError.TheVariants as actual
+use Rattle.text_lines.specs.Refusals as refusals
+use Rattle.algo_rules.specs.declared.Defs.{Defs}
+use Rattle.algo_rules.specs.Text.{definitions_of}
+use Rattle.algo_rules.specs.declared.AlgoError.{AlgoError}
+use Rattle.algo_rules.specs.declared.AlgoError.TheVariants as algorithm
+use Rattle.algo_rules.specs.Tree.{Vertex}
 use Rattle.actual_durations.specs.Actual.{actual_of}
+use Rattle.self_timed.specs.Refusals.{ArchiRefusal}
+use Rattle.self_timed.specs.Archi.{Architecture as Archi}
+use Rattle.self_timed.specs.Text.{Described, description_of}
+use Rattle.self_timed.specs.Table.{Table, durations_of}
+use Rattle.self_timed.specs.Graph.{Graph}
+use Rattle.self_timed.specs.declared.Program.{Program}
 use Rattle.dates_text.specs.Listing.{dates_text}
-use Rattle.elaboration.specs.Elaborated.{elaboration_of}
 use Rattle.algo_print.specs.Canonical.{canonical_text}
-use Rattle.algo_tree.specs.Tree.{Vertex}
-use Rattle.archi_graph.specs.Archi.{Architecture as Archi}
-use Rattle.archi_defs.specs.Text.{Described, description_of}
-use Rattle.durations.specs.Table.{Table, durations_of}
-use Rattle.flat_graph.specs.Graph.{Graph}
-use Rattle.flat_laws.specs.FlatOf.{flat_of}
 use Rattle.flat_text.specs.Listing.{listing}
-use Rattle.sensor_table.specs.SensorTable.{rows_of}
-use Rattle.executive_program.specs.declared.program.Program.{Program}
-use Rattle.macro_code.specs.Text.{macro_code}
 use Rattle.sequence_build.specs.Limit.{program_limit}
-use Rattle.semaphore_core.specs.IsJob.{limit_of}
-use Rattle.command_plan.specs.Plan.{give, refuse, after}
+use Rattle.word_rule.specs.IsJob.{limit_of}
+use Rattle.command_status.specs.declared.File.{File}
+use Rattle.command_status.specs.declared.File.TheVariants.{Algorithm, Architecture, Sensors, Code, Durations}
+use Rattle.command_status.specs.declared.SensorError.{SensorError}
+use Rattle.command_status.specs.declared.SensorError.TheVariants as sensors
+use Rattle.command_status.specs.CodeRefusals.{CodeRefusal}
+use Rattle.command_status.specs.ReadText.{program_in}
+use Rattle.command_status.specs.declared.CheckCause.{CheckCause}
+use Rattle.command_status.specs.declared.ActualError.{ActualError}
+use Rattle.command_status.specs.declared.ActualError.TheVariants as actual
+use Rattle.command_status.specs.SensorTable.{rows_of}
+use Rattle.command_status.specs.CodeText.{macro_code}
+use Rattle.command_status.specs.Plan.{give, refuse, after}
 use Rattle.command_status.specs.Status.{Refusal, above, failed_check, of_algorithm, of_architecture, of_code, of_durations, of_sensors, usage, wants_memory}
 use Rattle.command_words.specs.Command.{Command, check, sim, flat, chart, code, run, load, exec, dates}
+use Rattle.accepted_laws.specs.Elaborated.{elaboration_of}
+use Rattle.accepted_laws.specs.FlatOf.{flat_of}
 use Rattle.top_plans.specs.Names.{names_for}
 use Rattle.top_plans.specs.Given.{Given, written, printed, executed, summed, Execution, one_job, output_of}
 use Rattle.top_plans.specs.Plans.{Made, both_texts, chart_of, read_file, unless, unless_lacking, algorithm_in, described_in, architecture_in, table_in, code_in, durations_in, program_plan, program_by, schedule_of, rows_plan, excess, execution, execution_plan, head, summary, load_plan, plan_for}
@@ -47,10 +46,8 @@ use Rattle.top_plans.specs.Checks.{lacking}
 use Rattle.top_plans.proofs.Only.{Only}
 use Rattle.top_plans.proofs.TextRefusals as texts
 use Rattle.top_plans.proofs.MarkRefusals.{elaboration_safe}
-use Rattle.top_plans.proofs.ArchitectureRefusals as architectures
 use Rattle.top_plans.proofs.DurationRefusals as durations
 use Rattle.top_plans.proofs.TableRefusals as tables
-use Rattle.top_plans.proofs.CodeRefusals as codes
 
 -- where the program of an execution comes from
 pub data Comes (d : Described) (e : Execution) : Type 0 where
@@ -178,20 +175,18 @@ told_algorithm (algorithm.Limit fault) s = told_above fault
 told_algorithm algorithm.TooLarge s = absurd s
 told_algorithm algorithm.OutOfMemory s = absurd s
 
-pub told_architecture : (e : ArchiError) → architectures.Stays e → IsTold (of_architecture e)
-told_architecture (architecture.Refused fault) s = record { no_usage = λ q. cc; no_want = λ q. cc }
-told_architecture (architecture.Limit fault) s = told_above fault
-told_architecture architecture.OutOfMemory s = absurd s
+pub told_architecture : (refusal : ArchiRefusal) → IsTold (of_architecture refusal)
+told_architecture (refusals.Refused fault) = record { no_usage = λ q. cc; no_want = λ q. cc }
+told_architecture (refusals.Limit fault) = told_above fault
 
 pub told_sensors : (e : SensorError) → tables.Stays e → IsTold (of_sensors e)
 told_sensors (sensors.Refused fault) s = record { no_usage = λ q. cc; no_want = λ q. cc }
 told_sensors (sensors.Limit fault) s = told_above fault
 told_sensors sensors.OutOfMemory s = absurd s
 
-told_code : (e : CodeError) → codes.Stays e → IsTold (of_code e)
-told_code (macros.Refused fault) s = record { no_usage = λ q. cc; no_want = λ q. cc }
-told_code (macros.Limit fault) s = told_above fault
-told_code macros.OutOfMemory s = absurd s
+pub told_code : (refusal : CodeRefusal) → IsTold (of_code refusal)
+told_code (refusals.Refused fault) = record { no_usage = λ q. cc; no_want = λ q. cc }
+told_code (refusals.Limit fault) = told_above fault
 
 pub told_durations : (e : ActualError) → durations.Stays e → IsTold (of_durations e)
 told_durations (actual.Refused fault) s = record { no_usage = λ q. cc; no_want = λ q. cc }
@@ -205,6 +200,10 @@ module _ (Told : Bytes → Bytes → Type 0) (Q : Made → Type 0) (refused : (r
   after_so refusal told (Ok x) only next h = h x refl
   after_so refusal told (Err e) only next h = refused (refusal e) (told e only.error)
 
+  after_told : {X E : Type 0} (refusal : E → Refusal) → ((e : E) → IsTold (refusal e)) → (answer : Result X E) (next : X → Made) → ((x : X) → answer ≡ Ok x → Q (next x)) → Q (after refusal answer next)
+  after_told refusal told (Ok x) next h = h x refl
+  after_told refusal told (Err e) next h = refused (refusal e) (told e)
+
   unless_within : (o : Option LimitFault) (next : Made) → (o ≡ None → Q next) → Q (unless o next)
   unless_within (Some f) next h = refused (above f) (told_above f)
   unless_within None next h = h refl
@@ -216,8 +215,8 @@ module _ (Told : Bytes → Bytes → Type 0) (Q : Made → Type 0) (refused : (r
 
   architecture_so : (text : Bytes) (main : Vertex) (next : Described → Table → Made) → ((d : Described) (t : Table) → description_of text ≡ Ok d → durations_of (flat_of main) d ≡ Ok t → Q (next d t))
       → Q (architecture_in text main next)
-  architecture_so text main next h = after_so of_architecture told_architecture (description_of text) (architectures.description_safe text) (λ d. after of_architecture (durations_of (flat_of main) d) (next d))
-      (λ d p. after_so of_architecture told_architecture (durations_of (flat_of main) d) (durations.durations_safe (flat_of main) d) (next d) (λ t q. h d t p q))
+  architecture_so text main next h = after_told of_architecture told_architecture (description_of text) (λ d. after of_architecture (durations_of (flat_of main) d) (next d))
+      (λ d p. after_told of_architecture told_architecture (durations_of (flat_of main) d) (next d) (λ t q. h d t p q))
 
   table_so : (main : Vertex) (table : Bytes) (next : Reactions → Made) → ((rows : Reactions) → rows_of main (records default_config (strip_bom table)) ≡ Ok rows → Q (next rows)) → Q (table_in main table next)
   table_so main table next h = after_so of_sensors told_sensors (rows_of main (records default_config (strip_bom table))) (tables.table_safe main (records default_config (strip_bom table))) next h
@@ -233,10 +232,10 @@ module _ (Told : Bytes → Bytes → Type 0) (Q : Made → Type 0) (refused : (r
   unless_none None next h = h refl
 
   described_so : (text : Bytes) (next : Described → Made) → ((d : Described) → description_of text ≡ Ok d → Q (next d)) → Q (described_in text next)
-  described_so text next h = after_so of_architecture told_architecture (description_of text) (architectures.description_safe text) next h
+  described_so text next h = after_told of_architecture told_architecture (description_of text) next h
 
   code_so : (text : Bytes) (g : Graph) (a : Archi) (next : Program → Made) → ((p : Program) → lacking g a p ≡ None → Q (next p)) → Q (code_in text g a next)
-  code_so text g a next h = after_so of_code told_code (program_in text g a) (codes.program_safe text g a) (λ p. unless_lacking (lacking g a p) (next p)) (λ p q. unless_none (lacking g a p) (next p) (h p))
+  code_so text g a next h = after_told of_code told_code (program_in text g a) (λ p. unless_lacking (lacking g a p) (next p)) (λ p q. unless_none (lacking g a p) (next p) (h p))
 
   durations_so : (text : Bytes) (g : Graph) (a : Archi) (t : Table) (next : List ℕ → Made) → ((ticks : List ℕ) → actual_of g a t (schedule_of g a t) text ≡ Ok ticks → Q (next ticks)) → Q (durations_in text g a t next)
   durations_so text g a t next h = after_so of_durations told_durations (actual_of g a t (schedule_of g a t) text) (durations.actual_safe g a t (schedule_of g a t) text) next h

@@ -3,17 +3,17 @@ use Rattle.std.proofs.Common.{◌≡◌, ℕ, refl, List, [], ◌∷◌, ◌++�
 use Rattle.csv.specs.Reading.{records_from, strip_bom}
 use Rattle.csv.specs.Machine.{next_record}
 use Rattle.std.specs.Fmt.{digits}
-use Rattle.macro_code.specs.Forms.{macro_of}
 use Rattle.syn_base.specs.Bytes.{Bytes}
-use Rattle.outside.specs.Bytes.{named}
-use Rattle.semaphore_core.specs.Job.{JobData, reactions}
-use Rattle.command_plan.specs.Plan.{outcome}
-use Rattle.command_plan.specs.Stage.{Stage}
+use Rattle.word_rule.specs.Job.{JobData, reactions}
+use Rattle.command_status.specs.Forms.{macro_of}
+use Rattle.command_status.specs.Bytes.{named}
+use Rattle.command_status.specs.Plan.{outcome}
+use Rattle.command_status.specs.Stage.{Stage}
+use Rattle.command_status.specs.declared.CodeCause.TheVariants as code_cause
+use Rattle.command_status.specs.declared.CheckCause.TheVariants.{Sequences}
+use Rattle.command_status.specs.declared.ActualFault.TheVariants.{Text, Longer}
 use Rattle.command_status.specs.Status.{Refusal, bad_code, failed_check, bad_durations}
-use Rattle.macro_code.specs.declared.fault.CodeCause.TheVariants as code_cause
-use Rattle.check_cause.specs.declared.cause.CheckCause.TheVariants.{Sequences}
-use Rattle.archi_defs.specs.declared.fault.ArchiCause.TheVariants as archi_cause
-use Rattle.actual_defs.specs.declared.fault.ActualFault.TheVariants.{Text, Longer}
+use Rattle.self_timed.specs.declared.ArchiCause.TheVariants as archi_cause
 use Rattle.top_plans.specs.Given.{Given, stages}
 use Rattle.top_plans.specs.Plans.{run_plan, sim_plan, code_plan, load_plan, exec_plan, dates_plan}
 

@@ -2,15 +2,15 @@
 use Rattle.std.proofs.Common.{◌≡◌, ℕ, zero, suc, List, [], ◌∷◌, ◌++◌, map, length, refl, sym, ap, ◌∙◌, arith, append-nil, length-append}
 use Rattle.std.specs.List.{flat_map}
 use Rattle.std.proofs.lemmas.List.{length-map}
-use Rattle.level_meaning.specs.Level.{numbers_below}
-use Rattle.algo_tree.specs.Meaning.{act_row}
-use Rattle.act_text.specs.Names.{actuator_names}
-use Rattle.command_plan.specs.Stage.{text_of, jobs_of}
-use Rattle.phase_laws.specs.Windows.{window_job}
+use Rattle.algo_rules.specs.Meaning.{act_row}
+use Rattle.word_rule.specs.Windows.{window_job}
+use Rattle.command_status.specs.Stage.{text_of, jobs_of}
+use Rattle.accepted_laws.specs.ActNames.{actuator_names}
 use Rattle.run_laws.specs.Windows.{starts, reactions_from, window_jobs, window_text}
 use Rattle.run_laws.proofs.Texts.{windows_tell}
 use Rattle.top_plans.specs.Given.{Execution, one_job, acts_of, window_stage, window_stages, output_of}
 use Rattle.top_plans.specs.Meaning.{WindowsWriteTheOutput, WindowsAreRun}
+use Rattle.syn_base.specs.Numbers.{numbers_below}
 
 long_below : (m : ℕ) → length (numbers_below m) ≡ m
 long_below zero = refl

@@ -1,20 +1,5 @@
 -- The check of a program of any origin, as it is told.
 use Rattle.std.specs.Prelude.{map, length, Option, option_map}
-use Rattle.flat_graph.specs.Graph.{Graph}
-use Rattle.archi_graph.specs.Archi.{Architecture}
-use Rattle.archi_graph.specs.Sequences.{sequences}
-use Rattle.executive_program.specs.declared.program.Program.{Program}
-use Rattle.check_cause.specs.declared.cause.CheckCause.{CheckCause}
-use Rattle.check_cause.specs.declared.cause.CheckCause.TheVariants.{
-  Sequences,
-  Calls,
-  Transfers,
-  Buffers,
-  Pairs,
-  Prologue,
-  Stuck,
-}
-use Rattle.check_cause.specs.declared.cause.Stop.{Stop}
 use Rattle.check_laws.specs.Run.{Place}
 use Rattle.check_laws.specs.Tests.{
   Cause,
@@ -27,6 +12,21 @@ use Rattle.check_laws.specs.Tests.{
   prologue_wrong,
   stuck_at,
 }
+use Rattle.self_timed.specs.Graph.{Graph}
+use Rattle.self_timed.specs.Archi.{Architecture}
+use Rattle.self_timed.specs.Sequences.{sequences}
+use Rattle.self_timed.specs.declared.Program.{Program}
+use Rattle.command_status.specs.declared.CheckCause.{CheckCause}
+use Rattle.command_status.specs.declared.CheckCause.TheVariants.{
+  Sequences,
+  Calls,
+  Transfers,
+  Buffers,
+  Pairs,
+  Prologue,
+  Stuck,
+}
+use Rattle.command_status.specs.declared.Stop.{Stop}
 
 -- A sequence that is not at its end, with the place of its next instruction, as a status has it.
 abbrev pub stop_of : Place → Stop

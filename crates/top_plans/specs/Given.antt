@@ -2,20 +2,21 @@
 use Rattle.std.specs.Prelude.{ℕ, List, [], ◌∷◌, map, length}
 use Rattle.syn_base.specs.Bytes.{Bytes}
 use Rattle.syn_base.specs.Rows.{Reactions}
-use Rattle.level_meaning.specs.Level.{Values, numbers_below}
-use Rattle.algo_tree.specs.Tree.{Vertex}
-use Rattle.algo_tree.specs.Meaning.{act_row}
-use Rattle.archi_graph.specs.Archi.{Architecture}
-use Rattle.flat_graph.specs.Meaning.{initial_cells}
-use Rattle.flat_laws.specs.FlatOf.{flat_of}
-use Rattle.executive_program.specs.declared.program.Program.{Program}
-use Rattle.semaphore_core.specs.Job.{JobData}
-use Rattle.semaphore_core.specs.IsJob.{job_of}
-use Rattle.act_text.specs.Names.{actuator_names}
-use Rattle.act_text.specs.Text.{output_text}
-use Rattle.command_plan.specs.Stage.{Stage}
-use Rattle.phase_laws.specs.Windows.{window_job}
+use Rattle.algo_rules.specs.Tree.{Vertex}
+use Rattle.algo_rules.specs.Meaning.{act_row}
+use Rattle.word_rule.specs.Job.{JobData}
+use Rattle.word_rule.specs.IsJob.{job_of}
+use Rattle.word_rule.specs.Windows.{window_job}
+use Rattle.self_timed.specs.Archi.{Architecture}
+use Rattle.self_timed.specs.Meaning.{initial_cells}
+use Rattle.self_timed.specs.declared.Program.{Program}
+use Rattle.command_status.specs.Stage.{Stage}
+use Rattle.accepted_laws.specs.FlatOf.{flat_of}
+use Rattle.accepted_laws.specs.ActNames.{actuator_names}
+use Rattle.accepted_laws.specs.ActText.{output_text}
 use Rattle.run_laws.specs.Windows.{starts, reactions_from, window_jobs, window_text}
+use Rattle.syn_base.specs.Vectors.{Values}
+use Rattle.syn_base.specs.Numbers.{numbers_below}
 
 -- a program that is executed on an architecture, for an algorithm, over rows of its sensors
 pub record Execution : Type 0 where
@@ -28,7 +29,7 @@ pub record Execution : Type 0 where
 abbrev pub one_job : Execution → JobData
 one_job e = job_of e.program (flat_of e.main) e.architecture e.rows (initial_cells (flat_of e.main).vertices)
 
--- what the actuators of an algorithm take in each reaction, and its text
+-- What the actuators of an algorithm take in each reaction over these rows of its sensors.
 abbrev pub acts_of : Vertex → List Values → List Values
 acts_of main rows = map (act_row main rows) (numbers_below (length rows))
 

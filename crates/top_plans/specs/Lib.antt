@@ -8,3 +8,34 @@ pub mod Texts
 pub mod Meaning
 pub mod Replies
 pub mod Values
+-- What the definitions here speak of: what the commands read, make and refuse.
+pub use Rattle.accepted_laws.specs.Accepted
+pub use Rattle.accepted_laws.specs.ActNames
+pub use Rattle.accepted_laws.specs.ActText
+pub use Rattle.accepted_laws.specs.Elaborated
+pub use Rattle.accepted_laws.specs.Flat
+pub use Rattle.accepted_laws.specs.FlatOf
+pub use Rattle.actual_durations.specs.Actual
+pub use Rattle.actual_durations.specs.Answers as ActualAnswers
+pub use Rattle.command_status.specs.Bytes
+pub use Rattle.command_status.specs.CodeRefusals
+pub use Rattle.command_status.specs.CodeText
+pub use Rattle.command_status.specs.Ending
+pub use Rattle.command_status.specs.Faults
+pub use Rattle.command_status.specs.Forms
+pub use Rattle.command_status.specs.Lines
+pub use Rattle.command_status.specs.Plan
+pub use Rattle.command_status.specs.PlanAnswers
+pub use Rattle.command_status.specs.ReadText
+pub use Rattle.command_status.specs.Run
+pub use Rattle.command_status.specs.SensorAnswers
+pub use Rattle.command_status.specs.SensorTable
+pub use Rattle.command_status.specs.Shelf
+pub use Rattle.command_status.specs.Sink
+pub use Rattle.command_status.specs.Stage
+pub use Rattle.command_status.specs.Status
+pub use Rattle.command_status.specs.Template
+pub use Rattle.dates_text.specs.Chart
+pub use Rattle.dates_text.specs.Listing
+pub use Rattle.pressure_heuristic.specs.Adequation
+pub use Rattle.sequence_build.specs.Limit

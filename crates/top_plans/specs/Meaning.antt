@@ -21,23 +21,22 @@ use Rattle.std.specs.Prelude.{
 use Rattle.csv.specs.Reading.{default_config, records, strip_bom}
 use Rattle.syn_base.specs.Bytes.{Bytes}
 use Rattle.syn_base.specs.Rows.{Reactions}
-use Rattle.level_meaning.specs.Level.{vector_at, zeros}
 use Rattle.multi_period.specs.Meaning.{act_row_at}
-use Rattle.sensor_table.specs.SensorTable.{rows_of}
+use Rattle.command_status.specs.SensorTable.{rows_of}
+use Rattle.command_status.specs.Plan.{outcome}
+use Rattle.command_status.specs.Stage.{text_of, jobs_of}
+use Rattle.accepted_laws.specs.FlatOf.{flat_of}
 use Rattle.accepted_laws.specs.Told.{Algorithm, DoesAsTold, taken, lines_taken}
-use Rattle.flat_graph.specs.declared.vertex.Vertex as flat
-use Rattle.flat_graph.specs.declared.vertex.Kind.TheVariants.{Actuator}
-use Rattle.flat_graph.specs.Graph.{lens_of}
-use Rattle.flat_laws.specs.FlatOf.{flat_of}
-use Rattle.archi_defs.specs.Text.{Described}
-use Rattle.semaphore_core.specs.Core.{run, count, IsDone}
-use Rattle.semaphore_core.specs.Told.{done_in}
-use Rattle.semaphore_core.specs.IsJob.{limit_of}
-use Rattle.semaphore_core.specs.Laws.{HasLaws}
-use Rattle.phase_laws.specs.Agrees.{row_at}
-use Rattle.phase_laws.specs.Windows.{IsWindow}
-use Rattle.command_plan.specs.Plan.{outcome}
-use Rattle.command_plan.specs.Stage.{text_of, jobs_of}
+use Rattle.word_rule.specs.Core.{run, count, IsDone}
+use Rattle.word_rule.specs.Told.{done_in}
+use Rattle.word_rule.specs.IsJob.{limit_of}
+use Rattle.word_rule.specs.Laws.{HasLaws}
+use Rattle.word_rule.specs.Agrees.{row_at}
+use Rattle.word_rule.specs.Windows.{IsWindow}
+use Rattle.self_timed.specs.declared.Vertex as flat
+use Rattle.self_timed.specs.declared.Kind.TheVariants.{Actuator}
+use Rattle.self_timed.specs.Graph.{lens_of}
+use Rattle.self_timed.specs.Text.{Described}
 use Rattle.run_laws.specs.Windows.{window_jobs}
 use Rattle.top_plans.specs.Given.{
   Given,
@@ -66,6 +65,7 @@ use Rattle.command_words.specs.Command.{
 use Rattle.top_plans.specs.Loads.{load_algorithm, load_table}
 use Rattle.top_plans.specs.Plans.{plan_for, summary_with, sum_of}
 use Rattle.top_plans.specs.Texts.{ChecksAlgorithm, ChecksBoth, ListsTrue, ChartsTrue, CodesTrue, DatesTrue, IsCode}
+use Rattle.syn_base.specs.Vectors.{vector_at, zeros}
 
 -- the text that is written in windows is the whole output
 abbrev pub WindowsWriteTheOutput : Type 0

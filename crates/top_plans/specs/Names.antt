@@ -1,9 +1,9 @@
 -- The names that each command gives its files, and which commands run jobs.
 use Rattle.std.specs.Prelude.{Option, Some, None}
 use Rattle.syn_base.specs.Bytes.{Bytes}
-use Rattle.outside.specs.declared.file.File.{File}
-use Rattle.outside.specs.declared.file.File.TheVariants.{Algorithm, Architecture, Sensors, Code, Durations}
 use Rattle.command_words.specs.Command.{Command, check, sim, flat, chart, code, run, load, exec, dates}
+use Rattle.command_status.specs.declared.File.{File}
+use Rattle.command_status.specs.declared.File.TheVariants.{Algorithm, Architecture, Sensors, Code, Durations}
 
 -- the names that the words give an algorithm, an architecture, a sensor table, a code and durations that really occur
 abbrev pub named : Option Bytes → Option Bytes → Option Bytes → Option Bytes → Option Bytes → File → Option Bytes

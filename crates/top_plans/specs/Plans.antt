@@ -20,48 +20,46 @@ use Rattle.std.specs.Fmt.{decimal, signed_decimal}
 use Rattle.std.specs.List.{flat_map}
 use Rattle.csv.specs.Reading.{default_config, records, strip_bom}
 use Rattle.syn_base.specs.Bytes.{Bytes}
-use Rattle.outside.specs.Bytes.{joined}
-use Rattle.outside.specs.Shelf.{file_limit}
-use Rattle.outside.specs.declared.file.File.{File}
-use Rattle.outside.specs.declared.file.File.TheVariants.{Algorithm, Architecture, Sensors, Code, Durations}
 use Rattle.syn_base.specs.Arithmetic.{wrapped}
 use Rattle.syn_base.specs.Limits.{bound_of}
 use Rattle.syn_base.specs.Rows.{Reactions}
 use Rattle.syn_base.specs.declared.limits.LimitFault.{LimitFault}
 use Rattle.syn_base.specs.declared.limits.LimitKind.TheVariants.{Output}
-use Rattle.level_meaning.specs.Level.{Values, all_joined}
-use Rattle.body_lang.specs.Expr.{total}
-use Rattle.algo_text.specs.declared.definition.Defs.{Defs}
-use Rattle.algo_text.specs.Text.{definitions_of}
-use Rattle.elaboration.specs.Elaborated.{elaboration_of}
 use Rattle.algo_print.specs.Canonical.{canonical_text}
-use Rattle.algo_tree.specs.Tree.{Vertex}
-use Rattle.algo_tree.specs.Ends.{actuator_lengths}
-use Rattle.archi_defs.specs.Text.{Described, description_of}
+use Rattle.algo_rules.specs.Level.{all_joined}
+use Rattle.algo_rules.specs.Expr.{total}
+use Rattle.algo_rules.specs.declared.Defs.{Defs}
+use Rattle.algo_rules.specs.Text.{definitions_of}
+use Rattle.algo_rules.specs.Tree.{Vertex}
+use Rattle.algo_rules.specs.Ends.{actuator_lengths}
 use Rattle.archi_reader.specs.Canonical as architecture
-use Rattle.archi_graph.specs.Archi.{Architecture as Archi}
-use Rattle.archi_graph.specs.Sequences.{sequences}
-use Rattle.durations.specs.Table.{Table, durations_of}
-use Rattle.flat_graph.specs.Graph.{Graph}
-use Rattle.flat_laws.specs.FlatOf.{flat_of}
 use Rattle.flat_text.specs.Listing.{listing}
+use Rattle.pressure_heuristic.specs.Computed.{table_of}
 use Rattle.pressure_heuristic.specs.Pressure.{pressure_run}
 use Rattle.pressure_heuristic.specs.Tasks.{task}
-use Rattle.route_table.specs.Computed.{table_of}
-use Rattle.schedule.specs.declared.decision.Schedule.{Schedule}
-use Rattle.timing_chart.specs.Chart as timing
-use Rattle.executive_program.specs.declared.program.Program.{Program}
-use Rattle.sequence_build_laws.specs.Built.{program_of}
 use Rattle.sequence_build.specs.Limit.{program_limit}
-use Rattle.semaphore_core.specs.Job.{total_steps}
-use Rattle.semaphore_core.specs.IsJob.{limit_of}
-use Rattle.macro_code.specs.Text.{macro_code}
-use Rattle.macro_code.specs.ReadText.{program_in}
-use Rattle.check_cause.specs.declared.cause.CheckCause.{CheckCause}
+use Rattle.word_rule.specs.Job.{total_steps}
+use Rattle.word_rule.specs.IsJob.{limit_of}
 use Rattle.actual_durations.specs.Actual.{actual_of}
+use Rattle.self_timed.specs.Text.{Described, description_of}
+use Rattle.self_timed.specs.Archi.{Architecture as Archi}
+use Rattle.self_timed.specs.Sequences.{sequences}
+use Rattle.self_timed.specs.Table.{Table, durations_of}
+use Rattle.self_timed.specs.Graph.{Graph}
+use Rattle.self_timed.specs.declared.Schedule.{Schedule}
+use Rattle.self_timed.specs.declared.Program.{Program}
+use Rattle.self_timed.specs.Built.{program_of}
+use Rattle.dates_text.specs.Chart as timing
 use Rattle.dates_text.specs.Listing.{dates_text}
-use Rattle.sensor_table.specs.SensorTable.{rows_of}
-use Rattle.command_plan.specs.Plan.{Plan, give, refuse, read, after}
+use Rattle.command_status.specs.Bytes.{joined}
+use Rattle.command_status.specs.Shelf.{file_limit}
+use Rattle.command_status.specs.declared.File.{File}
+use Rattle.command_status.specs.declared.File.TheVariants.{Algorithm, Architecture, Sensors, Code, Durations}
+use Rattle.command_status.specs.CodeText.{macro_code}
+use Rattle.command_status.specs.ReadText.{program_in}
+use Rattle.command_status.specs.declared.CheckCause.{CheckCause}
+use Rattle.command_status.specs.SensorTable.{rows_of}
+use Rattle.command_status.specs.Plan.{Plan, give, refuse, read, after}
 use Rattle.command_status.specs.Status.{
   Refusal,
   above,
@@ -74,16 +72,20 @@ use Rattle.command_status.specs.Status.{
   usage,
 }
 use Rattle.command_words.specs.Command.{Command, check, sim, flat, chart, code, run, load, exec, dates}
+use Rattle.accepted_laws.specs.Elaborated.{elaboration_of}
+use Rattle.accepted_laws.specs.FlatOf.{flat_of}
 use Rattle.top_plans.specs.Given.{Given, written, printed, executed, summed, Execution, one_job, acts_of, output_of}
 use Rattle.top_plans.specs.Loads.{load_algorithm, load_architecture, load_table}
 use Rattle.top_plans.specs.Checks.{lacking}
+use Rattle.syn_base.specs.Vectors.{Values}
 
 -- The plan of a command of this program: in the end it gives what is to be made, or refuses.
 abbrev pub Made : Type 0
 Made = Plan Refusal Given
 
 -- The parts of plans, whatever a plan gives in the end.
--- read a file, or refuse it where it is too long
+
+-- Read a file, and go on with its text, or refuse it if it is too long.
 abbrev pub read_file : {A : Type 0} → File → Bytes → (Bytes → Plan Refusal A) → Plan Refusal A
 read_file file name next = read file name (above file_limit) next
 
@@ -109,7 +111,7 @@ architecture_in text main next = described_in text (λ d. after of_architecture 
 abbrev pub table_in : {A : Type 0} → Vertex → Bytes → (Reactions → Plan Refusal A) → Plan Refusal A
 table_in main table next = after of_sensors (rows_of main (records default_config (strip_bom table))) next
 
--- the same of files
+-- Read the file of an algorithm, and go on with its definitions and its main graph, or refuse it.
 abbrev pub algorithm_plan : {A : Type 0} → Bytes → (Defs → Vertex → Plan Refusal A) → Plan Refusal A
 algorithm_plan a next = read_file Algorithm a (λ text. algorithm_in text next)
 

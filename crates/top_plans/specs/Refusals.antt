@@ -1,7 +1,7 @@
 -- What no plan refuses for: want of memory is told by what is carried out, and never by what texts and words say.
 use Rattle.std.specs.Prelude.{◌≡◌, Option, Some, Err}
 use Rattle.syn_base.specs.Bytes.{Bytes}
-use Rattle.command_plan.specs.Plan.{outcome, RefusesOnly}
+use Rattle.command_status.specs.Plan.{outcome, RefusesOnly}
 use Rattle.command_status.specs.Status.{Refusal, wants_memory}
 use Rattle.command_words.specs.Command.{Command}
 use Rattle.top_plans.specs.Plans.{plan_of}

@@ -1,14 +1,14 @@
 -- What the public calls answer.
 use Rattle.std.specs.Prelude.{◌≡◌, ◌⊎◌, ◌++◌, ℕ, List, Option, Some, None, Result, Ok, IsOkAnd}
 use Rattle.syn_base.specs.Bytes.{Bytes}
-use Rattle.outside.specs.Faults.{Rose}
-use Rattle.outside.specs.Shelf.{Held}
-use Rattle.outside.specs.Sink.{Sunk, Appends, AppendsPrefix}
-use Rattle.command_plan.specs.Plan.{outcome}
-use Rattle.command_plan.specs.Stage.{text_of, after_jobs}
-use Rattle.command_plan.specs.Ending.{Ending, done, refused, unwritten, no_memory}
-use Rattle.command_plan.specs.Run.{Ran}
-use Rattle.command_plan.specs.Answers.{Answers}
+use Rattle.command_status.specs.Faults.{Rose}
+use Rattle.command_status.specs.Shelf.{Held}
+use Rattle.command_status.specs.Sink.{Sunk, Appends, AppendsPrefix}
+use Rattle.command_status.specs.Plan.{outcome}
+use Rattle.command_status.specs.Stage.{text_of, after_jobs}
+use Rattle.command_status.specs.Ending.{Ending, done, refused, unwritten, no_memory}
+use Rattle.command_status.specs.Run.{Ran}
+use Rattle.command_status.specs.PlanAnswers.{Answers}
 use Rattle.command_status.specs.Status.{Refusal, usage}
 use Rattle.command_words.specs.Command.{Command, load, command_of}
 use Rattle.word_rule.specs.Driven.{Driven, driven_by}

@@ -18,31 +18,31 @@ use Rattle.std.specs.Prelude.{
   slice_get,
 }
 use Rattle.syn_base.specs.Bytes.{Bytes}
-use Rattle.level_meaning.specs.Level.{Values}
-use Rattle.algo_text.specs.declared.definition.Defs.{Defs}
-use Rattle.algo_text.specs.Text.{definitions_of}
+use Rattle.syn_base.specs.Vectors.{Values}
 use Rattle.algo_print.specs.ReadBack.{Says}
 use Rattle.multi_period.specs.Meaning.{act_row_at}
-use Rattle.archi_defs.specs.Text.{Described, description_of}
-use Rattle.archi_graph.specs.Sequences.{sequences}
-use Rattle.durations.specs.Table.{Table, durations_of, entry_in}
-use Rattle.flat_graph.specs.Graph.{Graph}
-use Rattle.flat_graph.specs.Valid.{is_flat}
-use Rattle.flat_graph.specs.Meaning.{initial_cells, flat_act_row}
+use Rattle.algo_rules.specs.declared.Defs.{Defs}
+use Rattle.algo_rules.specs.Text.{definitions_of}
 use Rattle.flat_text.specs.Listing.{listing}
-use Rattle.schedule.specs.declared.decision.Schedule.{Schedule}
-use Rattle.schedule.specs.Acts.{Act, acts, start_of, end_of, length_of}
-use Rattle.schedule.specs.Tight.{is_tight}
-use Rattle.schedule.specs.Valid.{is_valid}
-use Rattle.timing_chart.specs.Chart.{chart}
-use Rattle.executive_program.specs.declared.program.Program.{Program}
-use Rattle.executive_program.specs.WellFormed.{IsWellFormed}
-use Rattle.macro_code.specs.Text.{macro_code}
-use Rattle.macro_code.specs.ReadText.{program_in}
+use Rattle.self_timed.specs.Text.{Described, description_of}
+use Rattle.self_timed.specs.Sequences.{sequences}
+use Rattle.self_timed.specs.Table.{Table, durations_of, entry_in}
+use Rattle.self_timed.specs.Graph.{Graph}
+use Rattle.self_timed.specs.FlatValid.{is_flat}
+use Rattle.self_timed.specs.Meaning.{initial_cells, flat_act_row}
+use Rattle.self_timed.specs.declared.Schedule.{Schedule}
+use Rattle.self_timed.specs.Acts.{Act, acts, start_of, end_of, length_of}
+use Rattle.self_timed.specs.Tight.{is_tight}
+use Rattle.self_timed.specs.ScheduleValid.{is_valid}
+use Rattle.self_timed.specs.declared.Program.{Program}
+use Rattle.self_timed.specs.WellFormed.{IsWellFormed}
 use Rattle.self_timed.specs.Dates.{dates}
 use Rattle.self_timed.specs.Entries.{IsFirstStated, dates_of_reaction, lasting}
 use Rattle.actual_durations.specs.Actual.{actual_of}
+use Rattle.dates_text.specs.Chart.{chart}
 use Rattle.dates_text.specs.Listing.{dates_text}
+use Rattle.command_status.specs.CodeText.{macro_code}
+use Rattle.command_status.specs.ReadText.{program_in}
 use Rattle.accepted_laws.specs.Told.{Algorithm}
 
 -- The written text is read as the same definitions as the text of an algorithm, its version and its marks included.

@@ -5,7 +5,7 @@ use Rattle.std.specs.List.{list_any}
 use Rattle.csv.specs.Reading.{default_config, records, strip_bom}
 use Rattle.syn_base.specs.Bytes.{Bytes}
 use Rattle.syn_base.specs.Rows.{Reactions}
-use Rattle.sensor_table.specs.SensorTable.{rows_of}
+use Rattle.command_status.specs.SensorTable.{rows_of}
 use Rattle.accepted_laws.specs.Told.{Algorithm, lines_taken}
 use Rattle.command_words.specs.Command.{is_option}
 

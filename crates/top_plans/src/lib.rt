@@ -8,7 +8,21 @@ ghost use Rattle.top_plans.specs.Refusals.{NoOutcomeWantsMemory, NoPlanWantsMemo
 ghost use Rattle.top_plans.specs.Replies.{CommandsReply, DoneRuns, LoadsKeep, PlainCommandsReply, ValuesAreWritten};
 ghost use Rattle.top_plans.specs.Values.{ReadingsAgree};
 
-use phase_laws::{runs_end, runs_take_rows, windows_make_the_run};
+use word_rule::{runs_end, runs_take_rows, windows_make_the_run};
+
+// What the clauses here speak of: what the commands read, make and refuse.
+pub use accepted_laws::{
+    accepted_have_flat, acts_text, acts_text_from, actuators_of, elaborate, tables_fit,
+};
+pub use actual_durations::actual_of;
+pub use command_status::{
+    ActualError, ActualFault, CheckCause, CodeError, Failed, File, Gate, ReadAnswer, SensorCause,
+    SensorError, Shelf, Sink, Status, Stop, print_code, read_sensors, read_whole, say,
+    template_text, write_whole,
+};
+pub use dates_text::{actual_are_within, dates_text, print_chart, repeated};
+pub use pressure_heuristic::{adequation, routes_are_least};
+pub use sequence_build::{BuildError, build};
 
 /// The text that is written in windows is the whole output.
 pub fn windows_write_the_output()

@@ -5,14 +5,14 @@ use Rattle.std.specs.List.{list_all, list_any}
 use Rattle.std.proofs.lemmas.Bool.{and_parts, ltb-true, leb-true}
 use Rattle.std.proofs.lemmas.Option.{same_Some}
 use Rattle.std.proofs.lemmas.List.{append-nil, append_assoc}
-use Rattle.flat_graph.specs.Graph.{Graph, with_vertex, len_of}
-use Rattle.archi_graph.specs.Archi.{Architecture, is_archi, is_medium, are_bounded, are_distinct, are_joined, names_of, stands_in_all}
-use Rattle.schedule.specs.declared.decision.Transfer.{Transfer}
-use Rattle.schedule.specs.declared.decision.Decision.{Decision}
-use Rattle.schedule.specs.declared.decision.Schedule.{Schedule}
-use Rattle.schedule.specs.Acts.{Act, carry, run, acts, start_of, end_of, is_over, is_on, runs, copy, read_by}
-use Rattle.schedule.specs.Tight.{same_line}
-use Rattle.schedule.specs.Valid.{is_valid, is_right, are_right, are_placed, is_act, is_held, is_there, have_ended, lasts as long_as, is_carried, follows_get}
+use Rattle.self_timed.specs.Graph.{Graph, with_vertex, len_of}
+use Rattle.self_timed.specs.Archi.{Architecture, is_archi, is_medium, are_bounded, are_distinct, are_joined, names_of, connections_in}
+use Rattle.self_timed.specs.declared.Transfer.{Transfer}
+use Rattle.self_timed.specs.declared.Decision.{Decision}
+use Rattle.self_timed.specs.declared.Schedule.{Schedule}
+use Rattle.self_timed.specs.Acts.{Act, carry, run, acts, start_of, end_of, is_over, is_on, runs, copy, read_by}
+use Rattle.self_timed.specs.Tight.{same_line}
+use Rattle.self_timed.specs.ScheduleValid.{is_valid, is_right, are_right, are_placed, is_act, is_held, is_there, have_ended, lasts as long_as, is_carried, follows_get}
 use Rattle.trace_events.specs.Events.{Slice}
 use Rattle.trace_events.specs.Trace.{lane_of, slice_of, chart_moment}
 use Rattle.trace_events.specs.Shown.{OneAfterAnother}
@@ -123,7 +123,7 @@ are_few a h =
     let first = nat_le 1 (length a.operators) in
     let second = nat_le (length a.operators) 16 in
     let third = nat_le (length a.media) 16 in
-    let fourth = nat_le (stands_in_all a.media) 64 in
+    let fourth = nat_le (connections_in a.media) 64 in
     let three = (and_parts (first && second && third) fourth all).0 in
     record {
       operators = leb-true (length a.operators) 16 (and_parts first second (and_parts (first && second) third three).0).1;

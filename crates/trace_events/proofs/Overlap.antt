@@ -3,13 +3,13 @@ use Rattle.std.proofs.Common.{◌≡◌, ℕ, zero, suc, ◌+◌, ◌<◌, ◌�
 use Rattle.std.specs.Prelude.{◌⊎◌, slice_get, nat_le}
 use Rattle.std.proofs.lemmas.Bool.{and_parts, leb-true, cases_eq}
 use Rattle.std.proofs.lemmas.Option.{same_Some, slice_get_within}
-use Rattle.flat_graph.specs.declared.vertex.Vertex.{Vertex}
-use Rattle.flat_graph.specs.Graph.{Graph}
-use Rattle.archi_graph.specs.Archi.{Architecture, is_archi, is_depth}
-use Rattle.schedule.specs.declared.decision.Schedule.{Schedule}
-use Rattle.schedule.specs.Acts.{Act, carry, run, acts}
-use Rattle.schedule.specs.Tight.{same_line}
-use Rattle.schedule.specs.Valid.{is_valid}
+use Rattle.self_timed.specs.declared.Vertex.{Vertex}
+use Rattle.self_timed.specs.Graph.{Graph}
+use Rattle.self_timed.specs.Archi.{Architecture, is_archi, is_depth}
+use Rattle.self_timed.specs.declared.Schedule.{Schedule}
+use Rattle.self_timed.specs.Acts.{Act, carry, run, acts}
+use Rattle.self_timed.specs.Tight.{same_line}
+use Rattle.self_timed.specs.ScheduleValid.{is_valid}
 use Rattle.self_timed.specs.Dates.{AreDates, dates, start_by}
 use Rattle.self_timed.specs.Entries.{lasting}
 use Rattle.self_timed.proofs.Whole.{dates_are_one, lines_are_in_order}

@@ -2,7 +2,7 @@
 use Rattle.std.proofs.Common.{◌≡◌, ℕ, [], ◌∷◌, ◌++◌, refl}
 use Rattle.std.specs.Prelude.{codes}
 use Rattle.std.specs.Fmt.{decimal}
-use Rattle.schedule.proofs.Examples.{source, plain_graph, relay_archi, relay_schedule}
+use Rattle.self_timed.proofs.Examples.{source, plain_graph, relay_archi, relay_schedule}
 use Rattle.trace_events.specs.declared.event.Reader.{Reader}
 use Rattle.trace_events.specs.Events.{thread, lasts, leaves, arrives}
 use Rattle.trace_events.specs.Trace.{lanes, chart_events}

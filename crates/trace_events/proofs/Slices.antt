@@ -3,11 +3,11 @@ use Rattle.std.proofs.Common.{◌≡◌, Bool, true, false, List, [], ◌∷◌,
 use Rattle.std.specs.Prelude.{if◌then◌else◌}
 use Rattle.std.specs.List.{flat_map}
 use Rattle.std.proofs.lemmas.Grind.{flat_map-append}
-use Rattle.flat_graph.specs.declared.vertex.Source.{Source}
-use Rattle.flat_graph.specs.declared.vertex.Vertex.{Vertex}
-use Rattle.schedule.specs.declared.decision.Decision.{Decision}
-use Rattle.schedule.specs.Acts.{Act, carry, run, acts}
 use Rattle.syn_base.specs.Bytes.{Bytes}
+use Rattle.self_timed.specs.declared.Source.{Source}
+use Rattle.self_timed.specs.declared.Vertex.{Vertex}
+use Rattle.self_timed.specs.declared.Decision.{Decision}
+use Rattle.self_timed.specs.Acts.{Act, carry, run, acts}
 use Rattle.trace_events.specs.declared.event.Moment.{Moment}
 use Rattle.trace_events.specs.declared.event.Reader.{Reader}
 use Rattle.trace_events.specs.Events.{Slice, arrives}
@@ -28,9 +28,9 @@ none_arrive ds r (s ∷ ss) =
     ∙ ap (λ (l : List Slice). l ++ slices (arrivals ds r ss)) (none_arrives ds r s) ∙ none_arrive ds r ss
 
 module _ (vertices : List Vertex) (operators : List Bytes) (ds : List Decision) where
-  rest_is_none : (m : Moment) (x : Act) → slices (departures m x ++ arrivals ds (reader_in m x) (sources_for vertices operators x)) ≡ []
-  rest_is_none m (run d) = none_arrive ds (reader_in m (run d)) (sources_for vertices operators (run d))
-  rest_is_none m (carry t) = none_arrive ds (reader_in m (carry t)) (sources_for vertices operators (carry t))
+  rest_is_none : (m : Moment) (x : Act) → slices (departures m x ++ arrivals ds (reader_in m x) (sources_for vertices x)) ≡ []
+  rest_is_none m (run d) = none_arrive ds (reader_in m (run d)) (sources_for vertices (run d))
+  rest_is_none m (carry t) = none_arrive ds (reader_in m (carry t)) (sources_for vertices (carry t))
 
   -- an act has one slice
   pub act_slice : (m : Moment) (x : Act) → slices (act_events vertices operators ds m x) ≡ slice_of vertices operators m x ∷ []

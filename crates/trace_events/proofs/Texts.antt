@@ -5,14 +5,14 @@ use Rattle.std.specs.List.{flat_map}
 use Rattle.std.proofs.lemmas.Grind.{flat_map-append}
 use Rattle.std.proofs.lemmas.List.{append-nil, append_assoc}
 use Rattle.syn_base.specs.Bytes.{Bytes}
-use Rattle.flat_graph.specs.declared.vertex.Source.{Source}
-use Rattle.flat_graph.specs.declared.vertex.Vertex.{Vertex}
-use Rattle.flat_graph.specs.Graph.{Graph}
-use Rattle.archi_graph.specs.Archi.{Architecture}
-use Rattle.schedule.specs.declared.decision.Transfer.{Transfer}
-use Rattle.schedule.specs.declared.decision.Decision.{Decision}
-use Rattle.schedule.specs.declared.decision.Schedule.{Schedule}
-use Rattle.schedule.specs.Acts.{Act, carry, run, acts, sources_of}
+use Rattle.self_timed.specs.declared.Source.{Source}
+use Rattle.self_timed.specs.declared.Vertex.{Vertex}
+use Rattle.self_timed.specs.Graph.{Graph}
+use Rattle.self_timed.specs.Archi.{Architecture}
+use Rattle.self_timed.specs.declared.Transfer.{Transfer}
+use Rattle.self_timed.specs.declared.Decision.{Decision}
+use Rattle.self_timed.specs.declared.Schedule.{Schedule}
+use Rattle.self_timed.specs.Acts.{Act, carry, run, acts, sources_of}
 use Rattle.trace_events.specs.declared.event.Moment.{Moment}
 use Rattle.trace_events.specs.declared.event.Reader.{Reader}
 use Rattle.trace_events.specs.Events.{Event, arrives, event_text, text_of, slice_text, leaves_text, arrives_text, opening, closing}

@@ -1,9 +1,9 @@
 -- A trace of dates shows each act of each reaction once, and in each lane one after another.
 use Rattle.std.specs.Prelude.{◌≡◌, ◌<◌, ◌≤◌, ℕ, IsTrue, List, map, Option, Some, slice_get}
-use Rattle.flat_graph.specs.Graph.{Graph}
-use Rattle.archi_graph.specs.Archi.{Architecture, is_archi, is_depth}
-use Rattle.schedule.specs.declared.decision.Schedule.{Schedule}
-use Rattle.schedule.specs.Valid.{is_valid}
+use Rattle.self_timed.specs.Graph.{Graph}
+use Rattle.self_timed.specs.Archi.{Architecture, is_archi, is_depth}
+use Rattle.self_timed.specs.declared.Schedule.{Schedule}
+use Rattle.self_timed.specs.ScheduleValid.{is_valid}
 use Rattle.dates_text.specs.Listing.{Dated, all_dates}
 use Rattle.trace_events.specs.Events.{Slice}
 use Rattle.trace_events.specs.Trace.{slice_of}

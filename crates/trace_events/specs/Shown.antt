@@ -1,11 +1,11 @@
 -- A trace shows each act of its schedule once, and in each lane one after another.
 use Rattle.std.specs.Prelude.{◌≡◌, ◌<◌, ◌≤◌, ℕ, IsTrue, List, [], ◌∷◌, map, Option, Some, slice_get}
 use Rattle.std.specs.List.{flat_map}
-use Rattle.flat_graph.specs.Graph.{Graph}
-use Rattle.archi_graph.specs.Archi.{Architecture, is_archi}
-use Rattle.schedule.specs.declared.decision.Schedule.{Schedule}
-use Rattle.schedule.specs.Acts.{acts}
-use Rattle.schedule.specs.Valid.{is_valid}
+use Rattle.self_timed.specs.Graph.{Graph}
+use Rattle.self_timed.specs.Archi.{Architecture, is_archi}
+use Rattle.self_timed.specs.declared.Schedule.{Schedule}
+use Rattle.self_timed.specs.Acts.{acts}
+use Rattle.self_timed.specs.ScheduleValid.{is_valid}
 use Rattle.trace_events.specs.Events.{Slice, Event, thread, lasts, leaves, arrives}
 use Rattle.trace_events.specs.Trace.{slice_of, chart_moment, chart_events}
 

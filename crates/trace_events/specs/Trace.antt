@@ -1,39 +1,25 @@
 -- The acts of a schedule as events.
-use Rattle.std.specs.Prelude.{
-  ℕ,
-  suc,
-  ◌+◌,
-  Bool,
-  ◌&&◌,
-  if◌then◌else◌,
-  nat_eq,
-  List,
-  [],
-  ◌∷◌,
-  ◌++◌,
-  slice_get,
-}
+use Rattle.std.specs.Prelude.{ℕ, suc, ◌+◌, Bool, if◌then◌else◌, List, [], ◌∷◌, ◌++◌, slice_get}
 use Rattle.std.specs.Fmt.{decimal}
 use Rattle.std.specs.List.{flat_map, list_any}
 use Rattle.syn_base.specs.Bytes.{Bytes}
-use Rattle.flat_graph.specs.declared.vertex.Source.{Source}
-use Rattle.flat_graph.specs.declared.vertex.Vertex.{Vertex}
-use Rattle.flat_graph.specs.Graph.{Graph}
-use Rattle.archi_graph.specs.declared.medium.Medium.{Medium}
-use Rattle.archi_graph.specs.Archi.{Architecture}
-use Rattle.schedule.specs.declared.decision.Transfer.{Transfer}
-use Rattle.schedule.specs.declared.decision.Decision.{Decision}
-use Rattle.schedule.specs.declared.decision.Schedule.{Schedule}
-use Rattle.schedule.specs.Acts.{Act, carry, run, acts, start_of, end_of, sources_of}
-use Rattle.timing_chart.specs.Chart.{operation_name, operator_name}
+use Rattle.self_timed.specs.declared.Source.{Source}
+use Rattle.self_timed.specs.declared.Vertex.{Vertex}
+use Rattle.self_timed.specs.Graph.{Graph, operation_name}
+use Rattle.self_timed.specs.declared.Medium.{Medium}
+use Rattle.self_timed.specs.Archi.{Architecture, operator_name}
+use Rattle.self_timed.specs.declared.Transfer.{Transfer}
+use Rattle.self_timed.specs.declared.Decision.{Decision}
+use Rattle.self_timed.specs.declared.Schedule.{Schedule}
+use Rattle.self_timed.specs.Acts.{Act, carry, run, acts, start_of, end_of, sources_of, brings}
 use Rattle.trace_events.specs.declared.event.Moment.{Moment}
 use Rattle.trace_events.specs.declared.event.Reader.{Reader}
 use Rattle.trace_events.specs.Events.{Slice, Event, thread, lasts, leaves, arrives, file_of}
 use Rattle.trace_events.specs.declared.word.Word.TheVariants as word
 use Rattle.trace_events.specs.Words.{word_text}
 
--- operators have lanes from 1 on, and media, above the sixteen operators that there may be, from 17
--- on
+-- The number of the lane of operator o. Operators have lanes from 1 on, and media, of which the
+-- lanes are above those of the sixteen operators that there may be, from 17 on.
 abbrev pub operator_lane : ℕ → ℕ
 operator_lane o = o + 1
 
@@ -41,7 +27,7 @@ operator_lane o = o + 1
 abbrev pub medium_lane : ℕ → ℕ
 medium_lane m = m + 17
 
--- the lanes of operators with these names, and of these media, of which the first has this number
+-- The events that name the lanes of operators with these names, of which the first has number o.
 abbrev pub operator_lanes : ℕ → List Bytes → List Event
 operator_lanes o [] = []
 operator_lanes o (name ∷ names) =
@@ -56,10 +42,6 @@ medium_lanes m (x ∷ xs) =
 -- The events that name all lanes of an architecture, those of its operators first.
 abbrev pub lanes : Architecture → List Event
 lanes a = operator_lanes 0 a.operators ++ medium_lanes 0 a.media
-
--- the transfer brings the value of the source to the operator
-abbrev pub brings : ℕ → Source → Transfer → Bool
-brings o s t = nat_eq t.to o && nat_eq t.source.vertex s.vertex && nat_eq t.source.port s.port
 
 -- some transfer does
 abbrev pub is_brought : List Decision → ℕ → Source → Bool
@@ -86,30 +68,30 @@ abbrev pub bringer_in : Moment → Transfer → Reader
 bringer_in m t =
     record { reaction = m.reaction; date = m.start; lane = medium_lane t.medium; operator = t.to }
 
+-- The category of an act in the trace, `operation` or `transfer`.
+abbrev pub category_of : Act → Bytes
+category_of (run d) = word_text word.Operation
+category_of (carry t) = word_text word.Transfer
+
+-- The sources of the values that an act reads.
+abbrev pub sources_for : List Vertex → Act → List Source
+sources_for vertices (run d) = sources_of (slice_get vertices d.op)
+sources_for vertices (carry t) = t.source ∷ []
+
 module _ (vertices : List Vertex) (operators : List Bytes) where
   -- OPERATION, and of a transfer OPERATION.PORT FROM to TO
   abbrev pub act_name : Act → Bytes
-  act_name (run d) = operation_name vertices operators d.op
+  act_name (run d) = operation_name vertices d.op
   act_name (carry t) =
-      operation_name vertices operators t.source.vertex ++ (word_text word.Dot ++
+      operation_name vertices t.source.vertex ++ (word_text word.Dot ++
       (decimal t.source.port ++ (word_text word.Blank ++
-      (operator_name vertices operators t.from ++ (word_text word.To ++
-      operator_name vertices operators t.to)))))
-
-  -- The category of an act in the trace, `operation` or `transfer`.
-  abbrev pub category_of : Act → Bytes
-  category_of (run d) = word_text word.Operation
-  category_of (carry t) = word_text word.Transfer
+      (operator_name operators t.from ++ (word_text word.To ++
+      operator_name operators t.to)))))
 
   -- An act as a slice, from the start to the end of this moment.
   abbrev pub slice_of : Moment → Act → Slice
   slice_of m x =
       record { name = act_name x; category = category_of x; lane = lane_of x; moment = m }
-
-  -- what an act reads
-  abbrev pub sources_for : Act → List Source
-  sources_for (run d) = sources_of (slice_get vertices d.op)
-  sources_for (carry t) = t.source ∷ []
 
 -- a value arrives where a transfer has brought it
 abbrev pub arrival : List Decision → Reader → Source → List Event
@@ -126,16 +108,14 @@ abbrev pub departures : Moment → Act → List Event
 departures m (run d) = []
 departures m (carry t) = leaves (record { source = t.source; at = bringer_in m t }) ∷ []
 
--- The events of an act: it lasts, where it is a transfer its value leaves, and what was carried to
--- where it reads
--- arrives.
+-- The operations of a flat graph, the names of operators, and decisions, whose transfers count.
 module _ (vertices : List Vertex) (operators : List Bytes) (ds : List Decision) where
   -- The events of an act at a moment, in this order: its slice, the departure of its value if it is
   -- a transfer, and an arrival for each value that it reads and that was carried there.
   abbrev pub act_events : Moment → Act → List Event
   act_events m x =
       lasts (slice_of vertices operators m x) ∷
-      (departures m x ++ arrivals ds (reader_in m x) (sources_for vertices operators x))
+      (departures m x ++ arrivals ds (reader_in m x) (sources_for vertices x))
 
 -- an act when the chart says, in reaction 0
 abbrev pub chart_moment : Act → Moment

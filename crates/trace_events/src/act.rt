@@ -1,7 +1,8 @@
 //! The events of an act. `chart` calls it for each.
 ghost use Rattle.std.specs.Prelude.{◌≡◌, ◌++◌, [], OnOk, slice_get};
-ghost use Rattle.schedule.specs.Acts.{carry, run, sources_of};
-ghost use Rattle.timing_chart.specs.Chart.{operation_name, operator_name};
+ghost use Rattle.self_timed.specs.Acts.{carry, run, sources_of};
+ghost use Rattle.self_timed.specs.Graph.{operation_name};
+ghost use Rattle.self_timed.specs.Archi.{operator_name};
 ghost use Rattle.trace_events.specs.Events.{slice_text, text_of};
 ghost use Rattle.trace_events.specs.Printed.{arrived};
 ghost use Rattle.trace_events.specs.Trace.{act_events, act_name, medium_lane, operator_lane, reader_in, slice_of};
@@ -9,8 +10,7 @@ ghost use Rattle.trace_events.specs.Trace.{act_events, act_name, medium_lane, op
 use crate::event::{Moment, Reader, append_slice_rest};
 use crate::flow::{append_arrival, append_arrivals, append_departure, append_guard_arrivals};
 use crate::word::{Word, append_word, bytes_of};
-use flat_graph::Vertex;
-use schedule::{Decision, Transfer};
+use self_timed::{Decision, Transfer, Vertex};
 use syn_base::{Name, OutOfMemory, append, append_count};
 
 /// The operations, the operators and the decisions of which a trace tells.
@@ -185,7 +185,7 @@ fn append_transfer_name(
 
 /// The name of an operation, empty where there is none of this number.
 fn operation_name(vertices: &[Vertex], op: u32) -> &[u8]
-    ensures { result.now ≡ operation_name vertices.now [] op }
+    ensures { result.now ≡ operation_name vertices.now op }
 {
     match vertices.get(op as usize) {
         Some(vertex) => vertex.name.as_slice(),
@@ -195,7 +195,7 @@ fn operation_name(vertices: &[Vertex], op: u32) -> &[u8]
 
 /// The name of an operator, empty where there is none of this number.
 fn operator_name(operators: &[Name], operator: u32) -> &[u8]
-    ensures { result.now ≡ operator_name [] operators.now operator }
+    ensures { result.now ≡ operator_name operators.now operator }
 {
     let operator = operator as usize;
     if operator < operators.len() {

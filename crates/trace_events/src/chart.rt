@@ -1,15 +1,13 @@
 //! The trace of a chart as a whole.
 ghost use Rattle.std.specs.Prelude.{◌≡◌, ◌++◌, ◌∷◌, [], OnErr, OnOk, map};
-ghost use Rattle.schedule.specs.Acts.{acts_of, carry, run};
+ghost use Rattle.self_timed.specs.Acts.{acts_of, carry, run};
 ghost use Rattle.trace_events.specs.Printed.{charted};
 ghost use Rattle.trace_events.specs.Trace.{chart_trace};
 
 use crate::act::{Traced, append_operation, append_transfer};
 use crate::event::Moment;
 use crate::frame::{append_closing, append_lanes, append_opening};
-use archi_graph::Archi;
-use flat_graph::Flat;
-use schedule::{Decision, Schedule, Transfer};
+use self_timed::{Archi, Decision, Flat, Schedule, Transfer};
 use std::alloc::Global;
 use syn_base::OutOfMemory;
 

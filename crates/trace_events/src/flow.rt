@@ -3,12 +3,12 @@ ghost use Rattle.std.specs.Prelude.{◌≡◌, ◌++◌, OnOk, map};
 ghost use Rattle.std.specs.List.{list_any};
 ghost use Rattle.trace_events.specs.Events.{arrives_text, leaves_text, number_text, rest_of_flow, text_of};
 ghost use Rattle.trace_events.specs.Printed.{arrived};
-ghost use Rattle.trace_events.specs.Trace.{arrival, brings, is_brought};
+ghost use Rattle.trace_events.specs.Trace.{arrival, is_brought};
+ghost use Rattle.self_timed.specs.Acts.{brings};
 
 use crate::event::{Reader, append_place};
 use crate::word::{Word, append_word};
-use flat_graph::{Guard, Source};
-use schedule::{Decision, Transfer};
+use self_timed::{Decision, Guard, Source, Transfer};
 use syn_base::{OutOfMemory, append_count};
 
 /// Appends that the value leaves here.

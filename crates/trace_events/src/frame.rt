@@ -5,7 +5,7 @@ ghost use Rattle.trace_events.specs.Trace.{lanes, medium_lanes, operator_lanes};
 
 use crate::event::append_lane;
 use crate::word::{Word, append_word, bytes_of};
-use archi_graph::{Archi, Medium};
+use self_timed::{Archi, Medium};
 use syn_base::{Name, OutOfMemory};
 
 /// Appends the opening of a trace, with the name of its one process.

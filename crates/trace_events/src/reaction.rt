@@ -1,14 +1,13 @@
 //! The events of one reaction.
 ghost use Rattle.std.specs.Prelude.{◌+◌, ◌++◌, ◌∷◌, [], ◌≡◌, ◌≤◌, ◌<◌, OnOk, length, map};
-ghost use Rattle.schedule.specs.Acts.{acts_of, carry, run};
+ghost use Rattle.self_timed.specs.Acts.{acts_of, carry, run};
 ghost use Rattle.self_timed.specs.Told.{reaction_at, span_at};
 ghost use Rattle.dates_text.specs.Printed.{Fit, dated_by};
 ghost use Rattle.trace_events.specs.DatesTrace.{moment_in, told};
 
 use crate::act::{Traced, append_operation, append_transfer};
 use crate::event::Moment;
-use schedule::{Decision, Transfer};
-use self_timed::Dates;
+use self_timed::{Dates, Decision, Transfer};
 use syn_base::OutOfMemory;
 
 /// A reaction of which a trace tells, by its number.

@@ -1,7 +1,7 @@
 //! The trace of all reactions, which `dates_trace` returns.
 ghost use Rattle.std.specs.Prelude.{[], ◌≡◌, ◌++◌, ◌≤◌, IfOk, OnOk, length};
-ghost use Rattle.schedule.specs.Acts.{acts, acts_of};
-ghost use Rattle.sequence_build_laws.specs.Built.{program_of};
+ghost use Rattle.self_timed.specs.Acts.{acts, acts_of};
+ghost use Rattle.self_timed.specs.Built.{program_of};
 ghost use Rattle.self_timed.specs.Entries.{AreWithin};
 ghost use Rattle.self_timed.specs.Told.{HaveEntries, IsValidForSome, entries_of};
 ghost use Rattle.dates_text.specs.Listing.{dated_in};
@@ -11,11 +11,7 @@ ghost use Rattle.trace_events.specs.DatesTrace.{dates_trace, told, trace_of};
 use crate::act::Traced;
 use crate::frame::{append_closing, append_lanes, append_opening};
 use crate::reaction::{Reaction, append_reaction};
-use archi_graph::Archi;
-use executive_program::Program;
-use flat_graph::Flat;
-use schedule::Schedule;
-use self_timed::{Actual, Dates, dates_of};
+use self_timed::{Actual, Archi, Dates, Flat, Program, Schedule, dates_of};
 use std::alloc::Global;
 use syn_base::OutOfMemory;
 

@@ -4,19 +4,20 @@ use Rattle.std.specs.Prelude.{is_some}
 use Rattle.std.proofs.lemmas.Bool.{false≢true, ne_eqb}
 use Rattle.syn_base.specs.Bytes.{Bytes}
 use Rattle.text_lines.specs.Text.{code_of, foreign_place, lines_of, words_of}
-use Rattle.flat_graph.specs.Graph.{Graph}
-use Rattle.archi_graph.specs.Archi.{Architecture}
+use Rattle.executive_program.specs.Graph.{Graph}
+use Rattle.executive_program.specs.Archi.{Architecture}
 use Rattle.executive_program.specs.declared.program.Instr.{Instr}
 use Rattle.executive_program.specs.declared.program.Instr.TheVariants as instr
 use Rattle.executive_program.specs.declared.program.SeqCode.{SeqCode}
 use Rattle.macro_code.specs.declared.macros.Macro.{Macro}
 use Rattle.macro_code.specs.declared.macros.Macro.TheVariants as macro
-use Rattle.macro_code.specs.declared.fault.CodeError.{CodeError}
+use Rattle.macro_code.specs.Refusals.{CodeRefusal}
 use Rattle.macro_code.specs.declared.fault.CodeCause.TheVariants.{BadLine}
 use Rattle.macro_code.specs.declared.stage.Stage.{Stage}
 use Rattle.macro_code.specs.declared.stage.Stage.TheVariants.{Outside, Named, Declared, Threaded, Prologue, Turn, Ended}
 use Rattle.macro_code.specs.Forms.{Form, arguments_of, bare, call, form_of, listed, macro_of}
-use Rattle.macro_code.specs.ReadText.{Arguments, Reading, Joined, and_then, at_processor, at_thread, awaits_more, call_line, call_of, code_here, declaration_of, ends_of, formed, is_declared, is_ended, is_named, is_outside, is_prologue, is_threaded, is_turn, known_macro, line_by, line_of, macro_line, may_stand, medium_of, moved_of, named_line, next_line, operation_names, pair_of, pairs_of, placed_line, processor_of, refused, start, starts_more, takes_instr, thread_of, with_buffer, with_instr, with_pairs, without, words_line}
+use Rattle.macro_code.specs.ReadText.{Arguments, Reading, Joined, at_processor, at_thread, awaits_more, call_line, call_of, code_here, declaration_of, ends_of, formed, is_declared, is_ended, is_named, is_outside, is_prologue, is_threaded, is_turn, known_macro, line_by, line_of, macro_line, may_stand, medium_of, moved_of, named_line, next_line, operation_names, pair_of, pairs_of, placed_line, processor_of, start, starts_more, takes_instr, thread_of, with_buffer, with_instr, with_pairs, without, words_line}
+use Rattle.text_lines.specs.Refusals.{and_then, refused}
 use Rattle.check_places.specs.declared.place.Part.{Part}
 use Rattle.check_places.specs.declared.place.Part.TheVariants as part
 use Rattle.why_text.specs.declared.lines.Head.{Head}
@@ -27,14 +28,14 @@ use Rattle.why_text.specs.Said.{Says, next_spot, number_by, number_here, read_of
 use Rattle.why_text.proofs.Heads.{form_head, head_of_form, head_of_macro, macro_head}
 
 -- what a reading that goes on has found
-pub found : {A B : Type 0} (x : Result A CodeError) (go : A → Result B CodeError) (y : B) → and_then x go ≡ Ok y → (v : A) × (x ≡ Ok v) × (go v ≡ Ok y)
+pub found : {A B : Type 0} (x : Result A CodeRefusal) (go : A → Result B CodeRefusal) (y : B) → and_then x go ≡ Ok y → (v : A) × (x ≡ Ok v) × (go v ≡ Ok y)
 found (Ok v) go y e = (v, refl, e)
 found (Err f) go y e = absurd cc
 
-pub same_Ok : {A : Type 0} (x y : A) → ◌≡◌ {A = Result A CodeError} (Ok x) (Ok y) → x ≡ y
+pub same_Ok : {A : Type 0} (x y : A) → ◌≡◌ {A = Result A CodeRefusal} (Ok x) (Ok y) → x ≡ y
 same_Ok x y e = cc
 
-found_so : {A B : Type 0} (x : Result A CodeError) (make : A → B) (y : B) → and_then x (λ v. Ok (make v)) ≡ Ok y → (v : A) × (make v ≡ y)
+found_so : {A B : Type 0} (x : Result A CodeRefusal) (make : A → B) (y : B) → and_then x (λ v. Ok (make v)) ≡ Ok y → (v : A) × (make v ≡ y)
 found_so x make y e = let r = found x (λ v. Ok (make v)) y e in (r.0, same_Ok (make r.0) y r.2)
 
 alone : {A : Type 0} (n : ℕ) (arguments : Arguments) (x y : A) → without n arguments (Ok x) ≡ Ok y → x ≡ y
@@ -311,7 +312,7 @@ module _ (text : Bytes) (g : Graph) (a : Architecture) where
         by None k e = absurd cc
         by (Some f) k e = subst (λ (d : Head). IsBeside after (seen w n d)) (sym (form_head ws f k)) (form_seen f e)
 
-    blank : (ws : List Bytes) → nat_eq (length ws) 0 ≡ true → ◌≡◌ {A = Result Reading CodeError} (Ok r) (Ok after) → IsBeside after (seen w n (head_in ws))
+    blank : (ws : List Bytes) → nat_eq (length ws) 0 ≡ true → ◌≡◌ {A = Result Reading CodeRefusal} (Ok r) (Ok after) → IsBeside after (seen w n (head_in ws))
     blank [] t e = subst (λ (r : Reading). IsBeside r w) (same_Ok r after e) h
     blank (v ∷ ws) t e = absurd (false≢true (sym (ne_eqb (length (v ∷ ws)) 0 (λ d. omega (arith, d))) ∙ t))
 

@@ -6,22 +6,24 @@ use Rattle.syn_base.specs.Bytes.{Bytes}
 use Rattle.syn_base.specs.Limits.{bound_of}
 use Rattle.syn_base.specs.declared.limits.LimitKind.TheVariants.{Words, MicroSteps}
 use Rattle.text_lines.specs.Text.{lines_of}
-use Rattle.flat_graph.specs.Graph.{Graph}
-use Rattle.archi_graph.specs.Archi.{Architecture}
+use Rattle.executive_program.specs.Graph.{Graph}
+use Rattle.executive_program.specs.Archi.{Architecture}
 use Rattle.executive_program.specs.declared.program.Instr.{Instr}
 use Rattle.executive_program.specs.declared.program.SeqCode.{SeqCode}
 use Rattle.executive_program.specs.declared.program.Program.{Program}
-use Rattle.executive_program.specs.Instructions.{prologue_of, turn_of}
+use Rattle.executive_program.specs.Instructions.{prologue_of, turn_of, number_or}
 use Rattle.executive_program.specs.Steps.{all_turns}
-use Rattle.macro_code.specs.ReadText.{Reading, above, and_then, counted, first_misnumbered, is_outside, limited, next_line, operation_names, program_of, refused, rest_of, start, whole, within_steps, words}
-use Rattle.macro_code.specs.declared.fault.CodeError.{CodeError}
+use Rattle.macro_code.specs.ReadText.{Reading, counted, first_misnumbered, is_outside, limited, next_line, operation_names, program_of, rest_of, start, whole, within_steps, words}
+use Rattle.text_lines.specs.Refusals.{above, and_then, refused}
+use Rattle.macro_code.specs.Refusals.{CodeRefusal}
+use Rattle.macro_code.specs.declared.fault.CodeCause.{CodeCause}
 use Rattle.macro_code.specs.declared.fault.CodeCause.TheVariants.{BadLine}
 use Rattle.check_places.specs.declared.place.Part.{Part}
 use Rattle.check_places.specs.declared.place.Part.TheVariants.{Loop, Prologue}
 use Rattle.check_places.specs.declared.place.Spot.{Spot}
 use Rattle.check_places.specs.Wrong.{instructions}
 use Rattle.why_text.specs.declared.lines.SequenceLines.{SequenceLines}
-use Rattle.why_text.specs.Lines.{Seen, head_at, line_by, line_or, lines_in, lines_of_part, nothing, seen, seen_from}
+use Rattle.why_text.specs.Lines.{Seen, head_at, line_by, lines_in, lines_of_part, nothing, seen, seen_from}
 use Rattle.why_text.specs.Said.{LinesSay, Says, read_of, spot}
 use Rattle.why_text.proofs.Beside.{AllSay, EachSays, IsBeside, SaysCode, found, line_seen, same_Ok}
 
@@ -29,7 +31,7 @@ use Rattle.why_text.proofs.Beside.{AllSay, EachSays, IsBeside, SaysCode, found, 
 in_steps : (p q : Program) → within_steps p ≡ Ok q → p ≡ q
 in_steps p q e = by (nat_lt (bound_of MicroSteps) (all_turns p)) e
   where
-    by : (b : Bool) → (if b then above MicroSteps (all_turns p) else Ok p) ≡ Ok q → p ≡ q
+    by : (b : Bool) → (if b then above {C = CodeCause} MicroSteps (all_turns p) else Ok p) ≡ Ok q → p ≡ q
     by true e = absurd cc
     by false e = same_Ok p q e
 
@@ -59,10 +61,10 @@ module _ (text : Bytes) (g : Graph) (a : Architecture) where
       let same : r ≡ between = same_Ok r between h in
       let number : m ≡ n = omega arith in
       let here : next_line (operation_names g) a r m line ≡ Ok after = cc in
-      ap (λ (x : Result Reading CodeError). and_then x (λ after. Ok after)) here
+      ap (λ (x : Result Reading CodeRefusal). and_then x (λ after. Ok after)) here
   read_more r between after m n (first ∷ above) line e h k =
       let next = found (next_line (operation_names g) a r m first) (λ after. read_of text g a after (m + 1) above) between h in
-      ap (λ (x : Result Reading CodeError). and_then x (λ after. read_of text g a after (m + 1) (above ++ line ∷ []))) next.1
+      ap (λ (x : Result Reading CodeRefusal). and_then x (λ after. read_of text g a after (m + 1) (above ++ line ∷ []))) next.1
       ∙ read_more next.0 between after (m + 1) n above line (omega arith) next.2 k
 
   all_read : (r : Reading) (w : Seen) (n : ℕ) (above lines : List Bytes) (p : Program) → above ++ lines ≡ lines_of text → n ≡ length above + 1
@@ -126,7 +128,7 @@ module _ (text : Bytes) (g : Graph) (a : Architecture) where
   says_at p ls h y x (Some q) i e =
       let l = all_at 0 ls p.seqs h y.sequence y.sequence q (omega arith) i in
       let n = each_at y.part y.sequence 0 (lines_of_part y.part l.0) (part_in y.part (Some q)) (in_part y.part y.sequence l.0 q l.2) y.at y.at x (omega arith) e in
-      (n.0, ap (line_by y) l.1 ∙ ap (λ (o : Option ℕ). Some (line_or l.0.begin o)) n.1, n.2)
+      (n.0, ap (line_by y) l.1 ∙ ap (λ (o : Option ℕ). Some (number_or l.0.begin o)) n.1, n.2)
 
 pub lines_say : LinesSay
 lines_say text g a p e y x there =

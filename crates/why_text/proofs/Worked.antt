@@ -3,7 +3,7 @@ use Rattle.std.proofs.Common.{◌≡◌, ℕ, List, [], ◌∷◌, ◌++◌, Opt
 use Rattle.std.specs.Prelude.{codes}
 use Rattle.std.specs.Fmt.{digits}
 use Rattle.syn_base.specs.Bytes.{Bytes}
-use Rattle.archi_graph.specs.declared.medium.Seq.{Seq}
+use Rattle.executive_program.specs.declared.Seq.{Seq}
 use Rattle.macro_code.proofs.Rows.{medium, operation}
 use Rattle.check_places.specs.declared.place.Part.TheVariants.{Loop, Prologue}
 use Rattle.check_places.specs.declared.place.Rule.{Rule}

@@ -27,6 +27,7 @@ use Rattle.check_places.specs.declared.place.Spot.{Spot}
 use Rattle.why_text.specs.declared.lines.Head.{Head}
 use Rattle.why_text.specs.declared.lines.Head.TheVariants.{Begin, Loop, Instruction, EndThread, EndMain, Other}
 use Rattle.why_text.specs.declared.lines.SequenceLines.{SequenceLines}
+use Rattle.executive_program.specs.Instructions.{number_or}
 
 -- The name is that of a macro that is an instruction of a sequence: a call, a change of a semaphore
 -- or a communication.
@@ -99,15 +100,10 @@ abbrev pub lines_of_part : Part → SequenceLines → List ℕ
 lines_of_part part.Prologue x = x.prologue
 lines_of_part part.Loop x = x.turn
 
--- This line if there is one, and line n otherwise.
-abbrev pub line_or : ℕ → Option ℕ → ℕ
-line_or n None = n
-line_or n (Some m) = m
-
 -- the line of an instruction; that at which its sequence begins where it is past the last one
 abbrev pub line_by : Spot → Option SequenceLines → Option ℕ
 line_by y None = None
-line_by y (Some x) = Some (line_or x.begin (slice_get (lines_of_part y.part x) y.at))
+line_by y (Some x) = Some (number_or x.begin (slice_get (lines_of_part y.part x) y.at))
 
 -- The number of the line, counted from 1, that has the instruction at this spot. It is the first
 -- line of the sequence if the spot is past its last instruction, and None if there is no such

@@ -18,14 +18,13 @@ use Rattle.std.specs.Prelude.{
 }
 use Rattle.syn_base.specs.Bytes.{Bytes}
 use Rattle.text_lines.specs.Text.{lines_of}
-use Rattle.flat_graph.specs.Graph.{Graph}
-use Rattle.archi_graph.specs.Archi.{Architecture}
+use Rattle.executive_program.specs.Graph.{Graph}
+use Rattle.executive_program.specs.Archi.{Architecture}
 use Rattle.executive_program.specs.declared.program.Instr.{Instr}
 use Rattle.executive_program.specs.declared.program.Program.{Program}
-use Rattle.macro_code.specs.declared.fault.CodeError.{CodeError}
+use Rattle.macro_code.specs.Refusals.{CodeRefusal}
 use Rattle.macro_code.specs.ReadText.{
   Reading,
-  and_then,
   is_turn,
   next_line,
   operation_names,
@@ -33,6 +32,7 @@ use Rattle.macro_code.specs.ReadText.{
   start,
   with_instr,
 }
+use Rattle.text_lines.specs.Refusals.{and_then}
 use Rattle.check_places.specs.declared.place.Part.{Part}
 use Rattle.check_places.specs.declared.place.Part.TheVariants.{Loop, Prologue}
 use Rattle.check_places.specs.declared.place.Spot.{Spot}
@@ -60,7 +60,7 @@ next_spot r =
 
 module _ (text : Bytes) (g : Graph) (a : Architecture) where
   -- what is read of these lines, the first of which is line n
-  abbrev pub read_of : Reading → ℕ → List Bytes → Result Reading CodeError
+  abbrev pub read_of : Reading → ℕ → List Bytes → Result Reading CodeRefusal
   read_of r n [] = Ok r
   read_of r n (line ∷ lines) =
       and_then (next_line (operation_names g) a r n line) (λ after. read_of after (n + 1) lines)

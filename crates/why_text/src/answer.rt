@@ -4,10 +4,8 @@ ghost use Rattle.why_text.specs.Text.{answer_text, setting};
 
 use crate::lines::find_lines;
 use crate::text::Setting;
-use archi_graph::Archi;
 use check_places::Why;
-use executive_program::Program;
-use flat_graph::Flat;
+use executive_program::{Archi, Flat, Program};
 use std::alloc::Global;
 use syn_base::{OutOfMemory, append};
 

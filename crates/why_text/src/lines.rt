@@ -2,7 +2,8 @@
 ghost use Rattle.std.specs.Prelude.{◌≡◌, IfOk, OnOk, position, slice_get};
 ghost use Rattle.std.specs.Str.{bytes_eq};
 ghost use Rattle.macro_code.specs.Forms.{before, is_open};
-ghost use Rattle.why_text.specs.Lines.{begun_at, head_at, head_of, is_instruction, line_at, line_or, lines_in, lines_of_part, nothing, seen};
+ghost use Rattle.why_text.specs.Lines.{begun_at, head_at, head_of, is_instruction, line_at, lines_in, lines_of_part, nothing, seen};
+ghost use Rattle.executive_program.specs.Instructions.{number_or};
 
 use check_places::{Part, Spot};
 use std::alloc::Global;
@@ -242,7 +243,7 @@ fn lines_of_part(part: Part, lines: &SequenceLines) -> &[usize]
 
 /// A line at a place, or another one past the end.
 fn line_or(begin: usize, lines: &[usize], at: usize) -> usize
-    ensures { result ≡ line_or begin (slice_get lines.now at) }
+    ensures { result ≡ number_or begin (slice_get lines.now at) }
 {
     match lines.get(at) {
         Some(line) => *line,

@@ -7,10 +7,8 @@ ghost use Rattle.why_text.specs.Text.{number_text};
 
 use crate::lines::{SequenceLines, line_at};
 use crate::words::{cause_words, rule_words};
-use archi_graph::{Medium, Seq};
 use check_places::{Part, Place, Spot, Subject, Waiting, Why};
-use executive_program::Program;
-use flat_graph::Vertex;
+use executive_program::{Medium, Program, Seq, Vertex};
 use syn_base::{Name, OutOfMemory, append, append_count};
 
 /// What a text is written for: the program, the names, the sequences of the architecture, and where the instructions

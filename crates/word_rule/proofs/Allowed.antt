@@ -7,15 +7,16 @@ use lib.ListN.{get_elem?}
 use prog.Atomic.{either}
 use Rattle.atomic_table.specs.Table.{State, Act, Valid, Allows, stepped as moved, step, keeps, carried_after}
 use Rattle.atomic_table.proofs.Lists.{exchanged}
+use Rattle.executive_program.specs.Sites.{step_at, reaction_at}
+use Rattle.executive_program.specs.System.{turn_reached}
 use Rattle.executive_program.specs.declared.steps.Place.{Place}
 use Rattle.executive_program.specs.declared.steps.MicroStep.{MicroStep}
 use Rattle.executive_program.specs.declared.steps.MicroStep.TheVariants.{Take, See, Lower, Signal, Await, Advance, Load, Store}
-use Rattle.semaphore_core.specs.Job.{JobData}
-use Rattle.semaphore_core.specs.Core.{Core, opening, turn_reached, enabled_in, done_in, full, home_of, slot_of}
 use Rattle.executive_program.specs.Steps.{steps}
-use Rattle.interleavings.specs.Sites.{step_at, reaction_at}
-use Rattle.semaphore_core.specs.Told.{told}
-use Rattle.semaphore_core.specs.Laws.{one_more}
+use Rattle.phase_laws.specs.Job.{JobData}
+use Rattle.phase_laws.specs.Core.{Core, opening, enabled_in, done_in, full, home_of, slot_of}
+use Rattle.phase_laws.specs.Told.{told}
+use Rattle.phase_laws.specs.Laws.{one_more}
 use Rattle.word_rule.specs.declared.view.Knowledge.{Knowledge}
 use Rattle.word_rule.specs.declared.view.View.{View}
 use Rattle.word_rule.specs.declared.view.View.TheVariants.{Holds}

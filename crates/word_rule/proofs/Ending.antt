@@ -3,9 +3,9 @@ use Rattle.std.proofs.Common.{◌≡◌, ℕ, zero, suc, ◌+◌, ◌<◌, List,
 use mathlib.Core.Option.{some, some-injective, some-ne-none}
 use lib.ListN.{get_elem?}
 use Rattle.atomic_table.specs.Table.{Final, Seen}
-use Rattle.semaphore_core.specs.Job.{JobData}
-use Rattle.semaphore_core.specs.Core.{AreReached}
-use Rattle.semaphore_core.specs.Told.{told}
+use Rattle.phase_laws.specs.Job.{JobData}
+use Rattle.phase_laws.specs.Core.{AreReached}
+use Rattle.phase_laws.specs.Told.{told}
 use Rattle.word_rule.specs.declared.view.View.{View}
 use Rattle.word_rule.specs.Words.{table_of, table_len}
 use Rattle.word_rule.specs.Rule.{Tells}

@@ -4,15 +4,15 @@ use Rattle.std.proofs.lemmas.Bool.{lt-ltb}
 use mathlib.Core.Option.{some}
 use lib.ListN.{get_elem?}
 use Rattle.atomic_table.specs.Table.{State}
-use Rattle.interleavings.specs.Sites.{step_at, reaction_at}
+use Rattle.executive_program.specs.Sites.{step_at, reaction_at}
 use Rattle.executive_program.specs.declared.steps.MicroStep.{MicroStep}
 use Rattle.executive_program.specs.declared.steps.MicroStep.TheVariants.{Lower}
-use Rattle.semaphore_core.specs.Job.{JobData}
-use Rattle.semaphore_core.specs.Core.{Core, run, full, next, reaction, enabled_in, enabled_by, done_in}
 use Rattle.executive_program.specs.Steps.{steps}
-use Rattle.semaphore_core.specs.Told.{told}
-use Rattle.semaphore_core.specs.Laws.{one_more, GoesOn}
-use Rattle.semaphore_core.proofs.Runs.{step_is}
+use Rattle.phase_laws.specs.Job.{JobData}
+use Rattle.phase_laws.specs.Core.{Core, run, full, next, reaction, enabled_in, enabled_by, done_in}
+use Rattle.phase_laws.specs.Told.{told}
+use Rattle.phase_laws.specs.Laws.{one_more, GoesOn}
+use Rattle.phase_laws.proofs.Runs.{step_is}
 use Rattle.word_rule.specs.declared.view.Knowledge.{Knowledge}
 use Rattle.word_rule.specs.declared.view.View.{View}
 use Rattle.word_rule.specs.declared.view.View.TheVariants.{Holds}

@@ -6,9 +6,9 @@ use mathlib.Core.Option.{some, some-injective, some-ne-none}
 use lib.ListN.{get_elem?}
 use Rattle.atomic_table.specs.Table.{State}
 use Rattle.atomic_table.proofs.Lists.{at_set, set_here, set_else}
-use Rattle.semaphore_core.specs.Job.{JobData}
-use Rattle.semaphore_core.specs.Told.{told}
-use Rattle.semaphore_core.specs.Laws.{one_more}
+use Rattle.phase_laws.specs.Job.{JobData}
+use Rattle.phase_laws.specs.Told.{told}
+use Rattle.phase_laws.specs.Laws.{one_more}
 use Rattle.word_rule.specs.declared.view.Knowledge.{Knowledge}
 use Rattle.word_rule.specs.declared.view.View.{View}
 use Rattle.word_rule.specs.declared.view.View.TheVariants.{Holds}

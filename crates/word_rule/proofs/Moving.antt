@@ -4,10 +4,10 @@ use Rattle.std.proofs.lemmas.List.{set-get_or}
 use Rattle.atomic_table.specs.Table.{keeps}
 use Rattle.executive_program.specs.declared.steps.MicroStep.{MicroStep}
 use Rattle.executive_program.specs.declared.steps.MicroStep.TheVariants.{Take, See, Lower, Signal, Await, Advance, Load, Store}
-use Rattle.semaphore_core.specs.Job.{JobData}
-use Rattle.semaphore_core.specs.Core.{Core, enabled_in, done_in, home_of, slot_of, own}
-use Rattle.operation_desks.specs.Registers.{emit_by}
-use Rattle.semaphore_core.specs.Told.{told}
+use Rattle.phase_laws.specs.Job.{JobData}
+use Rattle.phase_laws.specs.Core.{Core, enabled_in, done_in, home_of, slot_of, own}
+use Rattle.phase_laws.specs.Registers.{emit_by}
+use Rattle.phase_laws.specs.Told.{told}
 use Rattle.word_rule.specs.declared.view.Knowledge.{Knowledge}
 use Rattle.word_rule.specs.declared.view.View.{View}
 use Rattle.word_rule.specs.declared.view.View.TheVariants.{Holds}

@@ -5,13 +5,13 @@ use Rattle.std.proofs.lemmas.Bool.{cases_lt}
 use Rattle.std.proofs.lemmas.List.{length-replicate, get_or_past}
 use mathlib.Core.Option.{some, some-injective, some-ne-none}
 use lib.ListN.{get_elem?}
-use Rattle.level_meaning.specs.Level.{all_joined, zeros}
-use Rattle.flat_graph.proofs.KindLens.{sum-cons}
 use Rattle.atomic_table.specs.Table.{opening as at_start}
-use Rattle.semaphore_core.specs.Job.{JobData}
-use Rattle.semaphore_core.specs.Core.{Core, opening}
-use Rattle.semaphore_core.specs.Told.{told}
-use Rattle.semaphore_core.specs.Elements.{element_in}
+use Rattle.executive_program.specs.Level.{all_joined}
+use Rattle.executive_program.proofs.KindLens.{sum-cons}
+use Rattle.phase_laws.specs.Job.{JobData}
+use Rattle.phase_laws.specs.Core.{Core, opening}
+use Rattle.phase_laws.specs.Told.{told}
+use Rattle.phase_laws.specs.Elements.{element_in}
 use Rattle.phase_laws.proofs.AgreePlaces.{lists_many, buffer_list, wire_list}
 use Rattle.word_rule.specs.declared.view.View.{View}
 use Rattle.word_rule.specs.Words.{word_of, table_of, table_len, element_lens, IsExact, AreExact}
@@ -19,6 +19,7 @@ use Rattle.word_rule.specs.Views.{count_by, first_view, IsFor}
 use Rattle.word_rule.specs.Rule.{Drives, Tells}
 use Rattle.word_rule.specs.Given.{RunsOnWords}
 use Rattle.word_rule.proofs.Views.{all_zero, all_counted}
+use Rattle.syn_base.specs.Vectors.{zeros}
 
 replicate_more : {A : Type 0} (a b : ℕ) (x : A) → replicate a x ++ replicate b x ≡ replicate (a + b) x
 replicate_more {A = A} zero b x = let e : b ≡ 0 + b = omega arith in ap (λ (n : ℕ). replicate {A = A} n x) e

@@ -1,10 +1,10 @@
 -- Two operators with a bus: the words of a table, computed on a worked program over three reactions.
 use Rattle.std.proofs.Common.{◌≡◌, [], ◌∷◌, Some, None, refl, true, false, pos, negsuc}
-use Rattle.semaphore_core.specs.Core.{opening, step}
-use Rattle.semaphore_core.specs.Told.{told}
 use Rattle.executive_program.specs.declared.steps.Place.TheVariants.{Buffer, Wire}
 use Rattle.executive_program.specs.declared.steps.MicroStep.TheVariants.{Take, Await}
-use Rattle.semaphore_core.proofs.RowFive.{single, double, job}
+use Rattle.phase_laws.specs.Core.{opening, step}
+use Rattle.phase_laws.specs.Told.{told}
+use Rattle.phase_laws.proofs.RowFive.{single, double, job}
 use Rattle.word_rule.specs.Words.{word_of, table_of, table_len, element_lens, turn_word, element_word, word_at}
 use Rattle.word_rule.specs.Views.{all_from, count_in, raised}
 use Rattle.word_rule.specs.Given.{enables}

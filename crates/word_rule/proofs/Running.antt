@@ -5,12 +5,12 @@ use Rattle.std.proofs.lemmas.Bool.{cases_lt}
 use Rattle.std.proofs.lemmas.List.{length-map, length-replicate, get_or-map}
 use Rattle.std.proofs.lemmas.Nat.{mod_below}
 use Rattle.std.proofs.lemmas.Option.{same_Some, slice_get_past}
-use Rattle.interleavings.specs.Sites.{step_at, place_at}
-use Rattle.interleavings.specs.Owners.{sum_below}
-use Rattle.interleavings.proofs.Sums.{le_below, member_below}
-use Rattle.interleavings.specs.System.{Micro}
-use Rattle.flat_graph.specs.Graph.{Graph}
-use Rattle.flat_graph.specs.Valid.{is_flat}
+use Rattle.executive_program.specs.Sites.{step_at, place_at}
+use Rattle.executive_program.specs.Owners.{sum_below}
+use Rattle.executive_program.proofs.InterleavingSums.{le_below, member_below}
+use Rattle.executive_program.specs.System.{Micro}
+use Rattle.executive_program.specs.Graph.{Graph}
+use Rattle.executive_program.specs.FlatValid.{is_flat}
 use Rattle.executive_program.specs.declared.program.SeqCode.{SeqCode}
 use Rattle.executive_program.specs.declared.steps.Place.{Place}
 use Rattle.executive_program.specs.declared.steps.Place.TheVariants.{Buffer, Wire}
@@ -19,12 +19,12 @@ use Rattle.executive_program.specs.declared.steps.MicroStep.TheVariants.{Take, S
 use Rattle.executive_program.specs.Instructions.{len_of, depth_of}
 use Rattle.executive_program.specs.MicroSteps.{code, wire_len}
 use Rattle.executive_program.specs.Steps.{steps, steps_by}
-use Rattle.semaphore_core.specs.Job.{JobData, reactions}
-use Rattle.semaphore_core.specs.IsJob.{IsJob}
-use Rattle.semaphore_core.specs.Core.{Core, opening, count, full, run}
-use Rattle.semaphore_core.specs.Held.{made}
-use Rattle.semaphore_core.proofs.Opened.{full_total}
-use Rattle.semaphore_core.proofs.Jobs.{has_places, few_steps, prologue_bare}
+use Rattle.phase_laws.specs.Job.{JobData, reactions}
+use Rattle.phase_laws.specs.IsJob.{IsJob}
+use Rattle.phase_laws.specs.Core.{Core, opening, count, full, run}
+use Rattle.phase_laws.specs.Held.{made}
+use Rattle.phase_laws.proofs.Opened.{full_total}
+use Rattle.phase_laws.proofs.Jobs.{has_places, few_steps, prologue_bare}
 use Rattle.phase_laws.specs.Agrees.{IsFormed, IsMatched, Matches, LiesAt}
 use Rattle.phase_laws.specs.Reached.{ReachedLaws}
 use Rattle.phase_laws.specs.Values.{IsSupplied}

@@ -1,10 +1,10 @@
 -- The words of a state after a micro-step: one word changed, or none.
 use Rattle.std.proofs.Common.{◌≡◌, ℕ, suc, ◌+◌, ◌*◌, ◌<◌, List, [], ◌∷◌, ◌++◌, map, take, length, sum, get_or, set, sym, ap, arith, ◌∙◌, ℤ, pos}
 use Rattle.std.proofs.lemmas.List.{set-append_left, get_or_append_left, get_or-append-add, length-append, length-map, map-set, get_or-map}
-use Rattle.level_meaning.specs.Level.{all_joined}
+use Rattle.executive_program.specs.Level.{all_joined}
 use Rattle.executive_program.specs.declared.steps.Place.{Place}
-use Rattle.semaphore_core.specs.Job.{JobData}
-use Rattle.semaphore_core.specs.Core.{Core, home_of, slot_of, element_of, with_element}
+use Rattle.phase_laws.specs.Job.{JobData}
+use Rattle.phase_laws.specs.Core.{Core, home_of, slot_of, element_of, with_element}
 use Rattle.word_rule.specs.Words.{word_of, words_of, table_of, element_lens, turn_word, element_word, table_len}
 use Rattle.word_rule.specs.Given.{IsShaped, IsHere}
 use Rattle.word_rule.proofs.Joined.{joined_length, joined_inside, joined_set, joined_get, set_add}

@@ -1,7 +1,7 @@
 -- What is kept of the tables that were closed, as contracts see it.
 use Rattle.std.specs.Prelude.{ℕ, ◌+◌, min, sum, List, []}
-use Rattle.semaphore_core.specs.Job.{JobData}
-use Rattle.semaphore_core.specs.Told.{told}
+use Rattle.phase_laws.specs.Job.{JobData}
+use Rattle.phase_laws.specs.Told.{told}
 use Rattle.phase_laws.specs.Ended.{full_counts}
 use Rattle.word_rule.specs.Words.{words_of}
 

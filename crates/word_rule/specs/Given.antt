@@ -19,7 +19,10 @@ use Rattle.std.specs.Prelude.{
   slice_index_or,
   ℤ,
 }
-use Rattle.interleavings.specs.Sites.{step_at, reaction_at}
+use Rattle.executive_program.specs.Sites.{step_at, reaction_at}
+use Rattle.executive_program.specs.Sound.{AreValues}
+use Rattle.executive_program.specs.FlatValid.{is_flat}
+use Rattle.executive_program.specs.System.{turn_reached}
 use Rattle.executive_program.specs.declared.steps.Place.{Place}
 use Rattle.executive_program.specs.declared.steps.MicroStep.{MicroStep}
 use Rattle.executive_program.specs.declared.steps.MicroStep.TheVariants.{
@@ -32,22 +35,20 @@ use Rattle.executive_program.specs.declared.steps.MicroStep.TheVariants.{
   Load,
   Store,
 }
-use Rattle.semaphore_core.specs.Job.{JobData, system}
 use Rattle.executive_program.specs.declared.steps.OnLoad.{OnLoad}
 use Rattle.executive_program.specs.declared.steps.OnStore.{OnStore}
-use Rattle.operation_desks.specs.Registers.{emit_by}
-use Rattle.semaphore_core.specs.Told.{told, stored_value, own_after}
-use Rattle.interleavings.specs.Sound.{AreValues}
+use Rattle.phase_laws.specs.Job.{JobData, system}
+use Rattle.phase_laws.specs.Registers.{emit_by}
+use Rattle.phase_laws.specs.Told.{told, stored_value, own_after}
+use Rattle.phase_laws.specs.Core.{Core, run, full, home_of, slot_of, own, AreReached}
+use Rattle.phase_laws.specs.Held.{NeedsReaction}
+use Rattle.phase_laws.specs.Laws.{HasLaws}
+use Rattle.phase_laws.specs.IsJob.{IsJob}
 use Rattle.phase_laws.specs.Agrees.{IsFormed}
 use Rattle.phase_laws.specs.Reached.{ReachedLaws}
 use Rattle.phase_laws.specs.Values.{IsSupplied}
-use Rattle.semaphore_core.specs.Core.{Core, run, full, home_of, slot_of, turn_reached, own, AreReached}
 use Rattle.executive_program.specs.Instructions.{HasPlaces}
 use Rattle.executive_program.specs.Steps.{steps}
-use Rattle.semaphore_core.specs.Held.{NeedsReaction}
-use Rattle.semaphore_core.specs.Laws.{HasLaws}
-use Rattle.semaphore_core.specs.IsJob.{IsJob}
-use Rattle.flat_graph.specs.Valid.{is_flat}
 use Rattle.word_rule.specs.declared.view.Knowledge.{Knowledge}
 use Rattle.word_rule.specs.declared.view.View.{View}
 use Rattle.word_rule.specs.declared.view.View.TheVariants.{Spent, Holds}

@@ -5,3 +5,20 @@ pub mod Given
 pub mod Driven
 pub mod Table
 pub mod Steps
+-- What the definitions here speak of: jobs, their states and the laws of these.
+pub use Rattle.phase_laws.specs.Agrees
+pub use Rattle.phase_laws.specs.AtOpening
+pub use Rattle.phase_laws.specs.Core
+pub use Rattle.phase_laws.specs.Ended
+pub use Rattle.phase_laws.specs.Held
+pub use Rattle.phase_laws.specs.IsJob
+pub use Rattle.phase_laws.specs.Job
+pub use Rattle.phase_laws.specs.Laws
+pub use Rattle.phase_laws.specs.Operation
+pub use Rattle.phase_laws.specs.Parts
+pub use Rattle.phase_laws.specs.Registers
+pub use Rattle.phase_laws.specs.Rooms
+pub use Rattle.phase_laws.specs.RowLens
+pub use Rattle.phase_laws.specs.Told
+pub use Rattle.phase_laws.specs.Values
+pub use Rattle.phase_laws.specs.Windows

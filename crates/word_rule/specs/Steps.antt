@@ -1,6 +1,6 @@
 -- What a step of a seat asks, and what it leaves.
 use Rattle.std.specs.Prelude.{◌≡◌, ℕ, ◌<◌, ◌%◌, List, length, Some, slice_index_or, nat_eq}
-use Rattle.semaphore_core.specs.Job.{JobData}
+use Rattle.phase_laws.specs.Job.{JobData}
 use Rattle.word_rule.specs.declared.next.Next.{Next}
 use Rattle.word_rule.specs.declared.view.View.{View}
 use Rattle.word_rule.specs.Words.{word_at}

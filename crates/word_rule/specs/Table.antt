@@ -4,7 +4,7 @@ use mathlib.Core.Logic.{inl, inr}
 use Rattle.std.specs.Coded.{Coded, code_by, coded×, coded⊎, coded_ℕ, coded_list}
 use base.Stored.{coded_unit}
 use Rattle.atomic_table.specs.Seated.{TableId, table_id_coded}
-use Rattle.semaphore_core.specs.Job.{JobData}
+use Rattle.phase_laws.specs.Job.{JobData}
 use Rattle.word_rule.specs.declared.view.Count.{Count}
 use Rattle.word_rule.specs.declared.view.Knowledge.{Knowledge}
 use Rattle.word_rule.specs.declared.view.View.{View}

@@ -20,7 +20,7 @@ use Rattle.std.specs.Prelude.{
   Some,
   None,
 }
-use Rattle.semaphore_core.specs.Job.{JobData}
+use Rattle.phase_laws.specs.Job.{JobData}
 use Rattle.word_rule.specs.declared.view.Count.{Count}
 use Rattle.word_rule.specs.declared.view.Knowledge.{Knowledge}
 use Rattle.word_rule.specs.declared.view.View.{View}
@@ -88,12 +88,12 @@ abbrev pub right_of : (ℕ → Bool) → View → View
 right_of test Spent = Spent
 right_of test (Holds k) = Holds record { job = k.job; driven = picked test k.driven; looks = 0; word = 0; found = 0 }
 
--- a view takes in what another one drives
+-- A view takes in what another one drives. No look is recorded, so its own looks stay as they are.
 abbrev pub joined : View → View → View
 joined (Holds k) (Holds l) = Holds record {
   job = k.job;
   driven = k.driven ++ l.driven;
-  looks = k.looks + l.looks;
+  looks = k.looks;
   word = k.word;
   found = k.found;
 }

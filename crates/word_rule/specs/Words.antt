@@ -1,7 +1,7 @@
 -- The words of a table: a state of the core as words, and the word that a micro-step touches.
-use Rattle.std.specs.Prelude.{◌≡◌, ℕ, suc, ◌+◌, ◌*◌, List, [], ◌∷◌, ◌++◌, map, take, length, sum, ℤ}
+use Rattle.std.specs.Prelude.{◌≡◌, ℕ, suc, ◌+◌, ◌*◌, List, ◌∷◌, ◌++◌, map, take, length, sum, ℤ}
 use Rattle.std.specs.Int.{w64, cast_unsigned, cast_signed}
-use Rattle.level_meaning.specs.Level.{all_joined}
+use Rattle.executive_program.specs.Level.{all_joined}
 use Rattle.executive_program.specs.declared.steps.Place.{Place}
 use Rattle.executive_program.specs.declared.steps.MicroStep.{MicroStep}
 use Rattle.executive_program.specs.declared.steps.MicroStep.TheVariants.{
@@ -14,9 +14,9 @@ use Rattle.executive_program.specs.declared.steps.MicroStep.TheVariants.{
   Load,
   Store,
 }
-use Rattle.semaphore_core.specs.Job.{JobData}
-use Rattle.semaphore_core.specs.Core.{Core, opening, home_of, slot_of}
-use Rattle.semaphore_core.specs.Elements.{element_in}
+use Rattle.phase_laws.specs.Job.{JobData}
+use Rattle.phase_laws.specs.Core.{Core, opening, home_of, slot_of}
+use Rattle.phase_laws.specs.Elements.{element_in}
 
 -- an element as a word: its two's complement
 abbrev pub word_of : ℤ → ℕ
@@ -70,12 +70,3 @@ module _ (j : JobData) where
   -- how many words a table of the job has
   abbrev pub table_len : ℕ
   table_len = suc (2 * length j.program.pairs + (j.media + sum element_lens))
-
--- where these lists begin one after the other, the first at this word, and where the last one ends
-abbrev pub starts_from : ℕ → List (List ℤ) → List ℕ
-starts_from first [] = []
-starts_from first (xs ∷ xss) = first ∷ starts_from (first + length xs) xss
-
-abbrev pub end_from : ℕ → List (List ℤ) → ℕ
-end_from first [] = first
-end_from first (xs ∷ xss) = end_from (first + length xs) xss

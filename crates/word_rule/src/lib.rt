@@ -20,9 +20,15 @@ ghost use Rattle.word_rule.specs.Given.{JobsRunOnWords, RunsOnWords};
 
 pub use next::Next;
 pub use plays::{Joining, Loading, Looking, Named, Parting, Picking, Raising, Rule};
-use semaphore_core::Job;
 pub use table::{WordSeat, WordTable};
 pub use view::{Count, Knowledge, View};
+
+// What the clauses here speak of: jobs, their states and the laws of these.
+pub use phase_laws::{
+    Job, OwnParts, cells_and_rows, full_is_ended, home, job_has_laws, opening_of, put_row,
+    run_limit, runs_end, runs_take_rows, slot, turn_reached, windows_make_the_run, words_of,
+    zero_elements,
+};
 
 /// Every job on a valid graph runs on words: its laws hold, what its micro-steps name is there, and no
 /// counter comes to the end of its word.

@@ -6,7 +6,7 @@ ghost use Rattle.word_rule.specs.declared.view.View.TheVariants.{Spent};
 
 use crate::view::View;
 use atomic_table::{Join, Play, Split, TableRule};
-use semaphore_core::Job;
+use phase_laws::Job;
 use std::marker::{Brand, PhantomData};
 
 /// The counts of all views together are reached, and every word is the one that they tell.

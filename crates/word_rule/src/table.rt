@@ -1,8 +1,8 @@
 //! The table of a job and its seats: how a table begins, and how it ends.
 ghost use Rattle.std.specs.Prelude.{◌≡◌, ◌<◌, ◌+◌, ℕ, [], length, slice_index_or, replicate, IfOk};
 ghost use Rattle.std.specs.Mem.Slots.{slots_items, slots_len, IsFull};
-ghost use Rattle.semaphore_core.specs.Core.{AreReached};
-ghost use Rattle.semaphore_core.specs.Told.{told};
+ghost use Rattle.phase_laws.specs.Core.{AreReached};
+ghost use Rattle.phase_laws.specs.Told.{told};
 ghost use Rattle.word_rule.specs.Given.{RunsOnWords};
 ghost use Rattle.word_rule.specs.Steps.{HoldsCounts};
 ghost use Rattle.word_rule.specs.Views.{first_view};
@@ -11,7 +11,7 @@ ghost use Rattle.word_rule.specs.Words.{words_of, table_len};
 use crate::plays::Rule;
 use crate::view::View;
 use atomic_table::{Closed, Seat, Table};
-use semaphore_core::Job;
+use phase_laws::Job;
 use std::alloc::Global;
 use std::marker::Model;
 use syn_base::OutOfMemory;
@@ -25,9 +25,9 @@ pub struct WordTable<'a> {
 impl<'a> Model for WordTable<'a> {
     ghost use Rattle.std.specs.Prelude.{◌≡◌};
     ghost use Rattle.std.specs.Coded.{codes};
-    ghost use Rattle.body_lang.specs.Code.{expr_code};
-    ghost use Rattle.flat_graph.specs.Graph.{graph_code};
-    ghost use Rattle.semaphore_core.specs.Job.{job_code};
+    ghost use Rattle.executive_program.specs.BodyCode.{expr_code};
+    ghost use Rattle.executive_program.specs.Graph.{graph_code};
+    ghost use Rattle.phase_laws.specs.Job.{job_code};
     ghost use Rattle.word_rule.specs.Table.{TableData, table_code};
 
     ghost Value = { TableData };
@@ -54,9 +54,9 @@ pub struct WordSeat<'a> {
 impl<'a> Model for WordSeat<'a> {
     ghost use Rattle.std.specs.Prelude.{◌≡◌, []};
     ghost use Rattle.std.specs.Coded.{codes};
-    ghost use Rattle.body_lang.specs.Code.{expr_code};
-    ghost use Rattle.flat_graph.specs.Graph.{graph_code};
-    ghost use Rattle.semaphore_core.specs.Job.{job_code};
+    ghost use Rattle.executive_program.specs.BodyCode.{expr_code};
+    ghost use Rattle.executive_program.specs.Graph.{graph_code};
+    ghost use Rattle.phase_laws.specs.Job.{job_code};
     ghost use Rattle.word_rule.specs.Table.{SeatData, seat_code};
 
     ghost Value = { SeatData };

@@ -1,5 +1,5 @@
 //! What a seat of the table knows. No value of these types is made: they stand in proofs alone.
-use semaphore_core::Job;
+use phase_laws::Job;
 use syn_base::Items;
 
 /// A sequence that is driven, and how many micro-steps it has made.

@@ -3,24 +3,23 @@ use Rattle.std.proofs.Common.{◌<◌, ◌≡◌, ℕ, ◌+◌, ◌%◌, zero, s
 use Rattle.std.specs.Prelude.{replicate, slice_get, nat_eq}
 use Rattle.std.proofs.lemmas.List.{length-map, length-replicate, length-append, get_or-map}
 use Rattle.std.proofs.lemmas.Option.{slice_get_within}
-use Rattle.level_meaning.specs.Level.{Values, vector_at, zeros}
-use Rattle.flat_graph.specs.declared.vertex.Vertex.{Vertex}
-use Rattle.flat_graph.specs.declared.vertex.Kind.TheVariants.{Actuator}
-use Rattle.flat_graph.specs.Graph.{Graph, lens_of}
+use Rattle.executive_program.specs.declared.Vertex.{Vertex}
+use Rattle.executive_program.specs.declared.Kind.TheVariants.{Actuator}
+use Rattle.executive_program.specs.Graph.{Graph, lens_of}
+use Rattle.executive_program.specs.FlatLaws.{actuator_lens, actuator_len}
 use Rattle.executive_program.specs.declared.expand.SeqSteps.{SeqSteps}
 use Rattle.executive_program.specs.Expanded.{AreSteps, expanded}
-use Rattle.operation_desks.specs.Rooms.{room_of}
-use Rattle.operation_desks.specs.RowLens.{lens_for}
-use Rattle.semaphore_core.specs.AtOpening.{AreAtOpening}
-use Rattle.operation_desks.specs.Registers.{Own}
-use Rattle.semaphore_core.specs.Held.{IsLaid}
-use Rattle.semaphore_core.specs.Job.{JobData, zero_rows, reactions}
-use Rattle.operation_desks.specs.RowLens.{actuator_len, actuator_lens}
-use Rattle.semaphore_core.specs.Core.{opening}
-use Rattle.semaphore_core.specs.Told.{own_after}
-use Rattle.semaphore_core.proofs.Numbered.{actuator_at}
-use Rattle.semaphore_core.proofs.OpenStates.{prologue_fits, turn_fits}
-use Rattle.phase_laws.specs.Agrees.{caller, row_at}
+use Rattle.word_rule.specs.Rooms.{room_of}
+use Rattle.word_rule.specs.RowLens.{lens_for}
+use Rattle.word_rule.specs.AtOpening.{AreAtOpening}
+use Rattle.word_rule.specs.Registers.{Own}
+use Rattle.word_rule.specs.Held.{IsLaid}
+use Rattle.word_rule.specs.Job.{JobData, zero_rows, reactions}
+use Rattle.word_rule.specs.Core.{opening}
+use Rattle.word_rule.specs.Told.{own_after}
+use Rattle.word_rule.proofs.Numbered.{actuator_at}
+use Rattle.word_rule.proofs.OpenStates.{prologue_fits, turn_fits}
+use Rattle.word_rule.specs.Agrees.{caller, row_at}
 use Rattle.word_rule.specs.declared.view.Knowledge.{Knowledge}
 use Rattle.word_rule.specs.declared.view.View.{View}
 use Rattle.word_rule.specs.declared.view.View.TheVariants.{Spent, Holds}
@@ -30,6 +29,7 @@ use Rattle.word_table.specs.declared.driver_parts.DriverParts.{DriverParts}
 use Rattle.word_table.specs.Parts.{HasOwn, IsDriver, AreDriverParts, last_look, driver_view}
 use Rattle.word_table.specs.Driver.{IsNew}
 use Rattle.word_table.specs.Weaving.{IsNewView, DrivesGroup}
+use Rattle.syn_base.specs.Vectors.{Values, vector_at, zeros}
 
 none_used : (n s : ℕ) → get_or (replicate {A = List ℤ} n []) s [] ≡ []
 none_used zero s = refl

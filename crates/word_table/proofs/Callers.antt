@@ -3,14 +3,14 @@ use Rattle.std.proofs.Common.{◌≡◌, ℕ, zero, suc, ◌+◌, ◌<◌, Bool,
 use Rattle.std.specs.Prelude.{slice_get, if◌then◌else◌}
 use Rattle.std.proofs.lemmas.List.{drop_more}
 use Rattle.std.proofs.lemmas.Option.{slice_get_within}
-use Rattle.flat_graph.specs.declared.vertex.Kind.{Kind}
-use Rattle.flat_graph.specs.declared.vertex.Kind.TheVariants.{Sensor, Actuator, Function, Constant, Get, Set, Explode, Implode, Merge}
-use Rattle.flat_graph.specs.declared.vertex.Vertex.{Vertex}
-use Rattle.flat_graph.specs.Meaning.{is_get, delay_number}
-use Rattle.semaphore_core.specs.Job.{JobData}
-use Rattle.operation_desks.specs.Operation.{delay_of}
-use Rattle.phase_laws.specs.Agrees.{IsFormed, caller}
-use Rattle.phase_laws.proofs.AgreeDelays.{GetHalf, get_half}
+use Rattle.executive_program.specs.declared.Kind.{Kind}
+use Rattle.executive_program.specs.declared.Kind.TheVariants.{Sensor, Actuator, Function, Constant, Get, Set, Explode, Implode, Merge}
+use Rattle.executive_program.specs.declared.Vertex.{Vertex}
+use Rattle.executive_program.specs.Meaning.{is_get, delay_number}
+use Rattle.word_rule.specs.Job.{JobData}
+use Rattle.word_rule.specs.Operation.{delay_of}
+use Rattle.word_rule.specs.Agrees.{IsFormed, caller}
+use Rattle.word_rule.proofs.AgreeDelays.{GetHalf, get_half}
 use Rattle.word_table.specs.Owners.{owners}
 
 -- the caller of a get half stands at the number of its delay

@@ -6,13 +6,13 @@ use Rattle.std.proofs.lemmas.List.FromFn.{length-map-range_with_len, get_or-map-
 use Rattle.std.proofs.lemmas.Nat.{mod_below}
 use Rattle.std.proofs.lemmas.Option.{slice_get_within}
 use Rattle.atomic_table.specs.Seated.{TableId}
-use Rattle.flat_graph.specs.Graph.{lens_of}
-use Rattle.semaphore_core.specs.Job.{JobData}
-use Rattle.semaphore_core.specs.Core.{full}
-use Rattle.semaphore_core.specs.Held.{HasRow}
-use Rattle.semaphore_core.specs.Told.{told}
-use Rattle.semaphore_core.proofs.Numbered.{actuator_at}
-use Rattle.phase_laws.specs.Ended.{FullIsEnded, full_counts}
+use Rattle.executive_program.specs.Graph.{lens_of}
+use Rattle.word_rule.specs.Job.{JobData}
+use Rattle.word_rule.specs.Core.{full}
+use Rattle.word_rule.specs.Held.{HasRow}
+use Rattle.word_rule.specs.Told.{told}
+use Rattle.word_rule.proofs.Numbered.{actuator_at}
+use Rattle.word_rule.specs.Ended.{FullIsEnded, full_counts}
 use Rattle.word_rule.specs.declared.view.Knowledge.{Knowledge}
 use Rattle.word_rule.specs.declared.view.View.{View}
 use Rattle.word_rule.specs.declared.view.View.TheVariants.{Spent, Holds}

@@ -3,19 +3,19 @@ use Rattle.std.proofs.Common.{◌≡◌, ℕ, ◌+◌, ◌%◌, ◌<◌, ◌^◌
 use Rattle.std.proofs.lemmas.Bool.{cases_eq}
 use Rattle.std.proofs.lemmas.Option.{same_Some}
 use Rattle.atomic_table.specs.Seated.{TableId}
-use Rattle.interleavings.specs.Sites.{step_at, reaction_at}
+use Rattle.executive_program.specs.Sites.{step_at, reaction_at}
 use Rattle.executive_program.specs.declared.steps.MicroStep.{MicroStep}
 use Rattle.executive_program.specs.declared.steps.MicroStep.TheVariants.{Take, See, Lower, Signal, Await, Advance, Load, Store}
 use Rattle.executive_program.specs.Steps.{steps}
-use Rattle.semaphore_core.specs.Held.{AreReady}
-use Rattle.semaphore_core.specs.Job.{JobData}
-use Rattle.semaphore_core.specs.Core.{Core, full, enabled_in, AreReached}
-use Rattle.semaphore_core.specs.Laws.{one_more}
-use Rattle.semaphore_core.specs.Told.{told}
 use Rattle.executive_program.specs.declared.steps.Place.{Place}
 use Rattle.executive_program.specs.declared.steps.OnLoad.{OnLoad}
 use Rattle.executive_program.specs.declared.steps.OnStore.{OnStore}
-use Rattle.phase_laws.specs.Agrees.{caller}
+use Rattle.word_rule.specs.Held.{AreReady}
+use Rattle.word_rule.specs.Job.{JobData}
+use Rattle.word_rule.specs.Core.{Core, full, enabled_in, AreReached}
+use Rattle.word_rule.specs.Laws.{one_more}
+use Rattle.word_rule.specs.Told.{told}
+use Rattle.word_rule.specs.Agrees.{caller}
 use Rattle.word_rule.specs.declared.view.Count.{Count}
 use Rattle.word_rule.specs.declared.next.Next.{Next}
 use Rattle.word_rule.specs.declared.view.Knowledge.{Knowledge}

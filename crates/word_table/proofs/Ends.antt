@@ -5,23 +5,22 @@ use Rattle.std.proofs.lemmas.Bool.{cases_eq}
 use Rattle.std.proofs.lemmas.List.{length-map, length-replicate}
 use Rattle.std.proofs.lemmas.Nat.{mod_below}
 use Rattle.std.proofs.lemmas.Option.{slice_get_within}
-use Rattle.level_meaning.specs.Level.{Values, vector_at, zeros}
-use Rattle.flat_graph.specs.declared.vertex.Vertex.{Vertex}
-use Rattle.flat_graph.specs.declared.vertex.Kind.TheVariants.{Actuator}
-use Rattle.interleavings.specs.System as theory
-use Rattle.interleavings.specs.System.{State}
+use Rattle.executive_program.specs.declared.Vertex.{Vertex}
+use Rattle.executive_program.specs.declared.Kind.TheVariants.{Actuator}
+use Rattle.executive_program.specs.System as theory
+use Rattle.executive_program.specs.System.{State}
+use Rattle.executive_program.specs.FlatLaws.{actuator_lens}
 use Rattle.executive_program.specs.declared.program.SeqCode.{SeqCode}
 use Rattle.executive_program.specs.declared.program.Instr.{Instr}
 use Rattle.executive_program.specs.Instructions.{turn_of}
-use Rattle.semaphore_core.specs.Job.{JobData, system, zero_rows, reactions}
-use Rattle.operation_desks.specs.RowLens.{actuator_lens}
-use Rattle.semaphore_core.specs.Core.{Core}
-use Rattle.operation_desks.specs.Operation.{delay_of}
-use Rattle.operation_desks.specs.Registers.{Own}
-use Rattle.semaphore_core.specs.Told.{told, stored_value, own_after}
-use Rattle.phase_laws.specs.Agrees.{IsFormed, Agrees, caller, row_at}
-use Rattle.phase_laws.proofs.AgreeTells.{agreement_tells}
-use Rattle.phase_laws.proofs.AgreeTold.{told_agrees}
+use Rattle.word_rule.specs.Job.{JobData, system, zero_rows, reactions}
+use Rattle.word_rule.specs.Core.{Core}
+use Rattle.word_rule.specs.Operation.{delay_of}
+use Rattle.word_rule.specs.Registers.{Own}
+use Rattle.word_rule.specs.Told.{told, stored_value, own_after}
+use Rattle.word_rule.specs.Agrees.{IsFormed, Agrees, caller, row_at}
+use Rattle.word_rule.proofs.AgreeTells.{agreement_tells}
+use Rattle.word_rule.proofs.AgreeTold.{told_agrees}
 use Rattle.word_rule.specs.declared.view.Knowledge.{Knowledge}
 use Rattle.word_rule.specs.Given.{RunsOnWords}
 use Rattle.word_rule.specs.Views.{count_in}
@@ -32,6 +31,7 @@ use Rattle.word_table.specs.Ends.{Gathers, IsGathered, TakesRows}
 use Rattle.word_table.specs.Owners.{owners}
 use Rattle.word_table.specs.Parts.{AreLaid, IsDriver}
 use Rattle.word_table.proofs.Callers.{cell_owner}
+use Rattle.syn_base.specs.Vectors.{Values, vector_at, zeros}
 
 -- the sequence that calls an operation is one of the program
 pub caller_there : (j : JobData) → IsFormed j → (v : ℕ) (x : Vertex) → slice_get j.graph.vertices v ≡ Some x → caller j v < length j.program.seqs

@@ -1,10 +1,9 @@
 -- What is left of a fabric whose drivers are all gathered.
 use Rattle.std.proofs.Common.{◌≡◌, ℕ, ◌+◌, ◌<◌, List, min, sum, Some, sym, ap, subst, ◌∙◌}
-use Rattle.level_meaning.specs.Level.{Values}
-use Rattle.semaphore_core.specs.Job.{JobData}
-use Rattle.semaphore_core.specs.Core.{AreReached}
-use Rattle.semaphore_core.specs.Told.{told}
-use Rattle.phase_laws.specs.Ended.{FullIsEnded, full_counts}
+use Rattle.word_rule.specs.Job.{JobData}
+use Rattle.word_rule.specs.Core.{AreReached}
+use Rattle.word_rule.specs.Told.{told}
+use Rattle.word_rule.specs.Ended.{FullIsEnded, full_counts}
 use Rattle.word_rule.specs.Driven.{Driven, closed, driven_by, last_number}
 use Rattle.word_rule.specs.Steps.{HoldsCounts}
 use Rattle.word_rule.specs.Table.{SeatData}
@@ -17,6 +16,7 @@ use Rattle.word_table.specs.Ends.{IsGathered, SeatHolds}
 use Rattle.word_table.specs.Parts.{AreFabricParts, fabric_view}
 use Rattle.word_table.proofs.Closings.{counts_many, finished_counts, ends_whole, seat_all}
 use Rattle.word_table.proofs.Ends.{cells_told, rows_told, counts_are}
+use Rattle.syn_base.specs.Vectors.{Values}
 
 module _ (w : FabricParts) (is : AreFabricParts w) (ds : List DriverData) (r : Remains) (g : IsGathered w.job.now w.groups 0 (counts_of (fabric_view w) ds) r) (key : JobData) (key_is : key ≡ w.job.now) (xs : List ℕ) (xs_are : xs ≡ r.counts.items) where
   counts_whole : r.counts.items ≡ counts_of (fabric_view w) ds

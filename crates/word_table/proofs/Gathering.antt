@@ -3,7 +3,7 @@ use Rattle.std.proofs.Common.{◌≡◌, ℕ, ◌+◌, ◌%◌, ◌<◌, ◌≤�
 use Rattle.std.specs.Prelude.{slice_get}
 use Rattle.std.proofs.lemmas.List.{length-append}
 use Rattle.std.proofs.lemmas.Option.{slice_get_within}
-use Rattle.semaphore_core.specs.Job.{JobData}
+use Rattle.word_rule.specs.Job.{JobData}
 use Rattle.word_rule.specs.Table.{SeatData}
 use Rattle.word_rule.specs.Views.{count_in}
 use Rattle.word_table.specs.declared.remains.Remains.{Remains}

@@ -2,7 +2,7 @@
 use Rattle.std.proofs.Common.{◌≡◌, ℕ, zero, suc, ◌+◌, ◌%◌, ⊎_elim, true, false, not, List, [], ◌∷◌, ◌++◌, length, Some, refl, sym, ap, subst, arith, ◌∙◌, eq-eqb, ne_eqb}
 use Rattle.std.specs.Prelude.{nat_eq, slice_get}
 use Rattle.std.proofs.lemmas.Bool.{cases_eq}
-use Rattle.semaphore_core.specs.Job.{JobData}
+use Rattle.word_rule.specs.Job.{JobData}
 use Rattle.word_rule.specs.declared.view.View.{View}
 use Rattle.word_rule.specs.declared.view.View.TheVariants.{Spent, Holds}
 use Rattle.word_rule.specs.Views.{left_of, right_of, first_view}

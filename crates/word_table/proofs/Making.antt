@@ -4,7 +4,8 @@ use Rattle.std.specs.Prelude.{nat_eq, nat_le}
 use Rattle.std.specs.Int.{w64, cast_signed}
 use Rattle.std.proofs.lemmas.Bool.{lt-ltb}
 use Rattle.std.proofs.lemmas.List.{length-set}
-use Rattle.interleavings.specs.Sites.{step_at, reaction_at}
+use Rattle.executive_program.specs.Sites.{step_at, reaction_at}
+use Rattle.executive_program.specs.System.{turn_reached}
 use Rattle.executive_program.specs.declared.steps.Place.{Place}
 use Rattle.executive_program.specs.declared.steps.OnLoad.{OnLoad}
 use Rattle.executive_program.specs.declared.steps.OnLoad.TheVariants.{Gather, Carry as CarryIn, Compute as ComputeIn}
@@ -13,16 +14,16 @@ use Rattle.executive_program.specs.declared.steps.OnStore.TheVariants.{Give, Car
 use Rattle.executive_program.specs.declared.steps.MicroStep.{MicroStep}
 use Rattle.executive_program.specs.declared.steps.MicroStep.TheVariants.{Take, See, Lower, Signal, Await, Advance, Load, Store}
 use Rattle.executive_program.specs.Steps.{steps}
-use Rattle.semaphore_core.specs.Job.{JobData, reactions}
-use Rattle.semaphore_core.specs.Core.{Core, full, own, element_of, enabled_in, turn_reached}
-use Rattle.operation_desks.specs.Registers.{emit_by}
-use Rattle.semaphore_core.specs.Parts.{own_at, absorbed, left, with_load, with_store, value_stored}
-use Rattle.semaphore_core.specs.Held.{NeedsReaction, LoadIsLaid, StoreIsLaid}
-use Rattle.operation_desks.specs.Rooms.{Fits}
-use Rattle.semaphore_core.specs.Told.{told}
-use Rattle.semaphore_core.proofs.Ready.{absorb_ready, after_ready}
-use Rattle.semaphore_core.proofs.Standing.{fits_at, needs_at, next_at}
-use Rattle.phase_laws.specs.Agrees.{caller, LoadsHere, StoresHere}
+use Rattle.word_rule.specs.Job.{JobData, reactions}
+use Rattle.word_rule.specs.Core.{Core, full, own, element_of, enabled_in}
+use Rattle.word_rule.specs.Registers.{emit_by}
+use Rattle.word_rule.specs.Parts.{own_at, absorbed, left, with_load, with_store, value_stored}
+use Rattle.word_rule.specs.Held.{NeedsReaction, LoadIsLaid, StoreIsLaid}
+use Rattle.word_rule.specs.Rooms.{Fits}
+use Rattle.word_rule.specs.Told.{told}
+use Rattle.word_rule.proofs.Ready.{absorb_ready, after_ready}
+use Rattle.word_rule.proofs.CoreStanding.{fits_at, needs_at, next_at}
+use Rattle.word_rule.specs.Agrees.{caller, LoadsHere, StoresHere}
 use Rattle.word_rule.specs.declared.next.Next.{Next}
 use Rattle.word_rule.specs.declared.view.Knowledge.{Knowledge}
 use Rattle.word_rule.specs.declared.view.View.{View}

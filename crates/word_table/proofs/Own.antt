@@ -4,31 +4,30 @@ use Rattle.std.specs.Prelude.{slice_get, nat_lt, replicate}
 use Rattle.std.proofs.lemmas.List.{length-replicate}
 use Rattle.std.proofs.lemmas.Bool.{cases_eq}
 use Rattle.std.proofs.lemmas.Option.{same_Some}
-use Rattle.level_meaning.specs.Level.{Values, vector_at}
-use Rattle.flat_graph.specs.declared.vertex.Vertex.{Vertex}
-use Rattle.flat_graph.specs.declared.vertex.Kind.TheVariants.{Actuator}
-use Rattle.interleavings.specs.Sites.{step_at, reaction_at, place_at}
-use Rattle.interleavings.specs.System as theory
-use Rattle.interleavings.specs.System.{Micro}
-use Rattle.interleavings.specs.Sound.{AreValues, IsRightAt}
+use Rattle.executive_program.specs.declared.Vertex.{Vertex}
+use Rattle.executive_program.specs.declared.Kind.TheVariants.{Actuator}
+use Rattle.executive_program.specs.Sites.{step_at, reaction_at, place_at}
+use Rattle.executive_program.specs.System as theory
+use Rattle.executive_program.specs.System.{Micro}
+use Rattle.executive_program.specs.Sound.{AreValues, IsRightAt}
 use Rattle.executive_program.specs.declared.steps.Place.{Place}
 use Rattle.executive_program.specs.declared.steps.OnLoad.{OnLoad}
 use Rattle.executive_program.specs.declared.steps.OnStore.{OnStore}
 use Rattle.executive_program.specs.declared.steps.MicroStep.{MicroStep}
 use Rattle.executive_program.specs.declared.steps.MicroStep.TheVariants.{Take, See, Lower, Signal, Await, Advance, Load, Store}
-use Rattle.semaphore_core.specs.Job.{JobData, zero_rows, system}
 use Rattle.executive_program.specs.MicroSteps.{code}
 use Rattle.executive_program.specs.Steps.{steps}
-use Rattle.operation_desks.specs.Operation.{delay_of}
-use Rattle.operation_desks.specs.Registers.{Own, absorb_by, emit_by, after_by, after_at}
-use Rattle.semaphore_core.specs.Core.{Core, full, own, element_of, done_in}
-use Rattle.semaphore_core.specs.Told.{told, own_after, stored_value}
-use Rattle.semaphore_core.specs.Laws.{one_more}
-use Rattle.phase_laws.specs.Agrees.{IsFormed, IsMatched, Matches, Agrees, caller, row_at, LoadsHere, StoresHere}
-use Rattle.phase_laws.proofs.AgreeOwn.{IsOwn, absorb_same, emit_same, after_same}
-use Rattle.phase_laws.proofs.AgreeRuns.{full_same}
-use Rattle.phase_laws.proofs.AgreeSteps.{AtSame, matched_at, steps_matched}
-use Rattle.phase_laws.proofs.AgreeTold.{told_agrees}
+use Rattle.word_rule.specs.Job.{JobData, zero_rows, system}
+use Rattle.word_rule.specs.Operation.{delay_of}
+use Rattle.word_rule.specs.Registers.{Own, absorb_by, emit_by, after_by, after_at}
+use Rattle.word_rule.specs.Core.{Core, full, own, element_of, done_in}
+use Rattle.word_rule.specs.Told.{told, own_after, stored_value}
+use Rattle.word_rule.specs.Laws.{one_more}
+use Rattle.word_rule.specs.Agrees.{IsFormed, IsMatched, Matches, Agrees, caller, row_at, LoadsHere, StoresHere}
+use Rattle.word_rule.proofs.AgreeOwn.{IsOwn, absorb_same, emit_same, after_same}
+use Rattle.word_rule.proofs.AgreeRuns.{full_same}
+use Rattle.word_rule.proofs.AgreeSteps.{AtSame, matched_at, steps_matched}
+use Rattle.word_rule.proofs.AgreeTold.{told_agrees}
 use Rattle.word_rule.specs.declared.view.Knowledge.{Knowledge}
 use Rattle.word_rule.specs.Views.{count_in, raised}
 use Rattle.word_rule.specs.Rule.{AreTold}
@@ -36,6 +35,7 @@ use Rattle.word_rule.specs.Given.{RunsOnWords}
 use Rattle.word_table.specs.Parts.{HasOwn}
 use Rattle.word_rule.proofs.Views.{raised-same, raised-other}
 use Rattle.word_rule.proofs.Further.{shaped, tells}
+use Rattle.syn_base.specs.Vectors.{Values, vector_at}
 
 module _ (j : JobData) where
   -- of the sequences that are driven, what the driver has is what the state has

@@ -1,13 +1,13 @@
 -- Where a sequence of a driver stands, from the micro-steps that are laid out and its count.
 use Rattle.std.proofs.Common.{◌%◌, ◌≡◌, ℕ, zero, suc, ◌+◌, ◌*◌, ◌<◌, ◌≤◌, List, [], ◌∷◌, length, get_or, Option, Some, None, refl, sym, ap, arith, ◌∙◌}
-use Rattle.interleavings.specs.Sites.{step_at, reaction_at}
+use Rattle.executive_program.specs.Sites.{step_at, reaction_at}
 use Rattle.executive_program.specs.declared.expand.SeqSteps.{SeqSteps}
 use Rattle.executive_program.specs.declared.steps.MicroStep.{MicroStep}
 use Rattle.executive_program.specs.Expanded.{code_of, next_in}
 use Rattle.executive_program.specs.Steps.{steps}
-use Rattle.semaphore_core.specs.Job.{JobData}
-use Rattle.semaphore_core.specs.Core.{full}
-use Rattle.semaphore_core.proofs.Standing.{code_at, laid_out, next_at, not_past, stands_at, none_left}
+use Rattle.word_rule.specs.Job.{JobData}
+use Rattle.word_rule.specs.Core.{full}
+use Rattle.word_rule.proofs.CoreStanding.{code_at, laid_out, next_at, not_past, stands_at, none_left}
 use Rattle.word_rule.specs.declared.next.Next.{Next}
 use Rattle.word_rule.specs.Given.{IsThere}
 use Rattle.word_rule.specs.Views.{count_in}

@@ -1,11 +1,11 @@
 -- Where words stand, as the fabric keeps it.
 use Rattle.std.proofs.Common.{◌≡◌, ℕ, zero, suc, ◌+◌, ◌*◌, ◌<◌, List, [], ◌∷◌, map, take, length, sum, get_or, drop, ◌++◌, ◌≤◌, append_assoc, ℤ, refl, sym, ap, arith, ◌∙◌}
 use Rattle.std.proofs.lemmas.List.{append-nil, drop_more, at_drop_all}
+use Rattle.executive_program.proofs.KindLens.{sum-cons}
 use Rattle.executive_program.specs.declared.steps.Place.{Place}
-use Rattle.semaphore_core.specs.Core.{home_of, slot_of, opening}
 use Rattle.word_table.specs.declared.fabric_parts.FabricParts.{FabricParts}
-use Rattle.flat_graph.proofs.KindLens.{sum-cons}
-use Rattle.semaphore_core.specs.Job.{JobData}
+use Rattle.word_rule.specs.Core.{home_of, slot_of, opening}
+use Rattle.word_rule.specs.Job.{JobData}
 use Rattle.word_rule.specs.Words.{element_word, elements_start, element_lens, table_len}
 use Rattle.word_table.specs.Weaving.{starts_from, end_from}
 use Rattle.word_rule.specs.Given.{IsHere}

@@ -4,12 +4,12 @@ use Rattle.std.specs.Prelude.{slice_get}
 use Rattle.std.proofs.lemmas.Bool.{cases_eq}
 use Rattle.std.proofs.lemmas.Option.{same_Some, slice_get_within, slice_get_read}
 use Rattle.syn_base.specs.Rows.{Reactions}
-use Rattle.flat_graph.specs.declared.vertex.Kind.TheVariants.{Actuator}
-use Rattle.flat_graph.specs.declared.vertex.Vertex.{Vertex}
-use Rattle.flat_graph.specs.Valid.{is_flat}
-use Rattle.semaphore_core.specs.Job.{JobData}
-use Rattle.phase_laws.specs.Agrees.{row_at}
-use Rattle.phase_laws.proofs.AgreeDelays.{same_actuator}
+use Rattle.executive_program.specs.declared.Kind.TheVariants.{Actuator}
+use Rattle.executive_program.specs.declared.Vertex.{Vertex}
+use Rattle.executive_program.specs.FlatValid.{is_flat}
+use Rattle.word_rule.specs.Job.{JobData}
+use Rattle.word_rule.specs.Agrees.{row_at}
+use Rattle.word_rule.proofs.AgreeDelays.{same_actuator}
 use Rattle.word_table.specs.Ends.{AreWide, TakesRow, TakesRows}
 
 same_number : (a b : ℕ) → Actuator a ≡ Actuator b → a ≡ b

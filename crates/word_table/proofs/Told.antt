@@ -3,10 +3,10 @@ use Rattle.std.proofs.Common.{◌≡◌, ℕ, ◌%◌, ◌<◌, Bool, true, fals
 use Rattle.std.proofs.lemmas.Bool.{lt-ltb, le-ltb}
 use Rattle.executive_program.specs.declared.steps.MicroStep.{MicroStep}
 use Rattle.atomic_table.specs.Seated.{TableId}
-use Rattle.semaphore_core.specs.Job.{JobData}
-use Rattle.semaphore_core.specs.Core.{Core, full, next, enabled_in, AreReached}
-use Rattle.semaphore_core.specs.Told.{told}
-use Rattle.phase_laws.specs.Agrees.{caller}
+use Rattle.word_rule.specs.Job.{JobData}
+use Rattle.word_rule.specs.Core.{Core, full, next, enabled_in, AreReached}
+use Rattle.word_rule.specs.Told.{told}
+use Rattle.word_rule.specs.Agrees.{caller}
 use Rattle.word_rule.specs.declared.view.Knowledge.{Knowledge}
 use Rattle.word_rule.specs.Given.{RunsOnWords}
 use Rattle.word_rule.specs.Words.{word_at, table_of}

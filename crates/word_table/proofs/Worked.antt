@@ -2,7 +2,7 @@
 use Rattle.std.proofs.Common.{◌≡◌, ℕ, zero, suc, List, [], ◌∷◌, None, refl, arith}
 use Rattle.atomic_table.specs.Seated.{TableId}
 use Rattle.executive_program.specs.declared.program.SeqCode.{SeqCode}
-use Rattle.semaphore_core.specs.Job.{JobData}
+use Rattle.word_rule.specs.Job.{JobData}
 use Rattle.word_table.specs.Answers.{DrivesEvery}
 use Rattle.word_table.specs.Driver.{DriverData}
 

@@ -15,14 +15,14 @@ use Rattle.std.specs.Prelude.{
   None,
   slice_index_or,
 }
-use Rattle.interleavings.specs.Sites.{step_at, reaction_at}
+use Rattle.executive_program.specs.Sites.{step_at, reaction_at}
 use Rattle.executive_program.specs.declared.steps.MicroStep.{MicroStep}
 use Rattle.executive_program.specs.declared.steps.MicroStep.TheVariants.{Take, See, Await}
 use Rattle.executive_program.specs.Steps.{steps}
-use Rattle.semaphore_core.specs.Job.{JobData}
-use Rattle.semaphore_core.specs.Core.{Core, full, next, reaction, enabled_in, AreReached}
-use Rattle.semaphore_core.specs.Laws.{one_more}
-use Rattle.semaphore_core.specs.Told.{told}
+use Rattle.word_rule.specs.Job.{JobData}
+use Rattle.word_rule.specs.Core.{Core, full, next, reaction, enabled_in, AreReached}
+use Rattle.word_rule.specs.Laws.{one_more}
+use Rattle.word_rule.specs.Told.{told}
 use Rattle.word_rule.specs.Words.{word_at, table_of}
 use Rattle.word_rule.specs.Given.{enables}
 use Rattle.word_table.specs.declared.answer.MicroAnswer.{MicroAnswer}

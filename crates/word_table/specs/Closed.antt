@@ -1,14 +1,14 @@
 -- What is left of a fabric that was closed.
 use Rattle.std.specs.Prelude.{◌≡◌, ℕ, List}
 use Rattle.syn_base.specs.Rows.{Reactions}
-use Rattle.level_meaning.specs.Level.{Values}
-use Rattle.semaphore_core.specs.Job.{JobData}
-use Rattle.operation_desks.specs.RowLens.{actuator_lens}
-use Rattle.semaphore_core.specs.Core.{AreReached}
-use Rattle.semaphore_core.specs.Told.{told}
-use Rattle.phase_laws.specs.Ended.{last_cells, all_acts}
+use Rattle.word_rule.specs.Job.{JobData}
+use Rattle.word_rule.specs.Core.{AreReached}
+use Rattle.word_rule.specs.Told.{told}
+use Rattle.word_rule.specs.Ended.{last_cells, all_acts}
 use Rattle.word_rule.specs.Driven.{Driven, driven_by}
 use Rattle.word_table.specs.Driver.{FabricData, DriverData, AreFinished}
+use Rattle.syn_base.specs.Vectors.{Values}
+use Rattle.executive_program.specs.FlatLaws.{actuator_lens}
 
 -- the rows of the actuators, and the cells of the delays
 pub record ClosedData : Type 0 where

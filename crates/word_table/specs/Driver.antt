@@ -19,15 +19,15 @@ use Rattle.std.specs.Prelude.{
 }
 use Rattle.std.specs.Coded.{Coded, code_by, coded×, coded_ℕ, coded_ℤ, coded_list}
 use Rattle.std.specs.List.{range_with_len}
-use Rattle.level_meaning.specs.Level.{Values, vector_at}
-use Rattle.flat_graph.specs.declared.vertex.Vertex.{Vertex}
-use Rattle.flat_graph.specs.declared.vertex.Kind.TheVariants.{Actuator}
 use Rattle.atomic_table.specs.Seated.{TableId, table_id_coded}
-use Rattle.operation_desks.specs.Operation.{delay_of}
-use Rattle.semaphore_core.specs.Job.{JobData}
-use Rattle.semaphore_core.specs.Core.{Core, full, AreReached}
-use Rattle.semaphore_core.specs.Told.{told}
-use Rattle.phase_laws.specs.Agrees.{caller, row_at}
+use Rattle.syn_base.specs.Vectors.{Values, vector_at}
+use Rattle.executive_program.specs.declared.Vertex.{Vertex}
+use Rattle.executive_program.specs.declared.Kind.TheVariants.{Actuator}
+use Rattle.word_rule.specs.Operation.{delay_of}
+use Rattle.word_rule.specs.Job.{JobData}
+use Rattle.word_rule.specs.Core.{Core, full, AreReached}
+use Rattle.word_rule.specs.Told.{told}
+use Rattle.word_rule.specs.Agrees.{caller, row_at}
 
 -- which table it is, the job whose words it has, and in how many groups its sequences are driven
 pub record FabricData : Type 0 where

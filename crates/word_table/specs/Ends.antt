@@ -17,15 +17,14 @@ use Rattle.std.specs.Prelude.{
 }
 use Rattle.atomic_table.specs.Seated.{TableId}
 use Rattle.syn_base.specs.Rows.{Reactions}
-use Rattle.level_meaning.specs.Level.{Values, vector_at}
-use Rattle.flat_graph.specs.declared.vertex.Vertex.{Vertex}
-use Rattle.flat_graph.specs.declared.vertex.Kind.TheVariants.{Actuator}
-use Rattle.semaphore_core.specs.Job.{JobData, reactions}
-use Rattle.operation_desks.specs.RowLens.{actuator_lens}
-use Rattle.semaphore_core.specs.Held.{HasRow}
-use Rattle.operation_desks.specs.Operation.{delay_of}
-use Rattle.semaphore_core.specs.Told.{own_after}
-use Rattle.phase_laws.specs.Agrees.{caller, row_at}
+use Rattle.executive_program.specs.declared.Vertex.{Vertex}
+use Rattle.executive_program.specs.declared.Kind.TheVariants.{Actuator}
+use Rattle.executive_program.specs.FlatLaws.{actuator_lens}
+use Rattle.word_rule.specs.Job.{JobData, reactions}
+use Rattle.word_rule.specs.Held.{HasRow}
+use Rattle.word_rule.specs.Operation.{delay_of}
+use Rattle.word_rule.specs.Told.{own_after}
+use Rattle.word_rule.specs.Agrees.{caller, row_at}
 use Rattle.word_rule.specs.declared.view.View.{View}
 use Rattle.word_rule.specs.Table.{SeatData}
 use Rattle.word_rule.specs.Steps.{with_seat}
@@ -35,6 +34,7 @@ use Rattle.word_table.specs.declared.remains.Remains.{Remains}
 use Rattle.word_table.specs.declared.driver_parts.DriverParts.{DriverParts}
 use Rattle.word_table.specs.declared.fabric_parts.FabricParts.{FabricParts}
 use Rattle.word_table.specs.Owners.{owners}
+use Rattle.syn_base.specs.Vectors.{Values, vector_at}
 
 -- After the counts of others were taken over for a group: those of its sequences are theirs, and all else is as it was.
 pub record TakesCounts (old new others : List ℕ) (groups group : ℕ) : Type 0 where

@@ -1,7 +1,7 @@
 -- The sequences that call the delays.
 use Rattle.std.specs.Prelude.{ℕ, cond, List, [], ◌∷◌}
-use Rattle.flat_graph.specs.declared.vertex.Vertex.{Vertex}
-use Rattle.flat_graph.specs.Meaning.{is_get}
+use Rattle.executive_program.specs.declared.Vertex.{Vertex}
+use Rattle.executive_program.specs.Meaning.{is_get}
 
 -- the callers of the get halves, in order
 abbrev pub owners : List ℕ → List Vertex → List ℕ

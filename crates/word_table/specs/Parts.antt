@@ -20,21 +20,20 @@ use Rattle.std.specs.Prelude.{
   slice_set,
   ℤ,
 }
-use Rattle.level_meaning.specs.Level.{Values, vector_at}
-use Rattle.flat_graph.specs.declared.vertex.Vertex.{Vertex}
-use Rattle.flat_graph.specs.declared.vertex.Kind.TheVariants.{Actuator}
 use Rattle.atomic_table.specs.Seated.{TableId}
-use Rattle.interleavings.specs.Sites.{step_at, reaction_at}
+use Rattle.executive_program.specs.declared.Vertex.{Vertex}
+use Rattle.executive_program.specs.declared.Kind.TheVariants.{Actuator}
+use Rattle.executive_program.specs.Sites.{step_at, reaction_at}
+use Rattle.executive_program.specs.FlatLaws.{actuator_lens}
 use Rattle.executive_program.specs.Expanded.{AreSteps}
 use Rattle.executive_program.specs.Steps.{steps}
-use Rattle.semaphore_core.specs.Job.{JobData, zero_rows}
-use Rattle.operation_desks.specs.RowLens.{actuator_lens}
-use Rattle.semaphore_core.specs.Core.{full, AreReached}
-use Rattle.semaphore_core.specs.Held.{AreReady, IsLaid}
-use Rattle.operation_desks.specs.Rooms.{Fits}
-use Rattle.operation_desks.specs.Operation.{delay_of}
-use Rattle.semaphore_core.specs.Told.{own_after}
-use Rattle.phase_laws.specs.Agrees.{caller, row_at}
+use Rattle.word_rule.specs.Job.{JobData, zero_rows}
+use Rattle.word_rule.specs.Core.{full, AreReached}
+use Rattle.word_rule.specs.Held.{AreReady, IsLaid}
+use Rattle.word_rule.specs.Rooms.{Fits}
+use Rattle.word_rule.specs.Operation.{delay_of}
+use Rattle.word_rule.specs.Told.{own_after}
+use Rattle.word_rule.specs.Agrees.{caller, row_at}
 use Rattle.word_rule.specs.declared.next.Next.{Next}
 use Rattle.word_rule.specs.declared.view.Knowledge.{Knowledge}
 use Rattle.word_rule.specs.declared.view.View.{View}
@@ -49,6 +48,7 @@ use Rattle.word_table.specs.declared.driver_parts.DriverParts.{DriverParts}
 use Rattle.word_table.specs.declared.fabric_parts.FabricParts.{FabricParts}
 use Rattle.word_table.specs.Driver.{FabricData, Look, DriverData}
 use Rattle.word_table.specs.Owners.{owners}
+use Rattle.syn_base.specs.Vectors.{Values, vector_at}
 
 module _ (j : JobData) where
   -- The registers of each sequence that is driven, and the cells and rows of

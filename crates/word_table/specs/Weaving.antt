@@ -1,6 +1,6 @@
 -- A fabric and its drivers, when they are made.
 use Rattle.std.specs.Prelude.{◌≡◌, ℕ, suc, ◌+◌, ◌<◌, ◌≤◌, ◌%◌, List, [], ◌∷◌, length, Some, ℤ}
-use Rattle.semaphore_core.specs.Job.{JobData}
+use Rattle.word_rule.specs.Job.{JobData}
 use Rattle.word_rule.specs.declared.view.Knowledge.{Knowledge}
 use Rattle.word_rule.specs.declared.view.View.{View}
 use Rattle.word_rule.specs.declared.view.View.TheVariants.{Spent, Holds}

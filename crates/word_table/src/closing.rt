@@ -1,7 +1,7 @@
 //! The end of a fabric, for `Fabric::close`: what its drivers have of their own is gathered.
 ghost use Rattle.std.specs.Prelude.{◌≡◌, ◌<◌, ◌+◌, ◌%◌, ℕ, length, map, min, slice_index_or, sum};
 ghost use Rattle.std.specs.Option.{ForSome};
-ghost use Rattle.semaphore_core.specs.Held.{HasRow};
+ghost use Rattle.word_rule.specs.Held.{HasRow};
 ghost use Rattle.word_rule.specs.Driven.{closed, last_number};
 ghost use Rattle.word_table.specs.Closed.{IsClosedAt, EndsWhole};
 ghost use Rattle.word_table.specs.Driver.{AreDrivers, counts_of};
@@ -14,11 +14,9 @@ use crate::driver_parts::DriverParts;
 use crate::fabric::{Driver, Fabric};
 use crate::fabric_parts::FabricParts;
 use crate::remains::Remains;
-use flat_graph::Kind;
-use phase_laws::full_is_ended;
-use semaphore_core::{Job, put_row};
+use executive_program::Kind;
 use syn_base::{ActRows, Items};
-use word_rule::{WordSeat, WordTable};
+use word_rule::{Job, WordSeat, WordTable, full_is_ended, put_row};
 
 /// The counts of a group's sequences are taken over.
 fn take_counts(counts: &mut Vec<u64>, others: &[u64], groups: u32, group: u32)

@@ -1,8 +1,7 @@
 //! What a driver keeps: its seat on the table, the counts of its sequences, and what these have of their own.
 ghost use Rattle.std.specs.Prelude.{◌≡◌, ◌<◌, ◌+◌, ◌^◌, length, slice_index_or, slice_set};
 
-use semaphore_core::{Job, OwnParts};
-use word_rule::WordSeat;
+use word_rule::{Job, OwnParts, WordSeat};
 
 /// What a `Driver` keeps, for the steps of `FabricParts`, whose contracts speak of the single fields.
 #[derive(Drop)]

@@ -1,6 +1,6 @@
 //! A fabric and its drivers, kept whole: what callers see of `FabricParts` and `DriverParts`.
 ghost use Rattle.std.specs.Prelude.{◌≡◌, ◌<◌, ◌%◌, IfNone, IfSome, length, slice_index_or};
-ghost use Rattle.semaphore_core.specs.Core.{full};
+ghost use Rattle.word_rule.specs.Core.{full};
 ghost use Rattle.word_table.specs.Answers.{Answers, AnswersAlone, DrivesEvery};
 ghost use Rattle.word_table.specs.Driver.{IsTold};
 
@@ -20,9 +20,9 @@ pub struct Fabric<'a> {
 
 impl<'a> Model for Fabric<'a> {
     ghost use Rattle.std.specs.Coded.{codes};
-    ghost use Rattle.body_lang.specs.Code.{expr_code};
-    ghost use Rattle.flat_graph.specs.Graph.{graph_code};
-    ghost use Rattle.semaphore_core.specs.Job.{job_code};
+    ghost use Rattle.executive_program.specs.BodyCode.{expr_code};
+    ghost use Rattle.executive_program.specs.Graph.{graph_code};
+    ghost use Rattle.word_rule.specs.Job.{job_code};
     ghost use Rattle.word_table.specs.Driver.{FabricData, fabric_code};
 
     ghost Value = { FabricData };
@@ -49,9 +49,9 @@ pub struct Driver<'a> {
 
 impl<'a> Model for Driver<'a> {
     ghost use Rattle.std.specs.Coded.{codes};
-    ghost use Rattle.body_lang.specs.Code.{expr_code};
-    ghost use Rattle.flat_graph.specs.Graph.{graph_code};
-    ghost use Rattle.semaphore_core.specs.Job.{job_code};
+    ghost use Rattle.executive_program.specs.BodyCode.{expr_code};
+    ghost use Rattle.executive_program.specs.Graph.{graph_code};
+    ghost use Rattle.word_rule.specs.Job.{job_code};
     ghost use Rattle.word_table.specs.Driver.{DriverData, driver_code};
 
     ghost Value = { DriverData };

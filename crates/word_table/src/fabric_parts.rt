@@ -1,7 +1,7 @@
 //! What a fabric keeps: the table of a job and its micro-steps laid out; and one micro-step of a driver on it.
 ghost use Rattle.std.specs.Prelude.{◌≡◌, ◌+◌, ◌*◌, ◌<◌, ◌%◌, ◌⊎◌, IfNone, IfSome, true, false, length, slice_index_or};
-ghost use Rattle.semaphore_core.specs.Core.{full};
 ghost use Rattle.executive_program.specs.declared.steps.MicroStep.TheVariants.{Load, Store};
+ghost use Rattle.word_rule.specs.Core.{full};
 ghost use Rattle.word_rule.specs.Given.{IsThere, IsHere, IsTake, Waits, AddsOne, IsLower, enables};
 ghost use Rattle.word_rule.specs.Words.{word_at, element_word};
 ghost use Rattle.word_table.specs.Answers.{Answers, Steps, Misses};
@@ -12,8 +12,7 @@ use crate::driver_parts::{DriverParts, count_up};
 use crate::loop_place::{Due, LoopPlace};
 use crate::remains::Remains;
 use executive_program::{MicroStep, OnLoad, OnStore, Place, SeqSteps};
-use semaphore_core::{Job, home, slot, turn_reached};
-use word_rule::{Next, WordTable};
+use word_rule::{Job, Next, WordTable, home, slot, turn_reached};
 
 /// What a `Fabric` keeps.
 #[derive(Drop)]

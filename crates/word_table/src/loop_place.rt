@@ -1,6 +1,6 @@
 //! Where a sequence is in its loop, kept beside its count, so that its next micro-step is found without a division.
 ghost use Rattle.std.specs.Prelude.{◌≡◌, ◌<◌, ◌/◌, ◌%◌, true, slice_get};
-ghost use Rattle.interleavings.specs.Sites.{reaction_at};
+ghost use Rattle.executive_program.specs.Sites.{reaction_at};
 ghost use Rattle.executive_program.specs.Expanded.{code_of, next_in};
 
 use executive_program::{MicroStep, SeqSteps};

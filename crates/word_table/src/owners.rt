@@ -4,8 +4,7 @@ ghost use Rattle.std.specs.List.{list_any};
 ghost use Rattle.executive_program.specs.Places.{calls, caller_of};
 ghost use Rattle.word_table.specs.Owners.{owners};
 
-use executive_program::{Instr, Program};
-use flat_graph::{Kind, Vertex};
+use executive_program::{Instr, Kind, Program, Vertex};
 use std::alloc::Global;
 use syn_base::{OutOfMemory, to_u32};
 

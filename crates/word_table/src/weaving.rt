@@ -1,13 +1,13 @@
 //! The making of a fabric with its drivers.
 ghost use Rattle.std.specs.Prelude.{◌≡◌, ℕ, ◌<◌, ◌≤◌, ◌+◌, ◌^◌, length, map, slice_index_or, IfOk};
-ghost use Rattle.operation_desks.specs.RowLens.{actuator_lens};
-ghost use Rattle.semaphore_core.specs.Job.{zero_rows};
+ghost use Rattle.word_rule.specs.Job.{zero_rows};
 ghost use Rattle.word_rule.specs.Views.{first_view};
 ghost use Rattle.word_rule.specs.Given.{RunsOnWords};
 ghost use Rattle.word_rule.specs.Words.{element_lens, elements_start, table_len, turn_word};
 ghost use Rattle.word_table.specs.Driver.{AreDrivers, AreNew};
 ghost use Rattle.word_table.specs.Parts.{AreLaid, AreFabricParts, fabric_view};
 ghost use Rattle.word_table.specs.Weaving.{DrivesGroup, IsLeft, IsGroup, IsFirst, AreFirst, starts_from, end_from};
+ghost use Rattle.executive_program.specs.FlatLaws.{actuator_lens};
 
 use crate::driver_parts::DriverParts;
 use crate::fabric::{Driver, Fabric};
@@ -16,10 +16,11 @@ use crate::loop_place::LoopPlace;
 use crate::owners::{called_in, callers_of, cell_owners};
 use crate::remains::Remains;
 use executive_program::micro_steps_of;
-use semaphore_core::{Job, OwnParts, cells_and_rows, words_of, zero_elements};
 use std::alloc::Global;
 use syn_base::{ActRows, Items, OutOfMemory, to_u32};
-use word_rule::{WordSeat, WordTable, job_runs_on_words};
+use word_rule::{
+    Job, OwnParts, WordSeat, WordTable, cells_and_rows, job_runs_on_words, words_of, zero_elements,
+};
 
 /// The opening cells of a job's delays, and rows of zeros of all its actuators, as the end of a fabric keeps them.
 fn cells_of(alloc: Global, job: &Job) -> Result<(Vec<Items<i64>>, ActRows), OutOfMemory>

@@ -1,8 +1,7 @@
 //! Graphs: what is no flat graph and no architecture, each beside what is one (`flat_graph`, `archi_graph`).
 
 use crate::lists::{one, three, two};
-use archi_graph::{Medium, is_archi};
-use flat_graph::{Kind, Source, Vertex, is_flat};
+use sequence_build_laws::{Kind, Medium, Source, Vertex, is_archi, is_flat};
 use std::alloc::Global;
 use std::test::Fail;
 use syn_base::{Items, Name};

@@ -1,9 +1,8 @@
 //! Schedules: decisions one by one, and those of the pressure run.
 use crate::stages::{find_schedule, two_operators};
 use comm_routing::Draft;
-use flat_graph::Source;
-use route_table::routes_of;
-use schedule::{Decision, Transfer};
+use pressure_heuristic::routes_of;
+use sequence_build_laws::{Decision, Source, Transfer};
 use std::process::Abort;
 use std::test::Fail;
 

@@ -1,8 +1,8 @@
 //! The check of the program of a schedule.
 use crate::stages::{Site, build_program, find_schedule, two_operators};
-use executive_program::Program;
 use macro_check::{loops_are_short, macro_check};
 use order_check::is_order;
+use sequence_build_laws::Program;
 use std::alloc::Global;
 use std::test::Fail;
 

@@ -1,5 +1,5 @@
 //! References: long chains of them, whose depths are found in time in proportion to the links (`reference_graph`).
-use reference_graph::{Depths, are_inside, depths_of};
+use algo_laws::{Depths, are_inside, depths_of};
 use std::alloc::Global;
 use std::process::Abort;
 use std::test::Fail;

@@ -1,7 +1,7 @@
 //! Routes and their levels.
 use crate::stages::read_architecture;
-use archi_graph::Hop;
-use route_table::{Routes, routes_of};
+use pressure_heuristic::{Routes, routes_of};
+use sequence_build_laws::Hop;
 use std::alloc::Global;
 use std::process::Abort;
 use std::test::Fail;

@@ -1,14 +1,13 @@
 //! Schedules: what is none, beside what is one (`schedule`), and the halves of a delay (`durations`).
 ghost use Rattle.std.specs.Prelude.{IfOk, length};
-ghost use Rattle.durations.specs.Lines.{AreDurations};
+ghost use Rattle.sequence_build_laws.specs.DurationLines.{AreDurations};
 
 use crate::graphs::{alone, bus, delayed, operations, operators};
 use crate::lists::{one, two};
-use archi_defs::ArchiText;
-use archi_graph::{Archi, is_archi};
-use durations::{Durations, durations_of};
-use flat_graph::{Flat, Source, Vertex, is_flat};
-use schedule::{Decision, Schedule, Transfer, is_valid};
+use sequence_build_laws::{
+    Archi, ArchiText, Decision, Durations, Flat, Schedule, Source, Transfer, Vertex, durations_of,
+    is_archi, is_flat, is_valid,
+};
 use std::alloc::Global;
 use std::process::Abort;
 use std::test::Fail;

@@ -1,12 +1,12 @@
 //! Shelves and sinks in memory: whole reads and writes, as far as the program shows nothing of them (`outside`).
 use crate::lists::one;
-use outside::{
-    File, Files, Gate, GateFree, ReadAnswer, Shelf, ShelfMem, ShelfSure, SinkSure, read_whole,
-    write_whole,
-};
 use std::alloc::Global;
 use std::test::Fail;
 use syn_base::{Items, OutOfMemory};
+use worked_parts::{
+    File, Files, Gate, GateFree, ReadAnswer, Shelf, ShelfMem, ShelfSure, SinkSure, read_whole,
+    write_whole,
+};
 
 /// The one file `a`.
 fn one_file(alloc: Global) -> Result<Files, OutOfMemory> {

@@ -1,33 +1,31 @@
 //! The stages of the pipeline, each from the one before it, which the tests begin with.
 ghost use Rattle.std.specs.Prelude.{◌≡◌, ◌≤◌, IfOk, IsTrue, length};
 ghost use Rattle.algo_print.specs.Canonical.{ArePrintable};
-ghost use Rattle.algo_rules.specs.WellRead.{AreWellRead};
-ghost use Rattle.durations.specs.Fitting.{IsOf};
-ghost use Rattle.durations.specs.Lines.{AreDurations};
-ghost use Rattle.durations.specs.Table.{entry_in};
-ghost use Rattle.algo_tree.specs.Bounded.{HasBounds};
-ghost use Rattle.algo_tree.specs.Named.{HasNames};
+ghost use Rattle.algo_laws.specs.WellRead.{AreWellRead};
+ghost use Rattle.algo_laws.specs.Bounded.{HasBounds};
+ghost use Rattle.algo_laws.specs.Named.{HasNames};
 ghost use Rattle.elaboration.specs.Stand.{HavePeriods};
-ghost use Rattle.schedule.specs.Valid.{is_valid};
+ghost use Rattle.sequence_build_laws.specs.Fitting.{IsOf};
+ghost use Rattle.sequence_build_laws.specs.DurationLines.{AreDurations};
+ghost use Rattle.sequence_build_laws.specs.Table.{entry_in};
+ghost use Rattle.sequence_build_laws.specs.ScheduleValid.{is_valid};
 ghost use Rattle.sequence_build_laws.specs.Built.{program_of};
 ghost use Rattle.syn_base.specs.Limits.{most_in_text};
 
 use crate::texts::ARCHITECTURE;
-use algo_laws::{accepted_are_few, accepted_are_well_read, accepted_have_periods};
+use algo_laws::{
+    AlgoError, Defs, Tree, accepted_are_few, accepted_are_well_read, accepted_have_periods,
+};
 use algo_print::canonical_text_reads_back;
 use algo_reader::read_algo;
-use algo_text::{AlgoError, Defs};
-use algo_tree::Tree;
-use archi_defs::{ArchiError, ArchiText};
 use archi_reader::read_archi;
-use durations::{Durations, accepted_are_durations, durations_of};
 use elaboration::elaborate;
-use executive_program::Program;
-use flat_graph::Flat;
 use hierarchy::flatten;
 use pressure_heuristic::adequation;
-use schedule::Schedule;
 use sequence_build::{BuildError, build};
+use sequence_build_laws::{
+    ArchiError, ArchiText, Durations, Flat, Program, Schedule, accepted_are_durations, durations_of,
+};
 use std::alloc::Global;
 use std::process::Abort;
 use std::test::Fail;

@@ -3,15 +3,14 @@
 use crate::texts::Worked;
 use crate::two_operators::texts;
 use executive_run::{prepare, run_alone};
-use outside::Gate;
+use phase_laws::Job;
 use progress_laws::steps_in_all;
-use semaphore_core::Job;
 use std::alloc::Global;
 use std::process::Abort;
 use std::test::Fail;
 use syn_base::OutOfMemory;
 use word_table::Driven;
-use worked_parts::{Counting, Holding, Meeting, values_of};
+use worked_parts::{Counting, Gate, Holding, Meeting, values_of};
 
 /// Whether this is what was driven of the program for two operators in three reactions.
 fn is_driven_so(driven: &Driven, steps: u64) -> bool {

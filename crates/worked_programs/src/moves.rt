@@ -1,7 +1,7 @@
 //! Moves of a program: which sequences are tried, one after another from its opening state, and what that comes to.
 use crate::texts::{Texts, Worked, numbers};
 use crate::{states, words};
-use semaphore_core::Job;
+use phase_laws::Job;
 use std::alloc::Global;
 use std::process::Abort;
 use std::test::Fail;

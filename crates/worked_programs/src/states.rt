@@ -1,11 +1,10 @@
 //! Moves of a job as a state: what its sequences answer, which one can go on, and what the actuators hold.
 //! `moves` calls it.
-ghost use Rattle.semaphore_core.specs.Held.{IsOpened};
+ghost use Rattle.phase_laws.specs.Held.{IsOpened};
 
 use crate::moves::{Moves, number_of};
-use phase_laws::run_fresh;
+use phase_laws::{Job, State, StepAnswer, run_fresh, try_step};
 use progress_laws::first_enabled;
-use semaphore_core::{Job, State, StepAnswer, try_step};
 use std::alloc::Global;
 use syn_base::OutOfMemory;
 use worked_parts::values_of;

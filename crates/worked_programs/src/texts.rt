@@ -1,24 +1,20 @@
 //! The texts of a program and what it runs on: the flat graph of an algorithm, an architecture, macro-code and rows.
 //! The programs here are read by it.
 ghost use Rattle.std.specs.Prelude.{◌≡◌, ◌≤◌, IfOk, length, sum};
-ghost use Rattle.flat_graph.specs.Laws.{sensor_lens};
-ghost use Rattle.algo_tree.specs.Bounded.{HasBounds};
-ghost use Rattle.algo_tree.specs.Named.{HasNames};
+ghost use Rattle.algo_laws.specs.Bounded.{HasBounds};
+ghost use Rattle.algo_laws.specs.Named.{HasNames};
+ghost use Rattle.executive_program.specs.FlatLaws.{sensor_lens};
 
 use crate::moves::number_of;
-use algo_laws::{accepted_are_few, accepted_are_well_read};
+use algo_laws::{AlgoError, Tree, accepted_are_few, accepted_are_well_read};
 use algo_reader::read_algo;
 use algo_resolve::resolve;
-use algo_text::AlgoError;
-use algo_tree::Tree;
-use archi_graph::Archi;
 use archi_reader::{ArchiText, read_archi};
 use code_reader::read_code;
-use executive_program::Program;
-use flat_graph::Flat;
+use executive_program::{Archi, Flat, Program};
 use hierarchy::flatten;
 use order_check::is_order;
-use semaphore_core::{Job, opening_of, sensor_lens};
+use phase_laws::{Job, opening_of, sensor_lens};
 use std::alloc::Global;
 use std::process::Abort;
 use std::test::Fail;

@@ -3,7 +3,7 @@ ghost use Rattle.std.specs.Prelude.{◌≡◌};
 ghost use Rattle.word_table.specs.Driver.{AreDrivers};
 
 use crate::moves::{Moves, number_of};
-use semaphore_core::Job;
+use phase_laws::Job;
 use std::alloc::Global;
 use syn_base::OutOfMemory;
 use word_table::{Driver, Fabric, MicroAnswer, weave};

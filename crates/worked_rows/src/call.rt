@@ -8,7 +8,6 @@ use crate::gate::CallGate;
 use crate::shelf::PacedShelf;
 use crate::spoilt::call_spoilt;
 use lab_program::syndex_lab;
-use outside::{ShelfMem, SinkMem};
 use std::alloc::{AllocError, Global};
 use std::io::Write;
 use std::rt::Files;
@@ -18,6 +17,7 @@ use std::{io, str};
 use syn_base::Items;
 use syndex_program::{plain_command, syndex};
 use word_table::Driven;
+use worked_parts::{ShelfMem, SinkMem};
 
 /// What a call reads and writes, and what it drives.
 #[derive(Drop)]

@@ -2,8 +2,8 @@
 
 use crate::script::{Condition, GateKind};
 use crate::shelf::Pace;
-use outside::SinkMem;
 use std::alloc::{AllocError, Global};
+use worked_parts::SinkMem;
 
 /// The most bytes of an output, where a script says nothing else.
 const ROOM: usize = 1_048_576;

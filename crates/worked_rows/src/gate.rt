@@ -1,9 +1,8 @@
 //! The gate of a call, and what it has seen. `call` makes it.
 
 use crate::script::GateKind;
-use outside::{Gate, GateFree};
 use std::io;
-use worked_parts::{Counting, Holding, Meeting};
+use worked_parts::{Counting, Gate, GateFree, Holding, Meeting};
 
 /// What is asked before each step of a call: one type for all kinds of gates, so that the program is made for one.
 #[derive(Drop)]

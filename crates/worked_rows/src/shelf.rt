@@ -1,5 +1,5 @@
 //! The shelf of a call, which gives all that it is asked for, or byte by byte. `call` reads from it.
-use outside::{Failed, File, Shelf, ShelfMem};
+use worked_parts::{Failed, File, Shelf, ShelfMem};
 
 /// How much a call on a shelf gives at most.
 #[derive(Clone, Copy, Debug, PartialEq, Eq)]
@@ -18,7 +18,7 @@ pub struct PacedShelf {
 }
 
 impl Shelf for PacedShelf {
-    ghost use Rattle.outside.specs.ShelfMemory.{memory_held};
+    ghost use Rattle.worked_parts.specs.ShelfMemory.{memory_held};
 
     ghost held = { λ s. memory_held s.files };
 

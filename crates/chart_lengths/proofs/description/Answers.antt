@@ -3,7 +3,7 @@ use Rattle.std.specs.Prelude.{IfOk}
 use Rattle.syn_base.specs.Bytes.{Bytes}
 use Rattle.archi_defs.specs.Text.{described_by, description_of}
 use Rattle.archi_defs.specs.declared.text.ArchiText.{ArchiText}
-use Rattle.archi_defs.specs.declared.fault.ArchiError.{ArchiError}
+use Rattle.archi_defs.specs.Refusals.{ArchiError}
 use Rattle.archi_reader.specs.Given.{Gives}
 use Rattle.durations.specs.Accepted.{AcceptedAreDurations}
 use Rattle.durations.specs.Lines.{AreDurations}

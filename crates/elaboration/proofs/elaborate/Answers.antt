@@ -1,10 +1,10 @@
 use Rattle.std.proofs.Common.{◌≡◌, ◌==◌, List, length, Ok, ap, sym, subst, ◌∙◌}
-use Rattle.algo_tree.specs.Size.{is_large}
-use Rattle.algo_tree.specs.Meaning.{vertices_in}
 use Rattle.multi_period.specs.declared.mark.Mark.{Mark}
 use Rattle.multi_period.specs.Marks.{mark_at, MayHaveMarks}
 use Rattle.multi_period.specs.Named.{AreNamed}
 use Rattle.multi_period.specs.Within.{made_within}
+use Rattle.algo_laws.specs.Size.{is_large}
+use Rattle.algo_laws.specs.Meaning.{vertices_in}
 use Rattle.algo_resolve.proofs.Within.{few_made}
 use Rattle.elaboration.proofs.Bounded.{made_stays, made_stops, resolved, unmarked_stays}
 use Rattle.elaboration.proofs.Resolved.{not_refused}

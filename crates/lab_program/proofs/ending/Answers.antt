@@ -1,17 +1,16 @@
 use Rattle.std.proofs.Common.{map, Err, Option, inl, refl, subst, sym}
 use Rattle.std.specs.Prelude.{None, Some}
 use Rattle.std.specs.String.{string_bytes}
-use Rattle.command_plan.specs.Ending.{no_memory, refused}
-use Rattle.command_plan.specs.Run.{refuses}
-use Rattle.command_plan.proofs.Makes.{memory}
-use Rattle.command_status.specs.Status.{ending_of, usage}
+use Rattle.top_plans.specs.Ending.{no_memory, refused}
+use Rattle.top_plans.specs.Run.{refuses}
+use Rattle.top_plans.proofs.Makes.{memory}
+use Rattle.top_plans.specs.Status.{ending_of, usage}
 use Rattle.lab_words.specs.Command.{Command, command_of}
 use Rattle.lab_words.specs.View.{view_of}
 use Rattle.lab_plans.specs.Plans.{plan_of}
 use Rattle.lab_plans.specs.Replies.{Replies}
-use Rattle.lab_program.specs.Counts.{AreCounted}
 use Rattle.lab_program.proofs.Carried.{unread_so}
-use Rattle.lab_program.proofs.Counts.{counted_words}
+use Rattle.lab_program.proofs.Counts.{counted_words, AreCounted}
 use Rattle.lab_program.proofs.ending.Goals as goal
 
 pub carry_out-requires : goal.carry_out-requires

@@ -1,8 +1,8 @@
 use Rattle.std.proofs.Common.{map, subst, sym}
 use Rattle.std.specs.String.{string_bytes}
-use Rattle.command_status.specs.Lines.{line_of, Said}
-use Rattle.command_status.specs.Status.{ending_of}
-use Rattle.command_status.specs.declared.status.Status.{Status}
+use Rattle.top_plans.specs.Lines.{line_of, Said}
+use Rattle.top_plans.specs.Status.{ending_of}
+use Rattle.top_plans.specs.declared.Status.{Status}
 use Rattle.lab_words.specs.Command.{command_of}
 use Rattle.lab_plans.specs.Replies.{Replies}
 use Rattle.lab_program.proofs.syndex_lab.Goals as goal

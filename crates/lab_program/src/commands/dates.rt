@@ -1,34 +1,29 @@
 //! The commands `dates A H G N` and `trace A H G N`: when what begins and ends. `commands` calls `dates_text`.
 ghost use Rattle.std.specs.Prelude.{◌≡◌, ◌≤◌, IfOk, IsTrue, length, replicate};
 ghost use Rattle.compiler.specs.Compiles.{HasDurations};
-ghost use Rattle.durations.specs.Table.{entry_in};
 ghost use Rattle.lab_plans.specs.Answers.{dates_of, form_text};
 ghost use Rattle.lab_plans.specs.Asked.{of_dates};
 ghost use Rattle.lab_plans.specs.Plans.{dates_plan};
 ghost use Rattle.lab_words.specs.Command.{Effort as Tried};
 ghost use Rattle.lab_words.specs.View.{effort_view, form_view};
-ghost use Rattle.outside.specs.Shelf.{Stays, file_bound};
-ghost use Rattle.schedule.specs.Acts.{acts};
-ghost use Rattle.schedule.specs.Valid.{is_valid};
+ghost use Rattle.self_timed.specs.Table.{entry_in};
+ghost use Rattle.self_timed.specs.Acts.{acts};
+ghost use Rattle.self_timed.specs.ScheduleValid.{is_valid};
+ghost use Rattle.self_timed.specs.Built.{program_of};
 ghost use Rattle.self_timed.specs.Told.{HaveEntries, IsValidForSome, entries_of};
 ghost use Rattle.self_timed.specs.Entries.{AreWithin};
-ghost use Rattle.sequence_build_laws.specs.Built.{program_of};
+ghost use Rattle.top_plans.specs.Shelf.{Stays, file_bound};
 ghost use Rattle.lab_program.specs.Found.{problem_of};
 ghost use Rattle.lab_program.specs.Texts.{Carries, Gives, GivesOfFound};
 
 use crate::found::{build_program, find_schedule};
-use actual_durations::actual_of;
 use chart_picture::dates_picture;
-use command_status::Status;
 use compiler::{Compilation, read_algorithm, read_architecture, read_file};
-use dates_text::{actual_are_within, repeated};
-use executive_program::Program;
 use lab_words::{Effort, Form};
-use outside::{File, Shelf};
-use schedule::Schedule;
-use self_timed::Actual;
+use self_timed::{Actual, Program, Schedule};
 use std::alloc::Global;
 use syn_base::OutOfMemory;
+use top_plans::{File, Shelf, Status, actual_are_within, actual_of, repeated};
 use trace_events::dates_trace;
 
 /// In which form how many reactions are dated, and how their schedule is searched.

@@ -2,16 +2,15 @@
 ghost use Rattle.std.specs.Prelude.{◌≡◌, IfOk};
 ghost use Rattle.definition_drawing.specs.Drawing.{drawing};
 ghost use Rattle.lab_plans.specs.Plans.{graph_plan};
-ghost use Rattle.outside.specs.Shelf.{Stays};
+ghost use Rattle.top_plans.specs.Shelf.{Stays};
 ghost use Rattle.lab_program.specs.Texts.{Carries};
 
-use algo_text::Defs;
-use command_status::Status;
+use algo_laws::Defs;
 use compiler::read_algorithm;
 use definition_drawing::print_definitions;
-use outside::Shelf;
 use std::alloc::Global;
 use syn_base::OutOfMemory;
+use top_plans::{Shelf, Status};
 
 /// The definitions of an accepted algorithm as a graph, or why there is none.
 pub fn graph_text<S: Shelf>(

@@ -1,26 +1,24 @@
 //! The command `lint A [H]`: what is accepted and probably not meant. `commands` calls `lint_text`.
 ghost use Rattle.std.specs.Prelude.{◌≡◌, IfOk, map, option_map};
-ghost use Rattle.algo_tree.specs.Well.{AreDistinctNames};
-ghost use Rattle.compiler.specs.Compiles.{described};
-ghost use Rattle.command_plan.specs.Plan.{give};
+ghost use Rattle.algo_laws.specs.Well.{AreDistinctNames};
+ghost use Rattle.algo_laws.specs.Bounded.{HasBounds};
+ghost use Rattle.algo_laws.specs.Named.{HasNames};
 ghost use Rattle.lab_plans.specs.Asked.{of_text};
 ghost use Rattle.lab_plans.specs.Plans.{lint_behind, lint_of_algorithm, lint_of_both, lint_plan};
-ghost use Rattle.algo_tree.specs.Bounded.{HasBounds};
-ghost use Rattle.algo_tree.specs.Named.{HasNames};
-ghost use Rattle.outside.specs.Shelf.{Stays};
-ghost use Rattle.outside.specs.declared.file.File.TheVariants.{Architecture};
+ghost use Rattle.top_plans.specs.Plan.{give};
+ghost use Rattle.top_plans.specs.Shelf.{Stays};
+ghost use Rattle.top_plans.specs.declared.File.TheVariants.{Architecture};
 ghost use Rattle.top_plans.specs.Plans.{architecture_in, read_file};
 ghost use Rattle.lab_program.specs.Texts.{Carries};
+ghost use Rattle.self_timed.specs.Text.{described_by};
 
-use algo_laws::accepted_are_well_read;
-use algo_text::Defs;
-use archi_defs::ArchiText;
-use command_status::Status;
+use algo_laws::{Defs, accepted_are_well_read};
 use compiler::{Algorithm, compile_to_durations, read_algorithm, read_file};
-use outside::{File, Shelf};
+use self_timed::ArchiText;
 use std::alloc::Global;
 use syn_base::OutOfMemory;
 use text_lint::{algorithm_findings, architecture_findings, print_findings};
+use top_plans::{File, Shelf, Status};
 
 /// What is accepted and probably not meant in an algorithm, and in an architecture beside it where one is named; or why
 /// there is no answer.
@@ -99,7 +97,7 @@ fn print_both(
     archi: &ArchiText,
 ) -> Result<Vec<u8>, OutOfMemory>
     requires { AreDistinctNames (map (λ d. d.name) defs.now.defs) }
-    ensures { IfOk result (λ out. out.items ≡ lint_of_both defs.now text.now (described archi.now)) }
+    ensures { IfOk result (λ out. out.items ≡ lint_of_both defs.now text.now (described_by archi.now)) }
 {
     let mut out = print_algorithm(alloc, defs)?;
     let found = architecture_findings(alloc, defs.defs.as_slice(), text, archi)?;

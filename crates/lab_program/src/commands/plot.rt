@@ -1,24 +1,22 @@
 //! The command `plot A S`: what the actuators take, as a picture. `commands` calls `plot_text`.
 ghost use Rattle.std.specs.Prelude.{◌≡◌, IfOk};
-ghost use Rattle.act_text.specs.Names.{actuator_names};
-ghost use Rattle.algo_tree.specs.Ends.{sensor_lengths};
+ghost use Rattle.algo_laws.specs.Ends.{sensor_lengths};
+ghost use Rattle.algo_laws.specs.Bounded.{HasBounds};
+ghost use Rattle.algo_laws.specs.Named.{HasNames};
+ghost use Rattle.top_plans.specs.ActNames.{actuator_names};
+ghost use Rattle.top_plans.specs.Shelf.{Held, Stays};
 ghost use Rattle.lab_plans.specs.Plans.{plot_plan, plotted};
-ghost use Rattle.algo_tree.specs.Bounded.{HasBounds};
-ghost use Rattle.algo_tree.specs.Named.{HasNames};
-ghost use Rattle.outside.specs.Shelf.{Held, Stays};
 ghost use Rattle.svg_text.specs.Plot.{plot};
 ghost use Rattle.sync_meaning.specs.Simulated.{simulated};
 ghost use Rattle.lab_program.specs.Texts.{Carries};
 
-use act_text::actuators_of;
-use algo_tree::Tree;
-use command_status::Status;
+use algo_laws::Tree;
 use compiler::{excess, output_width, read_algorithm, read_table};
-use outside::Shelf;
 use std::alloc::Global;
 use svg_text::plot_rows;
 use syn_base::{OutOfMemory, SensorRows};
 use sync_meaning::simulate;
+use top_plans::{Shelf, Status, actuators_of};
 
 /// What the actuators take over a table, as a picture, or why there is none.
 pub fn plot_text<S: Shelf>(

@@ -1,20 +1,18 @@
 //! What the command `report A H [N]` writes of a schedule. `scheduled` calls `print_numbers`.
 ghost use Rattle.std.specs.Prelude.{◌≡◌, ◌≤◌, IfOk, IsTrue};
 ghost use Rattle.compiler.specs.Compiles.{HasDurations};
-ghost use Rattle.durations.specs.Table.{entry_in};
+ghost use Rattle.self_timed.specs.Table.{entry_in};
+ghost use Rattle.self_timed.specs.ScheduleValid.{is_valid};
 ghost use Rattle.lab_plans.specs.Answers.{beside, figures};
 ghost use Rattle.lab_words.specs.View.{effort_view};
 ghost use Rattle.report_text.specs.Text.{report_text};
-ghost use Rattle.schedule.specs.Valid.{is_valid};
 ghost use Rattle.lab_program.specs.Found.{problem_of};
 
 use compiler::{Compilation, find_schedule};
-use durations::durations_fit;
 use lab_words::Effort;
 use lower_bound::{busiest_line, chain_of, report_of, transfers_of};
 use report_text::{Figures, Pace, print_report};
-use schedule::Schedule;
-use self_timed::{schedule_latencies, schedule_period};
+use self_timed::{Schedule, durations_fit, schedule_latencies, schedule_period};
 use std::alloc::Global;
 use syn_base::{Items, OutOfMemory};
 

@@ -2,16 +2,16 @@
 ghost use Rattle.std.specs.Prelude.{◌≡◌, IfOk, IsTrue};
 ghost use Rattle.chart_picture.specs.Picture.{picture};
 ghost use Rattle.compiler.specs.Compiles.{HasDurations};
-ghost use Rattle.durations.specs.Table.{entry_in};
+ghost use Rattle.self_timed.specs.Table.{entry_in};
+ghost use Rattle.self_timed.specs.ScheduleValid.{is_valid};
 ghost use Rattle.graph_drawing.specs.FlatDrawing.{placed_drawing};
 ghost use Rattle.lab_plans.specs.Answers.{subject_text};
 ghost use Rattle.lab_plans.specs.Asked.{of_schedule};
 ghost use Rattle.lab_plans.specs.Plans.{schedule_plan};
 ghost use Rattle.lab_words.specs.Command.{Effort as Tried, code};
 ghost use Rattle.lab_words.specs.View.{effort_view, subject_view};
-ghost use Rattle.outside.specs.Shelf.{Stays};
-ghost use Rattle.schedule.specs.Valid.{is_valid};
 ghost use Rattle.trace_events.specs.Trace.{chart_trace};
+ghost use Rattle.top_plans.specs.Shelf.{Stays};
 ghost use Rattle.lab_program.specs.Counts.{IsCountedOf};
 ghost use Rattle.lab_program.specs.Found.{problem_of};
 ghost use Rattle.lab_program.specs.Texts.{Carries, Gives, GivesOfFound};
@@ -19,15 +19,13 @@ ghost use Rattle.lab_program.specs.Texts.{Carries, Gives, GivesOfFound};
 use crate::commands::report::print_numbers;
 use crate::found::{build_program, find_schedule};
 use chart_picture::print_picture;
-use command_status::Status;
 use compiler::{Compilation, read_algorithm, read_architecture};
 use graph_drawing::print_placed_graph;
 use lab_words::{Effort, Subject};
-use macro_code::print_code;
-use outside::Shelf;
-use schedule::Schedule;
+use self_timed::Schedule;
 use std::alloc::Global;
 use syn_base::OutOfMemory;
+use top_plans::{Shelf, Status, print_code};
 use trace_events::print_chart_trace;
 
 /// What is written of a schedule of an algorithm on an architecture, or why there is none.

@@ -1,13 +1,11 @@
 //! The command `table A`: the sensor table that an algorithm wants. `commands` calls `table_text`.
 ghost use Rattle.lab_plans.specs.Plans.{template_plan};
-ghost use Rattle.outside.specs.Shelf.{Stays};
+ghost use Rattle.top_plans.specs.Shelf.{Stays};
 ghost use Rattle.lab_program.specs.Texts.{Carries};
 
-use command_status::Status;
 use compiler::read_algorithm;
-use outside::Shelf;
-use sensor_table::template_text;
 use std::alloc::Global;
+use top_plans::{Shelf, Status, template_text};
 
 /// The header of the sensor table of an accepted algorithm and one reaction of zeros, or why there is none.
 pub fn table_text<S: Shelf>(

@@ -1,23 +1,20 @@
 //! The command `why A H C`: where macro-code from another source fails. `commands` calls `why_text`.
 ghost use Rattle.std.specs.Prelude.{◌≡◌, ◌≤◌, ◌<◌, ◌^◌, ℕ, IfOk, length};
-ghost use Rattle.executive_program.specs.Instructions.{turn};
+ghost use Rattle.self_timed.specs.Instructions.{turn};
 ghost use Rattle.lab_plans.specs.Plans.{why_answer, why_of_code, why_plan};
-ghost use Rattle.outside.specs.Shelf.{Held, Stays};
 ghost use Rattle.syn_base.specs.Limits.{most_in_text};
 ghost use Rattle.text_lines.specs.Text.{lines_of};
+ghost use Rattle.top_plans.specs.Shelf.{Held, Stays};
 ghost use Rattle.lab_program.specs.Texts.{Carries};
 
-use archi_graph::Archi;
 use check_places::find_why;
 use code_reader::read_code;
-use command_status::Status;
 use compiler::{flatten_tree, read_algorithm, read_description, read_file};
-use executive_program::Program;
-use flat_graph::Flat;
 use macro_check::loops_are_short;
-use outside::{File, Shelf};
+use self_timed::{Archi, Flat, Program};
 use std::alloc::Global;
 use syn_base::OutOfMemory;
+use top_plans::{File, Shelf, Status};
 use why_text::{Asked, print_answer};
 
 /// Where macro-code fails that is checked for an algorithm on an architecture, or that it is well formed; or why there is

@@ -1,7 +1,7 @@
 -- What a job and its flat graph keep is what the law asks for.
 use Rattle.std.proofs.Common.{◌≡◌, true, subst}
-use Rattle.flat_graph.specs.Graph.{Graph}
-use Rattle.flat_graph.specs.Valid.{is_flat}
+use Rattle.executive_program.specs.Graph.{Graph}
+use Rattle.executive_program.specs.FlatValid.{is_flat}
 use Rattle.phase_laws.proofs.Together.{jobs_are_supplied}
 use Rattle.phase_laws.proofs.Ended.{rows_are_taken}
 use Rattle.phase_laws.proofs.rows_of_job_are_taken.Goals as goal

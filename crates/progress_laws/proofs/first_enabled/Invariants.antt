@@ -1,6 +1,6 @@
 -- No sequence before this one is enabled.
 use Rattle.std.proofs.Common.{◌≡◌, ℕ, ◌<◌, false}
-use Rattle.semaphore_core.specs.Core.{is_enabled}
+use Rattle.phase_laws.specs.Core.{is_enabled}
 use Rattle.progress_laws.proofs.first_enabled.Given as goal
 
 abbrev pub invariant-loop-seq : goal.invariant-loop-seq

@@ -1,13 +1,12 @@
 use Rattle.std.proofs.Common.{map, Option, subst, sym}
 use Rattle.std.specs.Prelude.{Some}
 use Rattle.std.specs.String.{string_bytes}
-use Rattle.command_plan.specs.Ending.{refused}
-use Rattle.command_status.specs.Status.{ending_of, usage}
 use Rattle.command_words.specs.Command.{Command, command_of}
 use Rattle.command_words.specs.View.{view_of}
+use Rattle.top_plans.specs.Ending.{refused}
+use Rattle.top_plans.specs.Status.{ending_of, usage}
 use Rattle.top_plans.specs.Replies.{Replies}
-use Rattle.syndex_program.specs.Counts.{AreCounted}
-use Rattle.syndex_program.proofs.Counts.{counted_words}
+use Rattle.syndex_program.proofs.Counts.{counted_words, AreCounted}
 use Rattle.syndex_program.proofs.Replying.{unknown, wants}
 use Rattle.syndex_program.proofs.ending.Goals as goal
 

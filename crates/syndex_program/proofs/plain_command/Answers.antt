@@ -2,14 +2,14 @@ use Rattle.std.proofs.Common.{◌≡◌, ◌∙◌, List, ap, inl, inr, map, sub
 use Rattle.std.specs.Prelude.{Some}
 use Rattle.std.specs.String.{string_bytes}
 use Rattle.syn_base.specs.Bytes.{Bytes}
-use Rattle.outside.specs.Shelf.{Held}
-use Rattle.outside.specs.Sink.{Sunk}
-use Rattle.command_status.specs.Lines.{line_of, Said}
-use Rattle.command_status.specs.Status.{ending_of}
-use Rattle.command_status.specs.declared.status.Status.{Status}
-use Rattle.command_status.specs.declared.status.Status.TheVariants.{Done}
 use Rattle.command_words.specs.Command.{command_of}
 use Rattle.word_rule.specs.Driven.{new_driven}
+use Rattle.top_plans.specs.Shelf.{Held}
+use Rattle.top_plans.specs.Sink.{Sunk}
+use Rattle.top_plans.specs.Lines.{line_of, Said}
+use Rattle.top_plans.specs.Status.{ending_of}
+use Rattle.top_plans.specs.declared.Status.{Status}
+use Rattle.top_plans.specs.declared.Status.TheVariants.{Done}
 use Rattle.top_plans.specs.Replies.{PlainReplies, Replies, ValuesAreWritten}
 use Rattle.top_plans.specs.Values.{WritesValues}
 use Rattle.syndex_program.proofs.plain_command.Goals as goal

@@ -1,15 +1,14 @@
 use Rattle.std.proofs.Common.{map, Option, subst, sym}
 use Rattle.std.specs.Prelude.{Some}
 use Rattle.std.specs.String.{string_bytes}
-use Rattle.outside.specs.Sink.{Sunk}
-use Rattle.command_plan.specs.Ending.{refused}
-use Rattle.command_status.specs.Status.{usage}
 use Rattle.command_words.specs.Command.{Command, command_of}
 use Rattle.command_words.specs.View.{view_of}
+use Rattle.top_plans.specs.Sink.{Sunk}
+use Rattle.top_plans.specs.Ending.{refused}
+use Rattle.top_plans.specs.Status.{usage}
 use Rattle.top_plans.specs.Replies.{PlainReplies}
-use Rattle.syndex_program.specs.Counts.{AreCounted}
 use Rattle.syndex_program.specs.Plainly.{RepliesOrLeaves}
-use Rattle.syndex_program.proofs.Counts.{counted_words}
+use Rattle.syndex_program.proofs.Counts.{counted_words, AreCounted}
 use Rattle.syndex_program.proofs.Replying.{answered, none_answered, wanted}
 use Rattle.syndex_program.proofs.plain_ending.Goals as goal
 

@@ -1,17 +1,16 @@
 //! The command `chart A H`: the timing chart of a schedule. `commands` calls `chart_text`.
 ghost use Rattle.std.specs.Prelude.{◌≡◌, IfOk};
-ghost use Rattle.command_plan.specs.Run.{Makes};
-ghost use Rattle.outside.specs.Shelf.{Stays};
-ghost use Rattle.compiler.specs.Compiles.{HasDurations, described};
+ghost use Rattle.compiler.specs.Compiles.{HasDurations};
 ghost use Rattle.compiler.specs.Reads.{text_in};
+ghost use Rattle.top_plans.specs.Run.{Makes};
+ghost use Rattle.top_plans.specs.Shelf.{Stays};
 ghost use Rattle.top_plans.specs.Plans.{chart_of, chart_plan};
+ghost use Rattle.self_timed.specs.Text.{described_by};
 
-use command_status::Status;
 use compiler::{Compilation, find_schedule, read_algorithm, read_architecture};
-use outside::Shelf;
 use std::alloc::Global;
 use syn_base::OutOfMemory;
-use timing_chart::print_chart;
+use top_plans::{Shelf, Status, print_chart};
 
 /// The timing chart of an algorithm on an architecture, or why there is none.
 pub fn chart_text<S: Shelf>(
@@ -33,7 +32,7 @@ pub fn chart_text<S: Shelf>(
 fn print_schedule(alloc: Global, compilation: &Compilation) -> Result<Vec<u8>, OutOfMemory>
     requires { HasDurations compilation.now }
     ensures { IfOk result (λ text. text.items ≡
-        chart_of compilation.now.flat (described compilation.now.text)
+        chart_of compilation.now.flat (described_by compilation.now.text)
         compilation.now.durations) }
 {
     let schedule = find_schedule(alloc, compilation)?;

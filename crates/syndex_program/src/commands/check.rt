@@ -1,21 +1,20 @@
 //! The command `check A [H]`: the canonical texts. `commands` calls `check_texts`.
 ghost use Rattle.std.specs.Prelude.{◌≡◌, IfOk, None, Some, option_map};
 ghost use Rattle.algo_print.specs.Canonical.{canonical_text, ArePrintable};
-ghost use Rattle.command_plan.specs.Run.{Makes};
-ghost use Rattle.outside.specs.Shelf.{Stays};
-ghost use Rattle.compiler.specs.Compiles.{described};
 ghost use Rattle.compiler.specs.Reads.{text_in};
+ghost use Rattle.top_plans.specs.Run.{Makes};
+ghost use Rattle.top_plans.specs.Shelf.{Stays};
 ghost use Rattle.top_plans.specs.Plans.{both_texts, check_plan};
+ghost use Rattle.self_timed.specs.Text.{described_by};
 
 use algo_print::{canonical_text_reads_back, print_algo};
 use algo_text::Defs;
-use archi_defs::ArchiText;
 use archi_reader::print_archi;
-use command_status::Status;
 use compiler::{read_algorithm, read_architecture};
-use outside::Shelf;
+use self_timed::ArchiText;
 use std::alloc::Global;
 use syn_base::OutOfMemory;
+use top_plans::{Shelf, Status};
 
 /// The canonical text of an algorithm, and after an empty line that of an architecture where one is
 /// named; or why there is none.
@@ -76,7 +75,7 @@ fn print_definitions(alloc: Global, defs: &Defs) -> Result<Vec<u8>, OutOfMemory>
 /// The canonical text of definitions, an empty line, and that of an architecture.
 fn print_both(alloc: Global, defs: &Defs, architecture: &ArchiText) -> Result<Vec<u8>, OutOfMemory>
     requires { ArePrintable defs.now.defs }
-    ensures { IfOk result (λ text. text.items ≡ both_texts defs.now (described architecture.now)) }
+    ensures { IfOk result (λ text. text.items ≡ both_texts defs.now (described_by architecture.now)) }
 {
     let mut text = print_definitions(alloc, defs)?;
     text.push(b'\n')?;

@@ -1,22 +1,18 @@
 //! The command `code A H`: the macro-code of a program. `commands` calls `code_text`, and `run` prints by
 //! `print_program`.
 ghost use Rattle.std.specs.Prelude.{◌≡◌, IfOk};
-ghost use Rattle.command_plan.specs.Run.{Makes};
-ghost use Rattle.macro_code.specs.Text.{macro_code};
-ghost use Rattle.outside.specs.Shelf.{Held, Stays};
 ghost use Rattle.compiler.specs.Compiles.{HasDurations};
 ghost use Rattle.compiler.specs.Reads.{text_in};
+ghost use Rattle.top_plans.specs.Run.{Makes};
+ghost use Rattle.top_plans.specs.CodeText.{macro_code};
+ghost use Rattle.top_plans.specs.Shelf.{Held, Stays};
 ghost use Rattle.top_plans.specs.Plans.{code_plan, macro_plan};
 
-use archi_graph::Archi;
-use command_status::Status;
 use compiler::{Compilation, compile_to_program, read_algorithm, read_architecture};
-use executive_program::Program;
-use flat_graph::Flat;
-use macro_code::print_code;
-use outside::Shelf;
+use self_timed::{Archi, Flat, Program};
 use std::alloc::Global;
 use syn_base::OutOfMemory;
+use top_plans::{Shelf, Status, print_code};
 
 /// The macro-code of an algorithm on an architecture, or why there is none.
 pub fn code_text<S: Shelf>(

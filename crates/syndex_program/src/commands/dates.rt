@@ -1,29 +1,25 @@
 //! The command `dates A H G N`: when what begins and ends. `commands` calls `dates_listing`.
 ghost use Rattle.std.specs.Prelude.{◌≡◌, ◌≤◌, IfOk, IsTrue, Ok, length, replicate};
-ghost use Rattle.command_plan.specs.Run.{Makes};
-ghost use Rattle.durations.specs.Table.{entry_in};
-ghost use Rattle.outside.specs.Shelf.{Held, Stays, file_bound};
-ghost use Rattle.schedule.specs.Acts.{acts};
-ghost use Rattle.schedule.specs.Valid.{is_valid};
+ghost use Rattle.self_timed.specs.Table.{entry_in};
+ghost use Rattle.self_timed.specs.Acts.{acts};
+ghost use Rattle.self_timed.specs.ScheduleValid.{is_valid};
+ghost use Rattle.self_timed.specs.Built.{program_of};
 ghost use Rattle.self_timed.specs.Entries.{AreWithin};
 ghost use Rattle.self_timed.specs.Told.{HaveEntries, entries_of};
-ghost use Rattle.dates_text.specs.Listing.{dates_text};
-ghost use Rattle.sequence_build_laws.specs.Built.{program_of};
 ghost use Rattle.syndex_program.specs.Dates.{dated_in};
 ghost use Rattle.compiler.specs.Reads.{text_in};
+ghost use Rattle.top_plans.specs.Run.{Makes};
+ghost use Rattle.top_plans.specs.Shelf.{Held, Stays, file_bound};
+ghost use Rattle.top_plans.specs.Listing.{dates_text};
 ghost use Rattle.top_plans.specs.Plans.{dates_plan, schedule_of};
 
-use actual_durations::actual_of;
-use command_status::Status;
 use compiler::{
     Compilation, build_program, find_schedule, read_algorithm, read_architecture, read_file,
 };
-use dates_text::{actual_are_within, dates_text, repeated};
-use executive_program::Program;
-use outside::{File, Shelf};
-use schedule::Schedule;
+use self_timed::{Program, Schedule};
 use std::alloc::Global;
 use syn_base::OutOfMemory;
+use top_plans::{File, Shelf, Status, actual_are_within, actual_of, dates_text, repeated};
 
 /// The dates of this many reactions of an algorithm on an architecture, where operations and transfers last as
 /// long as a text of durations says, or why there are none.

@@ -2,30 +2,26 @@
 //! `finish_exec`.
 ghost use Rattle.std.specs.Prelude.{◌≤◌, IfOk, Ok, length};
 ghost use Rattle.syn_base.specs.Limits.{most_in_text};
-ghost use Rattle.command_plan.specs.Run.{Makes};
-ghost use Rattle.command_status.specs.Status.{ending_of};
-ghost use Rattle.outside.specs.Shelf.{Stays};
 ghost use Rattle.text_lines.specs.Text.{lines_of};
+ghost use Rattle.top_plans.specs.Run.{Makes};
+ghost use Rattle.top_plans.specs.Status.{ending_of};
+ghost use Rattle.top_plans.specs.Shelf.{Stays};
 ghost use Rattle.top_plans.specs.Given.{Given, Execution as Executed, executed as alone};
 ghost use Rattle.syndex_program.specs.Executes.{EndsOrWants, IsExecuted, executed, foreign_plan, made_of};
 ghost use Rattle.syndex_program.specs.Foreign.{MakesProgram, ReadsProgram};
 
 use crate::execution::{Execution, execution_of};
 use crate::lines::{lines_of, status_of, write_lines};
-use accepted_laws::accepted_have_flat;
-use archi_graph::Archi;
-use command_status::Status;
 use compiler::{
     CheckedError, flatten_tree, read_algorithm, read_checked, read_description, read_file,
     read_table,
 };
-use executive_program::Program;
-use flat_graph::Flat;
 use job_windows::Drive;
-use outside::{File, Gate, Shelf, Sink};
+use self_timed::{Archi, Flat, Program};
 use std::alloc::Global;
 use std::sync::Wait;
 use std::thread::Threads;
+use top_plans::{File, Gate, Shelf, Sink, Status, accepted_have_flat};
 use word_table::Driven;
 
 /// What the files of an execution say is to be executed, or the first refusal. The durations of the

@@ -1,21 +1,20 @@
 //! The command `flat A`: the listing of a flat graph. `commands` calls `listing_text`.
 ghost use Rattle.std.specs.Prelude.{◌≡◌, IfOk};
-ghost use Rattle.command_plan.specs.Run.{Makes};
-ghost use Rattle.flat_laws.specs.FlatOf.{flat_of};
 ghost use Rattle.flat_text.specs.Listing.{listing};
-ghost use Rattle.outside.specs.Shelf.{Stays};
 ghost use Rattle.algo_tree.specs.Bounded.{HasBounds};
 ghost use Rattle.algo_tree.specs.Named.{HasNames};
 ghost use Rattle.compiler.specs.Reads.{text_in};
+ghost use Rattle.top_plans.specs.Run.{Makes};
+ghost use Rattle.top_plans.specs.FlatOf.{flat_of};
+ghost use Rattle.top_plans.specs.Shelf.{Stays};
 ghost use Rattle.top_plans.specs.Plans.{flat_plan};
 
 use algo_tree::Tree;
-use command_status::Status;
 use compiler::{flatten_tree, read_algorithm};
 use flat_text::print_flat;
-use outside::Shelf;
 use std::alloc::Global;
 use syn_base::OutOfMemory;
+use top_plans::{Shelf, Status};
 
 /// The listing of an algorithm's flat graph, or why there is none.
 pub fn listing_text<S: Shelf>(

@@ -1,31 +1,30 @@
 //! The command `load N`: the sum of all that the actuators take in a load. `commands` calls `finish_load`.
 ghost use Rattle.std.specs.Prelude.{◌≡◌, ◌≤◌, ◌<◌, ◌+ℤ◌, [], length, slice_index_or, IfOk, OnErr};
-ghost use Rattle.level_meaning.specs.Level.{all_joined};
-ghost use Rattle.body_lang.specs.Expr.{total};
 ghost use Rattle.syn_base.specs.Arithmetic.{wrapped};
-ghost use Rattle.operation_desks.specs.RowLens.{actuator_lens};
-ghost use Rattle.phase_laws.specs.Ended.{all_acts};
-ghost use Rattle.command_plan.specs.Run.{Ends, Performs};
-ghost use Rattle.command_status.specs.Status.{ending_of};
-ghost use Rattle.command_plan.specs.Stage.{after_jobs, RunsSome};
+ghost use Rattle.algo_tree.specs.Level.{all_joined};
+ghost use Rattle.algo_text.specs.Expr.{total};
 ghost use Rattle.run_laws.specs.Windows.{window_jobs};
+ghost use Rattle.word_rule.specs.Ended.{all_acts};
 ghost use Rattle.word_rule.specs.Driven.{driven_by};
+ghost use Rattle.top_plans.specs.Run.{Ends, Performs};
+ghost use Rattle.top_plans.specs.Status.{ending_of};
+ghost use Rattle.top_plans.specs.Stage.{after_jobs, RunsSome};
 ghost use Rattle.top_plans.specs.Given.{one_job, stages, summed};
 ghost use Rattle.top_plans.specs.Plans.{summary, summary_with};
 ghost use Rattle.syndex_program.specs.Executes.{IsExecuted, executed, made_of};
 ghost use Rattle.syndex_program.specs.Left.{jobs_left};
 ghost use Rattle.syndex_program.specs.Sums.{AreFew, total_left, total_of};
+ghost use Rattle.self_timed.specs.FlatLaws.{actuator_lens};
 
 use crate::commands::put_text;
 use crate::execution::Execution;
 use crate::windows::windows_of;
-use command_status::Status;
 use job_windows::{Drive, JobWindows};
-use outside::{Gate, Sink};
 use std::alloc::Global;
 use std::sync::Wait;
 use std::thread::Threads;
 use syn_base::{ActRows, OutOfMemory, append, append_count, print_int};
+use top_plans::{Gate, Sink, Status};
 use word_table::Driven;
 
 /// Runs what is to be executed, and writes its summary; or returns why there is nothing.

@@ -1,9 +1,9 @@
 //! The command `run A H S`: the macro-code of a program, and what the actuators take. `commands` calls `finish_run`.
 ghost use Rattle.std.specs.Prelude.{◌≡◌, IfOk};
-ghost use Rattle.command_plan.specs.Run.{Ends, Performs};
-ghost use Rattle.command_status.specs.Status.{Refusal, ending_of};
 ghost use Rattle.syndex_program.specs.Stopped as windows;
 ghost use Rattle.word_rule.specs.Driven.{driven_by};
+ghost use Rattle.top_plans.specs.Run.{Ends, Performs};
+ghost use Rattle.top_plans.specs.Status.{Refusal, ending_of};
 ghost use Rattle.top_plans.specs.Given.{printed, stages};
 ghost use Rattle.top_plans.specs.Plans.{head};
 ghost use Rattle.syndex_program.specs.Executes.{IsExecuted, executed, made_of};
@@ -11,13 +11,12 @@ ghost use Rattle.syndex_program.specs.Executes.{IsExecuted, executed, made_of};
 use crate::commands::code::print_program;
 use crate::execution::Execution;
 use crate::lines::{Stopped, lines_of, status_of, write_lines};
-use command_status::Status;
 use job_windows::Drive;
-use outside::{Gate, Sink, write_whole};
 use std::alloc::Global;
 use std::sync::Wait;
 use std::thread::Threads;
 use syn_base::OutOfMemory;
+use top_plans::{Gate, Sink, Status, write_whole};
 use word_table::Driven;
 
 /// Runs what is to be executed, and writes its text; or returns why there is nothing.

@@ -1,22 +1,20 @@
 //! The command `sim A S`: what the actuators take by the synchronous meaning. `commands` calls `sim_text`.
 ghost use Rattle.std.specs.Prelude.{◌≡◌, IfOk};
 ghost use Rattle.algo_tree.specs.Ends.{sensor_lengths};
-ghost use Rattle.command_plan.specs.Run.{Makes};
-ghost use Rattle.outside.specs.Shelf.{Held, Stays};
 ghost use Rattle.algo_tree.specs.Bounded.{HasBounds};
 ghost use Rattle.algo_tree.specs.Named.{HasNames};
 ghost use Rattle.compiler.specs.Reads.{text_in};
+ghost use Rattle.top_plans.specs.Run.{Makes};
+ghost use Rattle.top_plans.specs.Shelf.{Held, Stays};
 ghost use Rattle.top_plans.specs.Given.{output_of};
 ghost use Rattle.top_plans.specs.Plans.{rows_plan, sim_plan};
 
-use act_text::acts_text;
 use algo_tree::Tree;
-use command_status::Status;
 use compiler::{excess, output_width, read_algorithm, read_table};
-use outside::Shelf;
 use std::alloc::Global;
 use syn_base::{OutOfMemory, SensorRows};
 use sync_meaning::simulate;
+use top_plans::{Shelf, Status, acts_text};
 
 /// The text of what the actuators take, or why there is none.
 pub fn sim_text<S: Shelf>(

@@ -1,7 +1,7 @@
 use Rattle.std.proofs.Common.{◌≡◌, ℕ, ◌<◌, List, length, Option, All, sym, ap, subst, ◌∙◌}
 use Rattle.std.proofs.lemmas.List.FromFn.{length-map-range_with_len}
-use Rattle.durations.specs.Given.{Lines}
-use Rattle.durations.specs.Table.{entry_in}
+use Rattle.schedule.specs.Given.{Lines}
+use Rattle.schedule.specs.Table.{entry_in}
 use Rattle.schedule.specs.declared.decision.Decision.{Decision}
 use Rattle.actual_durations.specs.Actual.{operator_of, operators_of}
 use Rattle.actual_durations.specs.Answers.{IsOneOf}

@@ -1,4 +1,4 @@
-use Rattle.archi_defs.specs.Text.{described_by}
+use Rattle.schedule.specs.Text.{described_by}
 use Rattle.actual_durations.proofs.actual.actual_of.Goals as goal
 
 pub actual_by-requires-clause-lines : goal.actual_by-requires-clause-lines

@@ -1,6 +1,7 @@
 use Rattle.std.proofs.Common.{◌≡◌, ◌++◌, drop, map}
-use Rattle.actual_durations.specs.Actual.{transfer_ticks, transfers_of}
+use Rattle.actual_durations.specs.Actual.{transfer_ticks}
 use Rattle.actual_durations.proofs.ticks.append_transfers.Given as goal
+use Rattle.schedule.specs.Acts.{transfers_of}
 
 -- what is there, with the ticks of the transfers that are left, is the whole
 abbrev pub invariant-loop-decision : goal.invariant-loop-decision

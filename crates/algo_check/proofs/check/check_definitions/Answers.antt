@@ -1,6 +1,6 @@
 use Rattle.std.proofs.Common.{◌≡◌, ◌∷◌, [], map, sym, subst, List, Option, IfOk}
-use Rattle.algo_text.specs.declared.definition.Def.{Def}
-use Rattle.algo_text.specs.declared.fault.AlgoError.{AlgoError}
+use Rattle.algo_rules.specs.declared.Def.{Def}
+use Rattle.algo_rules.specs.declared.AlgoError.{AlgoError}
 use Rattle.algo_rules.specs.Links.{first_of, unknown, misplaced, recursive, too_deep}
 use Rattle.algo_rules.specs.Placed.{Checks}
 use Rattle.algo_rules.specs.Ports.{ports_of}

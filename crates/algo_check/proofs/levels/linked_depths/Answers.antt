@@ -1,7 +1,7 @@
 use Rattle.std.proofs.Common.{subst, sym, ap, ◌∙◌, arith, length}
-use Rattle.reference_graph.specs.Links.{Links}
-use Rattle.reference_graph.specs.Answer.{AreDepths, AreInside}
-use Rattle.reference_graph.specs.declared.depths.Depths.{Depths}
+use Rattle.algo_rules.specs.ReferenceLinks.{Links}
+use Rattle.algo_rules.specs.Answer.{AreDepths, AreInside}
+use Rattle.algo_rules.specs.declared.Depths.{Depths}
 use Rattle.algo_check.proofs.Inside.{links_inside, links_count, recursive_inside}
 use Rattle.algo_check.proofs.levels.linked_depths.Goals as goal
 

@@ -1,7 +1,7 @@
 use Rattle.std.proofs.Common.{List, map, ap, sym, subst, ◌∙◌}
 use Rattle.std.proofs.lemmas.Result.{err_from_is_err_and}
+use Rattle.algo_rules.specs.Returned.{Tells}
 use Rattle.algo_rules.specs.Links.{Mention, mentions, misplaced_by}
-use Rattle.algo_text.specs.Returned.{Tells}
 use Rattle.algo_check.specs.Placing.{misplaced_in}
 use Rattle.algo_check.proofs.Firsts.{told, tells, stops, goes}
 use Rattle.algo_check.proofs.standing.check_standing.Goals as goal

@@ -1,9 +1,9 @@
 use Rattle.std.proofs.Common.{◌<◌, ◌∙◌, sym, subst, ap, List, ℕ, get_or, length, arith}
-use Rattle.algo_text.specs.declared.definition.Def.{Def}
+use Rattle.algo_rules.specs.declared.Def.{Def}
+use Rattle.algo_rules.specs.ReferenceLinks.{Links}
 use Rattle.algo_rules.specs.Placed.{ArePlaced, Checks}
 use Rattle.algo_rules.specs.Resolved.{body_fault}
 use Rattle.algo_check.specs.Linked.{named}
-use Rattle.reference_graph.specs.Links.{Links}
 use Rattle.algo_check.proofs.Inside.{links_count}
 use Rattle.algo_check.proofs.Here.{is_found, stands}
 use Rattle.algo_check.proofs.tables.check_place.Goals as goal

@@ -1,9 +1,9 @@
 use Rattle.std.proofs.Common.{◌≡◌, ◌<◌, ◌∙◌, sym, subst, ap, List, ℕ, get_or, length, arith}
 use Rattle.syn_base.specs.Bytes.{Bytes}
+use Rattle.algo_rules.specs.ReferenceLinks.{Links}
 use Rattle.algo_rules.specs.Placed.{ArePlaced}
 use Rattle.algo_rules.specs.Ports.{ports_of}
 use Rattle.algo_check.specs.Linked.{IsLinked, named}
-use Rattle.reference_graph.specs.Links.{Links}
 use Rattle.algo_check.proofs.Inside.{links_count}
 use Rattle.algo_check.proofs.Here.{found_at, level_is, levels_count, stands}
 use Rattle.algo_check.proofs.ByDepth.{none_at}

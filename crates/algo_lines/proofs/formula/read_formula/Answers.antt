@@ -1,5 +1,5 @@
 use Rattle.std.proofs.Common.{Ok, ap, sym, ◌∙◌}
-use Rattle.body_lang.specs.Expr.{Expr}
+use Rattle.algo_text.specs.Expr.{Expr}
 use Rattle.algo_text.specs.declared.fault.AlgoCause.TheVariants.{UnknownName}
 use Rattle.syn_base.specs.Bytes.{Bytes}
 use Rattle.algo_text.specs.Blocks.{refused}

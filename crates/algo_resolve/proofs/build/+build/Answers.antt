@@ -3,20 +3,20 @@ use Rattle.std.proofs.lemmas.List.{length-map}
 use Rattle.std.proofs.lemmas.Option.{slice_get-get_or}
 use Rattle.std.specs.Global.{Vec}
 use Rattle.body_lang.specs.declared.expression.Port.{Port}
-use Rattle.level_meaning.specs.declared.source.Source.{Source}
-use Rattle.level_meaning.specs.declared.part.Part.TheVariants.{Named}
-use Rattle.algo_text.specs.declared.definition.Body.{Body}
-use Rattle.algo_text.specs.declared.definition.Body.TheVariants.{Switch}
-use Rattle.algo_text.specs.declared.definition.Case.{Case}
-use Rattle.algo_text.specs.declared.definition.Def.{Def}
 use Rattle.algo_check.specs.Linked.{named}
 use Rattle.syn_base.specs.Bytes.{Bytes}
-use Rattle.algo_rules.specs.Links.{definition}
-use Rattle.algo_rules.specs.Placed.{ArePlaced}
-use Rattle.algo_rules.specs.Ports.{ports_of}
-use Rattle.algo_rules.specs.Resolved.{cases_from, inner_by, is_actuator, is_sensor, owns, sources_to, vertex, vertex_within}
-use Rattle.algo_tree.specs.View.{kind_view, view}
-use Rattle.algo_tree.specs.declared.vertex.Vertex.{Vertex}
+use Rattle.algo_laws.specs.declared.Source.{Source}
+use Rattle.algo_laws.specs.declared.Part.TheVariants.{Named}
+use Rattle.algo_laws.specs.declared.Body.{Body}
+use Rattle.algo_laws.specs.declared.Body.TheVariants.{Switch}
+use Rattle.algo_laws.specs.declared.Case.{Case}
+use Rattle.algo_laws.specs.declared.Def.{Def}
+use Rattle.algo_laws.specs.RuleLinks.{definition}
+use Rattle.algo_laws.specs.Placed.{ArePlaced}
+use Rattle.algo_laws.specs.Ports.{ports_of}
+use Rattle.algo_laws.specs.Resolved.{cases_from, inner_by, owns, sources_to, vertex, vertex_within, sensor_count, actuator_count}
+use Rattle.algo_laws.specs.View.{kind_view, view}
+use Rattle.algo_laws.specs.declared.Vertex.{Vertex}
 use Rattle.algo_resolve.specs.declared.build.Seat.{Seat}
 use Rattle.algo_resolve.specs.declared.plan.Plan.{Plan}
 use Rattle.body_check.proofs.Places.{one_more}
@@ -65,8 +65,8 @@ build_references-loop-at-preserved t c =
     let place = get_or g.places.now l.at 0 in
     let there = place_at ds b.table.now g.references.now g.places.now c.requires.wired.placed l.at r c.loop-at-test.true c.reference-item.is in
     let def = def_at ds b.table.now r.def place c.index-builder-place.result there in
-    let sensors : c.sensors_of.result ≡ is_sensor (definition ds r.def) = c.sensors_of.ensures.is ∙ ap is_sensor (sym def) in
-    let actuators : c.actuators_of.result ≡ is_actuator (definition ds r.def) = c.actuators_of.ensures.is ∙ ap is_actuator (sym def) in
+    let sensors : c.sensors_of.result ≡ sensor_count (definition ds r.def) = c.sensors_of.ensures.is ∙ ap sensor_count (sym def) in
+    let actuators : c.actuators_of.result ≡ actuator_count (definition ds r.def) = c.actuators_of.ensures.is ∙ ap actuator_count (sym def) in
     let wire : get_or g.wires.now l.at c.index-graph-at.result ≡ sources_to (ports_of ds) g.ins.now g.references.now g.edges.now (Some r.name) (ports_of ds r.def).ins =
     sym c.index-graph-at.is
     ∙ beside (λ x. sources_to (ports_of ds) g.ins.now g.references.now g.edges.now (Some x.name) (ports_of ds x.def).ins) g.wires.now g.references.now l.at r c.index-graph-at.result

@@ -1,6 +1,6 @@
 use Rattle.std.proofs.Common.{◌≡◌, ◌+◌, ◌*◌, ◌≤◌, ◌++◌, ◌∷◌, [], drop, length, map}
-use Rattle.algo_tree.specs.View.{view}
-use Rattle.algo_rules.specs.Resolved.{cases_from, references_from, vertex_within}
+use Rattle.algo_laws.specs.View.{view}
+use Rattle.algo_laws.specs.Resolved.{cases_from, references_from, vertex_within}
 use Rattle.algo_resolve.proofs.build.+build.Given as goal
 
 abbrev pub decreases-build_vertex : goal.decreases-build_vertex

@@ -1,10 +1,10 @@
 use Rattle.std.proofs.Common.{◌≡◌, List, [], map, ap, ap₂, ◌∙◌}
 use Rattle.syn_base.specs.Bytes.{Bytes}
-use Rattle.level_meaning.specs.declared.source.Source.{Source}
-use Rattle.algo_tree.specs.Tree.{graph as no_graph}
-use Rattle.algo_tree.specs.View.{view}
-use Rattle.algo_tree.specs.declared.vertex.Vertex.{Vertex}
-use Rattle.algo_rules.specs.Resolved.{vertex}
+use Rattle.algo_laws.specs.declared.Source.{Source}
+use Rattle.algo_laws.specs.Tree.{graph as no_graph}
+use Rattle.algo_laws.specs.View.{view}
+use Rattle.algo_laws.specs.declared.Vertex.{Vertex}
+use Rattle.algo_laws.specs.Resolved.{vertex}
 use Rattle.algo_resolve.proofs.build.empty_vertex.Goals as goal
 
 pub returns : goal.returns

@@ -1,6 +1,6 @@
 use Rattle.std.proofs.Common.{List, ℕ, sym, subst, ◌∙◌}
 use Rattle.algo_check.specs.Linked.{named}
-use Rattle.algo_rules.specs.Placed.{ArePlaced}
+use Rattle.algo_laws.specs.Placed.{ArePlaced}
 use Rattle.algo_resolve.proofs.Placed.{places_stand}
 use Rattle.algo_resolve.proofs.build.places_of.Goals as goal
 

@@ -1,5 +1,5 @@
 use Rattle.std.proofs.Common.{◌≡◌, drop}
-use Rattle.algo_rules.specs.Resolved.{feed_of}
+use Rattle.algo_laws.specs.Resolved.{feed_of}
 use Rattle.algo_resolve.proofs.frontier.feed.Given as goal
 
 -- the lines that are left decide

@@ -1,7 +1,7 @@
 use Rattle.std.proofs.Common.{◌≡◌, Option, Ok, Err, ap, sym, ◌∙◌}
 use Rattle.std.specs.Prelude.{Result, IfOk}
-use Rattle.level_meaning.specs.declared.frontier.Feed.{Feed}
-use Rattle.algo_rules.specs.Resolved.{feed_by}
+use Rattle.algo_laws.specs.declared.Feed.{Feed}
+use Rattle.algo_laws.specs.Resolved.{feed_by}
 use Rattle.algo_resolve.proofs.frontier.feed_by.Goals as goal
 
 -- what holds whatever x is, at one x

@@ -1,5 +1,5 @@
 use Rattle.std.proofs.Common.{◌≡◌, ◌++◌, drop, map}
-use Rattle.algo_rules.specs.Resolved.{feed_of}
+use Rattle.algo_laws.specs.Resolved.{feed_of}
 use Rattle.algo_resolve.proofs.frontier.feeds.Given as goal
 
 abbrev pub invariant-loop-port : goal.invariant-loop-port

@@ -2,12 +2,12 @@ use Rattle.std.proofs.Common.{◌≡◌, ℕ, ◌+◌, ◌<◌, ◌≤◌, List,
 use Rattle.std.proofs.lemmas.List.{at_drop_all, append-nil}
 use Rattle.std.specs.Prelude.{option_to_list}
 use Rattle.std.specs.List.{flat_map}
-use Rattle.level_meaning.specs.declared.frontier.Give.{Give}
-use Rattle.algo_text.specs.declared.definition.FrontierLine.{FrontierLine}
-use Rattle.algo_rules.specs.Resolved.{give_by}
-use Rattle.algo_rules.specs.declared.ports.Ports.{Ports}
 use Rattle.algo_check.proofs.Fresh.{from_here}
 use Rattle.std.proofs.lemmas.Result.{IfOk-weaker}
+use Rattle.algo_laws.specs.declared.Give.{Give}
+use Rattle.algo_laws.specs.declared.FrontierLine.{FrontierLine}
+use Rattle.algo_laws.specs.Resolved.{give_by}
+use Rattle.algo_laws.specs.declared.Ports.{Ports}
 use Rattle.algo_resolve.proofs.frontier.gives.Goals as goal
 use Rattle.algo_resolve.proofs.frontier.gives.Goals.{in-Some+in_ok-push, in_default}
 

@@ -1,7 +1,7 @@
 use Rattle.std.proofs.Common.{◌≡◌, ◌++◌, drop}
 use Rattle.std.specs.List.{flat_map}
-use Rattle.algo_rules.specs.Resolved.{give_by}
-use Rattle.algo_rules.specs.declared.ports.Ports.{Ports}
+use Rattle.algo_laws.specs.Resolved.{give_by}
+use Rattle.algo_laws.specs.declared.Ports.{Ports}
 use Rattle.algo_resolve.proofs.frontier.gives.Given as goal
 
 abbrev pub invariant-loop-line : goal.invariant-loop-line

@@ -1,7 +1,7 @@
 use Rattle.std.proofs.Common.{◌≡◌, ℕ, ◌+◌, ◌<◌, ℤ, List, [], ◌∷◌, ◌++◌, length, get_or, map, drop, ap, sym, ◌∙◌, append_assoc, w64, to_z, of_z, rules}
 use Rattle.std.proofs.lemmas.Int.{to_z-of_z}
-use Rattle.algo_text.specs.declared.definition.Case.{Case}
 use Rattle.algo_check.proofs.Fresh.{from_here}
+use Rattle.algo_laws.specs.declared.Case.{Case}
 use Rattle.algo_resolve.proofs.kind.case_values.Goals as goal
 
 -- the value of one case more

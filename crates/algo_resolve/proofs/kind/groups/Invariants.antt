@@ -1,5 +1,5 @@
 use Rattle.std.proofs.Common.{◌≡◌, ◌-◌, ◌++◌}
-use Rattle.algo_rules.specs.Resolved.{groups}
+use Rattle.algo_laws.specs.Resolved.{groups}
 use Rattle.algo_resolve.proofs.kind.groups.Given as goal
 
 abbrev pub invariant-loop : goal.invariant-loop

@@ -1,11 +1,11 @@
 use Rattle.std.proofs.Common.{◌≡◌, ℕ, List, map, ap, ◌∙◌}
 use Rattle.std.specs.List.{flat_map}
-use Rattle.level_meaning.specs.declared.frontier.Feed.{Feed}
-use Rattle.level_meaning.specs.declared.frontier.Give.{Give}
-use Rattle.algo_tree.specs.Tree as tree
-use Rattle.algo_text.specs.declared.definition.FrontierLine.{FrontierLine}
-use Rattle.algo_rules.specs.Resolved.{feed_of, give_by}
-use Rattle.algo_rules.specs.declared.ports.Ports.{Ports}
+use Rattle.algo_laws.specs.declared.Feed.{Feed}
+use Rattle.algo_laws.specs.declared.Give.{Give}
+use Rattle.algo_laws.specs.Tree as tree
+use Rattle.algo_laws.specs.declared.FrontierLine.{FrontierLine}
+use Rattle.algo_laws.specs.Resolved.{feed_of, give_by}
+use Rattle.algo_laws.specs.declared.Ports.{Ports}
 use Rattle.algo_resolve.proofs.kind.repeat_kind.Goals as goal
 
 of_lines : (copies : ℕ) (inner own : Ports) (ks ls lines : List FrontierLine) (feeds : List Feed) (gives : List Give) → ks ≡ lines → ls ≡ lines

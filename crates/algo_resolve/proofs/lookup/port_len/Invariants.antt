@@ -1,5 +1,5 @@
 use Rattle.std.proofs.Common.{◌≡◌, drop}
-use Rattle.algo_rules.specs.Ports.{len_of}
+use Rattle.algo_laws.specs.Ports.{len_of}
 use Rattle.algo_resolve.proofs.lookup.port_len.Given as goal
 
 abbrev pub invariant-loop-port : goal.invariant-loop-port

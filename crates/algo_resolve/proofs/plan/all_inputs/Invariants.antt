@@ -1,5 +1,5 @@
 use Rattle.std.proofs.Common.{◌≡◌, ◌++◌, drop, map, Some}
-use Rattle.algo_rules.specs.Resolved.{sources_to}
+use Rattle.algo_laws.specs.Resolved.{sources_to}
 use Rattle.algo_resolve.specs.Parts.{of}
 use Rattle.algo_resolve.proofs.plan.all_inputs.Given as goal
 

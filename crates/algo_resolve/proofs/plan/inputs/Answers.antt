@@ -2,8 +2,8 @@ use Rattle.std.proofs.Common.{List, Some, get_or, ap, sym, ◌∙◌}
 use Rattle.std.proofs.lemmas.Option.{get_or_from_slice_get}
 use Rattle.body_lang.specs.declared.expression.Port.{Port}
 use Rattle.syn_base.specs.Bytes.{Bytes}
-use Rattle.algo_rules.specs.Resolved.{sources_to}
-use Rattle.algo_rules.specs.declared.ports.Ports.{Ports}
+use Rattle.algo_laws.specs.Resolved.{sources_to}
+use Rattle.algo_laws.specs.declared.Ports.{Ports}
 use Rattle.algo_resolve.specs.Parts.{of}
 use Rattle.algo_resolve.proofs.Placed.{place_at, place_there, ports_at}
 use Rattle.algo_resolve.proofs.Planned.{inside}

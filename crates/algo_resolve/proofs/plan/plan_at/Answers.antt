@@ -1,15 +1,15 @@
 use Rattle.std.proofs.Common.{◌≡◌, List, ℕ, ap, ap₂, sym, subst, ◌∙◌}
 use Rattle.std.proofs.lemmas.Option.{get_or_from_slice_get}
-use Rattle.level_meaning.specs.declared.source.Source.{Source}
-use Rattle.algo_tree.specs.Tree.{Kind}
 use Rattle.algo_check.specs.Linked.{named}
-use Rattle.algo_rules.specs.Placed.{ArePlaced}
-use Rattle.algo_text.specs.declared.definition.Def.{Def}
-use Rattle.algo_rules.specs.Ports.{ports_of}
-use Rattle.algo_rules.specs.WellRead.{IsWellRead}
-use Rattle.algo_rules.specs.Resolved.{kind_by, vertex_within}
-use Rattle.algo_rules.specs.declared.ports.Ports.{Ports}
-use Rattle.algo_tree.specs.View.{kind_view}
+use Rattle.algo_laws.specs.declared.Source.{Source}
+use Rattle.algo_laws.specs.Tree.{Kind}
+use Rattle.algo_laws.specs.Placed.{ArePlaced}
+use Rattle.algo_laws.specs.declared.Def.{Def}
+use Rattle.algo_laws.specs.Ports.{ports_of}
+use Rattle.algo_laws.specs.WellRead.{IsWellRead}
+use Rattle.algo_laws.specs.Resolved.{kind_by, vertex_within}
+use Rattle.algo_laws.specs.declared.Ports.{Ports}
+use Rattle.algo_laws.specs.View.{kind_view}
 use Rattle.algo_resolve.specs.Plans.{plan_of, plan_view, planned}
 use Rattle.algo_resolve.proofs.Told.{retold}
 use Rattle.algo_resolve.proofs.Placed.{places_stand}

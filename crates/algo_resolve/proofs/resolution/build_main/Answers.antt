@@ -1,8 +1,8 @@
 use Rattle.std.proofs.Common.{◌≡◌, codes, sym, subst, ◌∙◌}
-use Rattle.algo_text.specs.declared.definition.Def.{Def}
-use Rattle.algo_rules.specs.Placed.{IsPlaced}
-use Rattle.algo_rules.specs.Resolved.{tree_of, vertex_within}
-use Rattle.algo_tree.specs.View.{view}
+use Rattle.algo_laws.specs.declared.Def.{Def}
+use Rattle.algo_laws.specs.Placed.{IsPlaced}
+use Rattle.algo_laws.specs.Resolved.{tree_of, vertex_within}
+use Rattle.algo_laws.specs.View.{view}
 use Rattle.algo_resolve.proofs.Placed.{found_placed}
 use Rattle.algo_resolve.proofs.Told.{main_by, retold}
 use Rattle.algo_resolve.proofs.resolution.build_main.Goals as goal

@@ -1,6 +1,6 @@
 use Rattle.std.proofs.Common.{◌-◌, ◌^◌, ℕ, List, slice_index, codes, ap, sym, ◌∙◌, lit<, nat_lt}
+use Rattle.algo_laws.proofs.Capped.{passed}
 use Rattle.algo_laws.specs.Sizes.{made}
-use Rattle.algo_tree.proofs.Capped.{passed}
 use Rattle.algo_resolve.proofs.resolution.is_too_large.Goals as goal
 
 pub returns : goal.returns

@@ -1,5 +1,5 @@
 use Rattle.std.proofs.Common.{◌≡◌, codes, drop}
-use Rattle.algo_rules.specs.Links.{definition}
+use Rattle.algo_laws.specs.RuleLinks.{definition}
 use Rattle.algo_resolve.proofs.resolution.main_place.Given as goal
 
 abbrev pub invariant-loop-place : goal.invariant-loop-place

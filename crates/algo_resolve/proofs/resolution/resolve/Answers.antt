@@ -1,10 +1,10 @@
 use Rattle.std.proofs.Common.{◌≡◌, false, List, None, Err, sym, subst, ◌∙◌}
-use Rattle.algo_text.specs.declared.definition.Def.{Def}
-use Rattle.algo_rules.specs.Resolved.{refusal, tree_of}
-use Rattle.algo_tree.specs.Size.{is_large}
-use Rattle.algo_tree.specs.Tree.{Vertex}
-use Rattle.algo_tree.specs.Bounded.{HasBounds}
-use Rattle.algo_tree.specs.Named.{HasNames}
+use Rattle.algo_laws.specs.declared.Def.{Def}
+use Rattle.algo_laws.specs.Resolved.{refusal, tree_of}
+use Rattle.algo_laws.specs.Size.{is_large}
+use Rattle.algo_laws.specs.Tree.{Vertex}
+use Rattle.algo_laws.specs.Bounded.{HasBounds}
+use Rattle.algo_laws.specs.Named.{HasNames}
 use Rattle.algo_laws.proofs.Bounds.{have_bounds}
 use Rattle.algo_laws.proofs.Names.{have_names}
 use Rattle.algo_resolve.specs.Ready.{IsReady}

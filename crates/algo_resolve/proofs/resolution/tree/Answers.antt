@@ -1,5 +1,5 @@
 use Rattle.std.proofs.Common.{sym, subst, ◌∙◌}
-use Rattle.algo_tree.specs.Valid.{IsTree}
+use Rattle.algo_laws.specs.Valid.{IsTree}
 use Rattle.algo_resolve.proofs.resolution.tree.Goals as goal
 
 pub new-requires : goal.new-requires

@@ -1,6 +1,6 @@
 use Rattle.std.proofs.Common.{◌≡◌, ◌-◌, List, ap, ◌∙◌, arith}
-use Rattle.level_meaning.specs.declared.source.Source.{Source}
-use Rattle.algo_rules.specs.Resolved.{owns}
+use Rattle.algo_laws.specs.declared.Source.{Source}
+use Rattle.algo_laws.specs.Resolved.{owns}
 use Rattle.algo_resolve.proofs.Steps.{owns_more}
 use Rattle.algo_resolve.proofs.Told.{retold}
 use Rattle.algo_resolve.proofs.sources.own_inputs.Goals as goal

@@ -1,5 +1,5 @@
 use Rattle.std.proofs.Common.{◌≡◌, drop}
-use Rattle.algo_text.specs.Among.{is_among}
+use Rattle.algo_rules.specs.Among.{is_among}
 use Rattle.body_check.specs.Lines.{all_used}
 use Rattle.body_check.proofs.repetition.is_used.Given as goal
 

@@ -1,5 +1,5 @@
 use Rattle.std.proofs.Common.{rules, ap, ◌≡◌, ◌<◌, ◌∷◌, [], length, add-one, sym, ◌∙◌, arith, cond, None}
-use Rattle.algo_text.specs.declared.fault.AlgoCause.TheVariants.{BadCase}
+use Rattle.algo_rules.specs.declared.AlgoCause.TheVariants.{BadCase}
 use Rattle.algo_rules.specs.Links.{fault}
 use Rattle.algo_rules.specs.Ports.{ports_of}
 use Rattle.algo_rules.specs.Frontiers.{fits, switch_fault}

@@ -1,5 +1,5 @@
 use Rattle.std.proofs.Common.{◌≡◌, ◌++◌, ◌∷◌, [], take, drop, map, None, cond}
-use Rattle.algo_text.specs.declared.fault.AlgoCause.TheVariants.{BadCase}
+use Rattle.algo_rules.specs.declared.AlgoCause.TheVariants.{BadCase}
 use Rattle.algo_rules.specs.Links.{fault, first_of}
 use Rattle.algo_rules.specs.Ports.{ports_of}
 use Rattle.algo_rules.specs.Frontiers.{fits, case_faults, switch_fault}

@@ -1,9 +1,8 @@
 use Rattle.std.proofs.Common.{[], subst, ◌≡◌}
-use Rattle.std.specs.Prelude.{OnOk, codes}
+use Rattle.std.specs.Prelude.{OnOk, codes, length}
 use Rattle.syn_base.specs.Bytes.{Bytes}
-use Rattle.std.specs.Prelude.{length}
 use Rattle.std.specs.List.{flat_map}
-use Rattle.schedule.specs.Acts.{acts_of}
+use Rattle.self_timed.specs.Acts.{acts_of}
 use Rattle.svg_text.specs.declared.style.TheConstants.{END_GROUP}
 use Rattle.svg_text.specs.Shapes.{group_text, point}
 use Rattle.chart_picture.specs.Arrows.{arrows_text, links_from}

@@ -1,6 +1,6 @@
 use Rattle.std.proofs.Common.{◌≡◌, ◌+◌, ◌++◌, drop, map, length, ◌∙◌}
 use Rattle.std.specs.List.{flat_map}
-use Rattle.schedule.specs.Acts.{acts_of, carry}
+use Rattle.self_timed.specs.Acts.{acts_of, carry}
 use Rattle.svg_text.proofs.Appending.{goes_on}
 use Rattle.chart_picture.specs.Arrows.{links_from}
 use Rattle.chart_picture.proofs.Reading.{sources_step}

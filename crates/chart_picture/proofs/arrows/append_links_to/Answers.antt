@@ -1,5 +1,5 @@
 use Rattle.std.proofs.Common.{◌≡◌, ◌+◌, ◌++◌, [], ◌∷◌, drop, map, length, sym, ◌∙◌, append_assoc}
-use Rattle.schedule.specs.Acts.{acts_of, carry, run}
+use Rattle.self_timed.specs.Acts.{acts_of, carry, run}
 use Rattle.svg_text.proofs.Appending.{goes_on, two}
 use Rattle.chart_picture.specs.Arrows.{links_to}
 use Rattle.chart_picture.proofs.Reading.{readers_step}

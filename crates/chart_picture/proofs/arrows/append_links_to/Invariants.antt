@@ -1,5 +1,5 @@
 use Rattle.std.proofs.Common.{◌≡◌, ◌++◌, drop, length}
-use Rattle.schedule.specs.Acts.{acts_of}
+use Rattle.self_timed.specs.Acts.{acts_of}
 use Rattle.chart_picture.specs.Arrows.{links_to}
 use Rattle.chart_picture.proofs.arrows.append_links_to.Given as goal
 

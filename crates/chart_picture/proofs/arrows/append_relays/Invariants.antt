@@ -1,5 +1,5 @@
 use Rattle.std.proofs.Common.{◌≡◌, ◌++◌, drop, length, map}
-use Rattle.schedule.specs.Acts.{carry}
+use Rattle.self_timed.specs.Acts.{carry}
 use Rattle.chart_picture.specs.Arrows.{links_to}
 use Rattle.chart_picture.proofs.arrows.append_relays.Given as goal
 

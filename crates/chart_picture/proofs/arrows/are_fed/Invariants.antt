@@ -1,6 +1,6 @@
 use Rattle.std.proofs.Common.{◌≡◌, drop, map}
 use Rattle.std.specs.List.{list_any}
-use Rattle.schedule.specs.Acts.{copy}
+use Rattle.self_timed.specs.Acts.{copy}
 use Rattle.chart_picture.specs.Arrows.{brings}
 use Rattle.chart_picture.proofs.arrows.are_fed.Given as goal
 

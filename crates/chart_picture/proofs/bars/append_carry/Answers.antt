@@ -2,7 +2,7 @@ use Rattle.std.proofs.Common.{subst, ◌++◌, ◌∙◌, ◌≡◌}
 use Rattle.std.specs.Prelude.{OnOk, codes}
 use Rattle.syn_base.specs.Bytes.{Bytes}
 use Rattle.svg_text.specs.Shapes.{bar_end, bar_text}
-use Rattle.schedule.specs.Acts.{carry}
+use Rattle.self_timed.specs.Acts.{carry}
 use Rattle.chart_picture.specs.Bars.{bar_line, label_text, title_of}
 use Rattle.svg_text.proofs.Appending.{four}
 use Rattle.chart_picture.proofs.bars.append_carry.Goals as goal

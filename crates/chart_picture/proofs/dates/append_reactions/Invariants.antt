@@ -1,5 +1,5 @@
 use Rattle.std.proofs.Common.{◌≡◌, ◌++◌}
-use Rattle.schedule.specs.Acts.{acts_of}
+use Rattle.self_timed.specs.Acts.{acts_of}
 use Rattle.chart_picture.specs.Printed.{drawn_up_to}
 use Rattle.chart_picture.proofs.dates.append_reactions.Given as goal
 

@@ -1,6 +1,6 @@
 use Rattle.std.proofs.Common.{◌≡◌, ℕ, length, subst, ap, ◌∙◌, arith}
 use Rattle.std.specs.Prelude.{IfOk}
-use Rattle.schedule.specs.Acts.{Act}
+use Rattle.self_timed.specs.Acts.{Act}
 use Rattle.self_timed.specs.Running.{span}
 use Rattle.self_timed.specs.Told.{end_at, start_at}
 use Rattle.syn_base.specs.Bytes.{Bytes}

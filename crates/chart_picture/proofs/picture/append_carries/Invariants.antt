@@ -1,5 +1,5 @@
 use Rattle.std.proofs.Common.{◌≡◌, ◌++◌, drop, map}
-use Rattle.schedule.specs.Acts.{carry, is_over}
+use Rattle.self_timed.specs.Acts.{carry, is_over}
 use Rattle.chart_picture.specs.Bars.{bars_text}
 use Rattle.chart_picture.proofs.picture.append_carries.Given as goal
 

@@ -1,5 +1,5 @@
 use Rattle.std.proofs.Common.{◌≡◌, ◌++◌, drop}
-use Rattle.schedule.specs.Acts.{acts_of}
+use Rattle.self_timed.specs.Acts.{acts_of}
 use Rattle.chart_picture.specs.Picture.{medium_lanes}
 use Rattle.chart_picture.proofs.picture.append_media.Given as goal
 

@@ -1,7 +1,7 @@
 use Rattle.std.proofs.Common.{subst, ◌++◌, ◌+◌, ◌∙◌, ◌≡◌}
 use Rattle.std.specs.Prelude.{OnOk, codes}
 use Rattle.syn_base.specs.Bytes.{Bytes}
-use Rattle.schedule.specs.Acts.{acts_of, is_over}
+use Rattle.self_timed.specs.Acts.{acts_of, is_over}
 use Rattle.svg_text.specs.declared.style.TheConstants.{END_GROUP}
 use Rattle.chart_picture.specs.Bars.{bars_text}
 use Rattle.chart_picture.specs.Frame.{lane_text}

@@ -1,5 +1,5 @@
 use Rattle.std.proofs.Common.{◌+◌, ◌++◌, drop, ap, sym, append_assoc, ◌∙◌}
-use Rattle.schedule.specs.Acts.{acts_of, is_on, run}
+use Rattle.self_timed.specs.Acts.{acts_of, is_on, run}
 use Rattle.chart_picture.specs.Bars.{bar_line, bar_of, bars_text}
 use Rattle.chart_picture.proofs.Drawn.{on_here, on_past}
 use Rattle.chart_picture.proofs.picture.append_on.Goals.{then-decision-operator+in_ok-append_run, else-decision-operator}

@@ -1,6 +1,6 @@
 use Rattle.std.proofs.Common.{◌+◌, ◌++◌, drop, ◌∙◌}
 use Rattle.std.specs.Prelude.{codes}
-use Rattle.schedule.specs.Acts.{acts_of, is_on}
+use Rattle.self_timed.specs.Acts.{acts_of, is_on}
 use Rattle.svg_text.proofs.Appending.{goes_on}
 use Rattle.chart_picture.specs.Picture.{lane_part, operator_lanes}
 use Rattle.chart_picture.proofs.Drawn.{operator_step}

@@ -1,5 +1,5 @@
 use Rattle.std.proofs.Common.{◌≡◌, ◌++◌, drop}
-use Rattle.schedule.specs.Acts.{acts_of, is_over}
+use Rattle.self_timed.specs.Acts.{acts_of, is_over}
 use Rattle.chart_picture.specs.Bars.{bars_text}
 use Rattle.chart_picture.proofs.picture.append_over.Given as goal
 

@@ -1,7 +1,7 @@
 use Rattle.std.proofs.Common.{subst, ◌++◌, ◌≡◌}
 use Rattle.std.specs.Prelude.{OnOk}
 use Rattle.syn_base.specs.Bytes.{Bytes}
-use Rattle.schedule.specs.Acts.{acts_of}
+use Rattle.self_timed.specs.Acts.{acts_of}
 use Rattle.svg_text.specs.declared.style.TheConstants.{END, END_GROUP}
 use Rattle.chart_picture.specs.Picture.{begin_text, legend_text, plot_text, whole_text}
 use Rattle.svg_text.proofs.Appending.{four}

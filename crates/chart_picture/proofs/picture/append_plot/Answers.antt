@@ -1,8 +1,7 @@
 use Rattle.std.proofs.Common.{subst, ◌++◌, ◌∙◌, ◌≡◌}
-use Rattle.std.specs.Prelude.{OnOk, codes}
+use Rattle.std.specs.Prelude.{OnOk, codes, length}
 use Rattle.syn_base.specs.Bytes.{Bytes}
-use Rattle.std.specs.Prelude.{length}
-use Rattle.schedule.specs.Acts.{acts_of}
+use Rattle.self_timed.specs.Acts.{acts_of}
 use Rattle.svg_text.specs.Axis.{axis_text}
 use Rattle.chart_picture.specs.Arrows.{arrows_text}
 use Rattle.chart_picture.specs.Picture.{lanes_text, plot_text}

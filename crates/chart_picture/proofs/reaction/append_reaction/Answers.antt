@@ -1,8 +1,7 @@
 use Rattle.std.proofs.Common.{subst, ◌≡◌}
-use Rattle.std.specs.Prelude.{OnOk, codes}
+use Rattle.std.specs.Prelude.{OnOk, codes, length}
 use Rattle.syn_base.specs.Bytes.{Bytes}
-use Rattle.std.specs.Prelude.{length}
-use Rattle.schedule.specs.Acts.{acts_of}
+use Rattle.self_timed.specs.Acts.{acts_of}
 use Rattle.self_timed.specs.Told.{reaction_at}
 use Rattle.dates_text.specs.Printed.{dated_by}
 use Rattle.svg_text.specs.declared.style.TheConstants.{END_GROUP}

@@ -1,7 +1,7 @@
 use Rattle.std.proofs.Common.{◌≡◌, ◌+◌, ◌*◌, ◌++◌, length, subst, ap, ◌∙◌, append_assoc}
 use Rattle.std.specs.Prelude.{OnOk}
-use Rattle.schedule.specs.Acts.{run}
 use Rattle.syn_base.specs.Bytes.{Bytes}
+use Rattle.self_timed.specs.Acts.{run}
 use Rattle.svg_text.specs.Scale.{place}
 use Rattle.svg_text.specs.Shapes.{bar_end, tile_text}
 use Rattle.svg_text.proofs.Appending.{three}

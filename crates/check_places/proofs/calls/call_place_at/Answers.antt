@@ -1,6 +1,6 @@
 -- Part by part.
 use Rattle.std.proofs.Common.{◌∙◌}
-use Rattle.executive_program.specs.MicroSteps.{first_of}
+use Rattle.sequence_build_laws.specs.MicroSteps.{first_of}
 use Rattle.check_places.proofs.calls.call_place_at.Goals as goal
 
 pub returns : goal.returns

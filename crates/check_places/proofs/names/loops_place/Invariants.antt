@@ -1,6 +1,6 @@
 use Rattle.std.proofs.Common.{◌≡◌, drop}
 use Rattle.check_places.specs.First.{first_from}
-use Rattle.executive_program.specs.declared.program.SeqCode.{SeqCode}
+use Rattle.sequence_build_laws.specs.declared.SeqCode.{SeqCode}
 use Rattle.check_places.specs.declared.place.Part.TheVariants.{Loop}
 use Rattle.check_places.specs.Names.{name_place}
 use Rattle.check_places.proofs.names.loops_place.Given as goal

@@ -1,7 +1,7 @@
 -- The pairs of readings are those of readers.
 use Rattle.std.proofs.Common.{◌≡◌, ℕ, length, not, nat_lt, ap, ◌∙◌}
 use Rattle.std.specs.Prelude.{None}
-use Rattle.executive_program.specs.MicroSteps.{first_of}
+use Rattle.sequence_build_laws.specs.MicroSteps.{first_of}
 use Rattle.check_places.specs.declared.place.Rule.TheVariants.{FurtherPair}
 use Rattle.check_places.specs.declared.place.Subject.TheVariants.{Pair}
 use Rattle.check_places.specs.First.{broken, unless}

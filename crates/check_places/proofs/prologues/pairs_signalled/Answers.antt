@@ -1,7 +1,7 @@
 -- The pairs before a reading, and its own.
 use Rattle.std.proofs.Common.{◌≡◌, ℕ, ◌++◌, get_or, ap, ◌∙◌}
 use Rattle.std.proofs.lemmas.Option.{slice_get-get_or}
-use Rattle.executive_program.specs.Blocks.{repeated}
+use Rattle.sequence_build_laws.specs.Blocks.{repeated}
 use Rattle.program_tables.specs.declared.readings.Reading.{Reading}
 use Rattle.check_places.proofs.ByReading.{with_it, without_it}
 use Rattle.check_places.proofs.prologues.pairs_signalled.Goals.{then-reading-sequence+in_ok-push_repeated, else-reading-sequence}

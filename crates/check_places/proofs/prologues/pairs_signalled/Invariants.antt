@@ -1,6 +1,6 @@
 use Rattle.std.proofs.Common.{◌≡◌}
-use Rattle.executive_program.specs.Blocks.{blocks, repeated}
-use Rattle.executive_program.specs.Places.{opening_signals}
+use Rattle.sequence_build_laws.specs.Blocks.{blocks, repeated}
+use Rattle.sequence_build_laws.specs.Places.{opening_signals}
 use Rattle.check_places.proofs.prologues.pairs_signalled.Given as goal
 
 abbrev pub invariant-loop-pair : goal.invariant-loop-pair

@@ -1,6 +1,6 @@
 use Rattle.std.proofs.Common.{◌≡◌, drop}
 use Rattle.check_places.specs.First.{first_from}
-use Rattle.executive_program.specs.declared.program.SeqCode.{SeqCode}
+use Rattle.sequence_build_laws.specs.declared.SeqCode.{SeqCode}
 use Rattle.check_places.specs.Pairs.{pairs_signalled, signal_place}
 use Rattle.check_places.proofs.prologues.prologue_place.Given as goal
 

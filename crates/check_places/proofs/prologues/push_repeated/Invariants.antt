@@ -1,5 +1,5 @@
 use Rattle.std.proofs.Common.{◌≡◌, ◌++◌}
-use Rattle.executive_program.specs.Blocks.{repeated}
+use Rattle.sequence_build_laws.specs.Blocks.{repeated}
 use Rattle.check_places.proofs.prologues.push_repeated.Given as goal
 
 abbrev pub invariant-loop : goal.invariant-loop

@@ -1,7 +1,7 @@
 use Rattle.std.proofs.Common.{◌≡◌, sym, ap, arith, ◌∙◌, below_more}
 use Rattle.std.specs.Prelude.{None}
 use Rattle.std.proofs.lemmas.Option.{slice_get-get_or}
-use Rattle.executive_program.specs.MicroSteps.{transfers}
+use Rattle.sequence_build_laws.specs.MicroSteps.{transfers}
 use Rattle.macro_check.proofs.MovedBy.{crossing_here, many_here}
 use Rattle.check_places.specs.Transfers.{moved_place, moved_place_by}
 use Rattle.check_places.proofs.Firsts.{none_below, some_below}

@@ -1,6 +1,6 @@
 -- An input that is not carried is the first.
 use Rattle.std.proofs.Common.{◌≡◌, ◌+◌, get_or, sym, ap, ◌∙◌}
-use Rattle.flat_graph.specs.declared.vertex.Source.{Source}
+use Rattle.sequence_build_laws.specs.declared.Source.{Source}
 use Rattle.check_places.specs.declared.place.Rule.TheVariants.{OtherInput}
 use Rattle.check_places.specs.declared.place.Subject.TheVariants.{Input}
 use Rattle.check_places.specs.Buffers.{input_place}

@@ -1,6 +1,6 @@
 use Rattle.std.proofs.Common.{◌≡◌, ◌<◌, length, sym, subst, arith}
 use Rattle.std.proofs.lemmas.Option.{slice_get-get_or}
-use Rattle.executive_program.specs.MicroSteps.{transfers}
+use Rattle.sequence_build_laws.specs.MicroSteps.{transfers}
 use Rattle.program_tables.specs.declared.crossings.Crossing.{Crossing}
 use Rattle.macro_check.proofs.MovedBy.{crossing_here, many_here}
 use Rattle.check_places.specs.Buffers.{kept_place}

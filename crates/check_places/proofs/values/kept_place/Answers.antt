@@ -1,6 +1,6 @@
 -- Part by part.
 use Rattle.std.proofs.Common.{◌≡◌, ap, ◌∙◌}
-use Rattle.executive_program.specs.MicroSteps.{first_of}
+use Rattle.sequence_build_laws.specs.MicroSteps.{first_of}
 use Rattle.check_places.specs.declared.place.Rule.TheVariants.{OtherValue, UnequalLengths}
 use Rattle.check_places.specs.declared.place.Subject.TheVariants.{Transfer}
 use Rattle.check_places.specs.First.{broken, unless}

@@ -1,7 +1,7 @@
 -- What the check tells of the program.
 use Rattle.std.proofs.Common.{◌≡◌, ℕ, List, length, sym, ap, subst, ◌∙◌}
-use Rattle.flat_graph.specs.declared.vertex.Vertex.{Vertex}
-use Rattle.archi_graph.specs.Sequences.{sequences}
+use Rattle.sequence_build_laws.specs.declared.Vertex.{Vertex}
+use Rattle.sequence_build_laws.specs.Sequences.{sequences}
 use Rattle.macro_check.specs.Causes.{cause_of}
 use Rattle.macro_check.proofs.Results.{if_ok}
 use Rattle.check_places.specs.Why.{RightBefore, why_of}

@@ -1,5 +1,5 @@
 use Rattle.std.proofs.Common.{◌≡◌, ◌≤◌, ◌^◌, drop}
-use Rattle.archi_graph.specs.Archi.{ascends_from}
+use Rattle.executive_program.specs.Archi.{ascends_from}
 use Rattle.code_lines.proofs.arguments.ascends.Given as goal
 
 abbrev pub invariant-loop-number : goal.invariant-loop-number

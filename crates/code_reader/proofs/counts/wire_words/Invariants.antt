@@ -1,5 +1,5 @@
 use Rattle.std.proofs.Common.{◌≡◌, ◌-◌, ◌^◌, min}
-use Rattle.interleavings.specs.Owners.{sum_below}
+use Rattle.executive_program.specs.Owners.{sum_below}
 use Rattle.macro_code.specs.ReadText.{wire_len}
 use Rattle.code_reader.specs.Wide.{program_of}
 use Rattle.code_reader.proofs.counts.wire_words.Given as goal

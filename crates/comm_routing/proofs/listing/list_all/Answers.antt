@@ -1,8 +1,8 @@
 -- One more source.
 use Rattle.std.proofs.Common.{List, ◌∙◌, ap, sym, refl}
 use Rattle.std.proofs.lemmas.List.{at_drop_all}
-use Rattle.flat_graph.specs.declared.vertex.Source.{Source}
 use Rattle.route_table.specs.Table.{route_in}
+use Rattle.schedule.specs.declared.Source.{Source}
 use Rattle.comm_routing.specs.Board.{held_in, on_in, time_in}
 use Rattle.comm_routing.specs.Walk.{Walk, walk, fetch_all, listed_all}
 use Rattle.comm_routing.proofs.Appending.{all_appended}

@@ -1,7 +1,7 @@
 use Rattle.std.proofs.Common.{◌≤◌, List, [], arith, length, ap, false, subst, sym}
 use Rattle.syn_base.specs.declared.name.Name.{Name}
-use Rattle.flat_graph.specs.declared.vertex.Vertex.{Vertex}
 use Rattle.std.proofs.lemmas.Bool.{false≢true, and_parts}
+use Rattle.schedule.specs.declared.Vertex.{Vertex}
 use Rattle.comm_routing.specs.Candidates.{flag_at}
 use Rattle.comm_routing.specs.Draft.{IsTold, drafted}
 use Rattle.comm_routing.proofs.Sites.{all_few, told_begin}

@@ -1,7 +1,7 @@
 use Rattle.std.proofs.Common.{◌≤◌, List, ap, arith, length, refl, subst, sym, ◌∙◌}
 use Rattle.syn_base.specs.declared.name.Name.{Name}
-use Rattle.archi_graph.specs.declared.medium.Medium.{Medium}
-use Rattle.flat_graph.specs.declared.vertex.Source.{Source}
+use Rattle.schedule.specs.declared.Medium.{Medium}
+use Rattle.schedule.specs.declared.Source.{Source}
 use Rattle.comm_routing.specs.Draft.{drafted}
 use Rattle.comm_routing.proofs.Finding.{chosen}
 use Rattle.comm_routing.proofs.Sites.{length-reads}

@@ -1,7 +1,7 @@
 use Rattle.std.proofs.Common.{sym, subst, List, [], ◌∙◌}
 use Rattle.std.specs.Prelude.{All}
-use Rattle.flat_graph.specs.declared.vertex.Source.{Source}
 use Rattle.route_table.specs.Table.{route_in}
+use Rattle.schedule.specs.declared.Source.{Source}
 use Rattle.comm_routing.specs.Board.{HasWay}
 use Rattle.comm_routing.proofs.Reading.{any_default}
 use Rattle.comm_routing.proofs.reach.arrival_on.Goals as goal

@@ -1,6 +1,6 @@
 use Rattle.std.proofs.Common.{sym, subst, List}
 use Rattle.std.specs.Prelude.{slice_set}
-use Rattle.flat_graph.specs.declared.vertex.Source.{Source}
+use Rattle.schedule.specs.declared.Source.{Source}
 use Rattle.comm_routing.specs.Start.{IsMarked, place_of}
 use Rattle.comm_routing.proofs.Marking.{noted}
 use Rattle.comm_routing.proofs.reads.note.Goals as goal

@@ -1,5 +1,5 @@
 use Rattle.std.proofs.Common.{◌≡◌, List, ◌++◌, drop, map}
-use Rattle.flat_graph.specs.declared.vertex.Source.{Source}
+use Rattle.schedule.specs.declared.Source.{Source}
 use Rattle.comm_routing.specs.Start.{IsMarked}
 use Rattle.comm_routing.specs.Walk.{distinct_after}
 use Rattle.comm_routing.proofs.reads.note_guards.Given as goal

@@ -1,6 +1,6 @@
 use Rattle.std.specs.Prelude.{is_ok, false, true}
 use Rattle.std.proofs.lemmas.Result.{err_from_is_err_and}
-use Rattle.outside.proofs.Append.{wrote_part, wrote_then}
+use Rattle.command_plan.proofs.Append.{wrote_part, wrote_then}
 use Rattle.command_status.specs.Lines.{head, architecture_detail, architecture_word}
 use Rattle.command_status.proofs.Heads.{head_wrote}
 use Rattle.command_status.proofs.architecture.write_described.Goals as goal

@@ -2,8 +2,8 @@ use Rattle.std.proofs.Common.{subst}
 use Rattle.std.specs.Prelude.{is_ok, false, true}
 use Rattle.std.proofs.lemmas.Result.{err_from_is_err_and}
 use Rattle.syn_base.specs.Bytes.{Bytes}
-use Rattle.outside.specs.Sink.{Wrote}
-use Rattle.outside.proofs.Append.{wrote_part, wrote_then}
+use Rattle.command_plan.specs.Sink.{Wrote}
+use Rattle.command_plan.proofs.Append.{wrote_part, wrote_then}
 use Rattle.command_status.specs.Lines.{check_detail, check_head, check_word}
 use Rattle.command_status.proofs.code.write_check.Goals as goal
 

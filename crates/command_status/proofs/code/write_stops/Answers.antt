@@ -3,10 +3,10 @@ use Rattle.std.specs.Prelude.{is_ok}
 use Rattle.std.proofs.lemmas.Result.{err_from_is_err_and}
 use Rattle.std.proofs.lemmas.List.{drop_all}
 use Rattle.syn_base.specs.Bytes.{Bytes}
-use Rattle.outside.specs.Sink.{Wrote}
-use Rattle.outside.proofs.Append.{wrote_then}
-use Rattle.outside.proofs.Pieces.{piece_more, piece_failed}
 use Rattle.check_cause.specs.declared.cause.Stop.{Stop}
+use Rattle.command_plan.specs.Sink.{Wrote}
+use Rattle.command_plan.proofs.Append.{wrote_then}
+use Rattle.command_plan.proofs.Pieces.{piece_more, piece_failed}
 use Rattle.command_status.specs.Lines.{stops_line}
 use Rattle.command_status.proofs.Heads.{stops_at}
 use Rattle.command_status.proofs.code.write_stops.Goals as goal

@@ -1,6 +1,6 @@
 use Rattle.std.proofs.Common.{drop, ◌≡◌, ◌++◌}
 use Rattle.syn_base.specs.Bytes.{Bytes}
-use Rattle.outside.specs.Sink.{Appends}
+use Rattle.command_plan.specs.Sink.{Appends}
 use Rattle.command_status.specs.Lines.{stops_line}
 use Rattle.command_status.proofs.code.write_stops.Given as goal
 

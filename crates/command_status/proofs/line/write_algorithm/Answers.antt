@@ -2,7 +2,7 @@ use Rattle.std.proofs.Common.{codes}
 use Rattle.std.specs.Prelude.{is_ok, false, true}
 use Rattle.std.proofs.lemmas.Result.{err_from_is_err_and}
 use Rattle.syn_base.specs.Bytes.{Bytes}
-use Rattle.outside.proofs.Append.{wrote_part, wrote_then}
+use Rattle.command_plan.proofs.Append.{wrote_part, wrote_then}
 use Rattle.command_status.specs.Lines.{head, algorithm_detail, algorithm_word}
 use Rattle.command_status.proofs.Heads.{head_wrote}
 use Rattle.command_status.proofs.line.write_algorithm.Goals as goal

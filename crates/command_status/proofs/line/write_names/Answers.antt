@@ -3,10 +3,10 @@ use Rattle.std.specs.Prelude.{is_ok}
 use Rattle.std.proofs.lemmas.Result.{err_from_is_err_and}
 use Rattle.std.proofs.lemmas.List.{drop_all}
 use Rattle.syn_base.specs.Bytes.{Bytes}
-use Rattle.outside.specs.Bytes.{joined}
-use Rattle.outside.specs.Sink.{Wrote}
-use Rattle.outside.proofs.Append.{wrote_then}
-use Rattle.outside.proofs.Pieces.{piece_more, piece_failed}
+use Rattle.command_plan.specs.Bytes.{joined}
+use Rattle.command_plan.specs.Sink.{Wrote}
+use Rattle.command_plan.proofs.Append.{wrote_then}
+use Rattle.command_plan.proofs.Pieces.{piece_more, piece_failed}
 use Rattle.command_status.specs.Lines.{names_line}
 use Rattle.command_status.proofs.Heads.{names_at}
 use Rattle.command_status.proofs.line.write_names.Goals as goal

@@ -2,7 +2,7 @@ use Rattle.std.proofs.Common.{subst}
 use Rattle.std.specs.Prelude.{Err}
 use Rattle.syn_base.specs.Bytes.{Bytes}
 use Rattle.std.proofs.lemmas.Result.{err_from_is_err_and}
-use Rattle.command_plan.specs.Run.{not_read, was_read}
+use Rattle.top_plans.specs.Run.{not_read, was_read}
 use Rattle.compiler.specs.Compiles.{MakesAlgorithm}
 use Rattle.compiler.proofs.Steps.{refused_so}
 use Rattle.compiler.proofs.files.read_algorithm.Goals as goal

@@ -1,10 +1,10 @@
 use Rattle.std.proofs.Common.{◌≤◌, length, subst, sym}
 use Rattle.std.proofs.lemmas.Result.{err_from_is_err_and}
 use Rattle.syn_base.specs.Bytes.{Bytes}
-use Rattle.outside.specs.Shelf.{file_bound}
-use Rattle.archi_defs.specs.Text.{description_of}
-use Rattle.archi_reader.specs.Given.{Fails}
-use Rattle.command_plan.specs.Run.{not_read, was_read}
+use Rattle.text_lines.specs.Refusals.{Fails}
+use Rattle.sequence_build_laws.specs.Text.{description_of}
+use Rattle.top_plans.specs.Shelf.{file_bound}
+use Rattle.top_plans.specs.Run.{not_read, was_read}
 use Rattle.compiler.proofs.Architectures.{text_refused}
 use Rattle.compiler.proofs.files.read_description.Goals as goal
 

@@ -3,8 +3,8 @@ use Rattle.std.specs.Prelude.{Err}
 use Rattle.std.proofs.lemmas.Result.{err_from_is_err_and}
 use Rattle.csv.specs.Reading.{default_config, records, strip_bom}
 use Rattle.syn_base.specs.Bytes.{Bytes}
-use Rattle.sensor_table.specs.SensorTable.{rows_of}
-use Rattle.command_plan.specs.Run.{not_read, was_read}
+use Rattle.top_plans.specs.SensorTable.{rows_of}
+use Rattle.top_plans.specs.Run.{not_read, was_read}
 use Rattle.compiler.specs.Reads.{MakesTable}
 use Rattle.compiler.proofs.Steps.{table_refused}
 use Rattle.compiler.proofs.files.read_table.Goals as goal

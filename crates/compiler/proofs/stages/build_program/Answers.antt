@@ -1,11 +1,11 @@
 use Rattle.std.proofs.Common.{◌≡◌, ◌∙◌, ap, subst, length}
 use Rattle.std.specs.Prelude.{None, Some}
-use Rattle.durations.specs.Table.{entry_in}
-use Rattle.executive_program.specs.declared.program.Program.{Program}
-use Rattle.schedule.specs.declared.decision.Schedule.{Schedule}
+use Rattle.sequence_build_laws.specs.Table.{entry_in}
+use Rattle.sequence_build_laws.specs.declared.Program.{Program}
+use Rattle.sequence_build_laws.specs.declared.Schedule.{Schedule}
 use Rattle.sequence_build_laws.specs.Built.{order_of, program_of}
-use Rattle.sequence_build.specs.Limit.{program_limit}
-use Rattle.command_plan.proofs.Makes.{memory}
+use Rattle.top_plans.specs.Limit.{program_limit}
+use Rattle.top_plans.proofs.Makes.{memory}
 use Rattle.top_plans.specs.Plans.{program_by, program_plan}
 use Rattle.compiler.proofs.Steps.{is_above}
 use Rattle.compiler.proofs.stages.build_program.Goals as goal

@@ -1,5 +1,5 @@
 use Rattle.std.proofs.lemmas.Result.{err_from_is_err_and}
-use Rattle.command_plan.proofs.Makes.{memory}
+use Rattle.top_plans.proofs.Makes.{memory}
 use Rattle.top_plans.specs.Plans.{program_plan}
 use Rattle.compiler.proofs.stages.compile_to_program.Goals as goal
 

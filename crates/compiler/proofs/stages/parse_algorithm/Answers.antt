@@ -1,6 +1,6 @@
 use Rattle.std.proofs.lemmas.Result.{err_from_is_err_and}
-use Rattle.elaboration.proofs.Bounded.{elaborated}
-use Rattle.elaboration.proofs.Whole.{have_periods}
+use Rattle.top_plans.proofs.Bounded.{elaborated}
+use Rattle.top_plans.proofs.Whole.{have_periods}
 use Rattle.compiler.proofs.Sizes.{few_definitions, few_lines}
 use Rattle.compiler.proofs.Steps.{by_definitions}
 use Rattle.compiler.proofs.stages.parse_algorithm.Goals as goal

@@ -1,5 +1,5 @@
 use Rattle.std.proofs.Common.{◌≡◌, length, refl, arith}
-use Rattle.level_meaning.specs.declared.source.Source.TheVariants.{Own}
+use Rattle.algo_tree.specs.declared.Source.TheVariants.{Own}
 use Rattle.conditioning.proofs.Same.{own_all, own_more}
 use Rattle.conditioning.proofs.conditions.are_own.Goals as goal
 

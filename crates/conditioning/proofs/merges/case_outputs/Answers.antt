@@ -1,9 +1,9 @@
 use Rattle.std.proofs.Common.{ℕ, ◌++◌, ◌∷◌, [], List, map, ap, sym, ◌∙◌, add-one}
 use Rattle.std.proofs.lemmas.List.{map_push}
-use Rattle.level_meaning.specs.declared.source.Source.{Source}
-use Rattle.level_meaning.specs.declared.source.Source.TheVariants.{Of}
-use Rattle.level_meaning.specs.Level.{numbers_below}
+use Rattle.algo_tree.specs.declared.Source.{Source}
+use Rattle.algo_tree.specs.declared.Source.TheVariants.{Of}
 use Rattle.conditioning.proofs.merges.case_outputs.Goals as goal
+use Rattle.syn_base.specs.Numbers.{numbers_below}
 
 pub loop-case-preserved : goal.loop-case-preserved
 loop-case-preserved c =

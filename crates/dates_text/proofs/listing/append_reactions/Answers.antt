@@ -1,5 +1,5 @@
 use Rattle.std.proofs.Common.{◌≡◌, ℕ, suc, ◌+◌, length, subst, arith}
-use Rattle.schedule.specs.Acts.{acts_of}
+use Rattle.self_timed.specs.Acts.{acts_of}
 use Rattle.self_timed.specs.Told.{reaction_at}
 use Rattle.dates_text.specs.Printed.{Appends, dated_by, dates_up_to}
 use Rattle.dates_text.proofs.Left.{both}

@@ -1,5 +1,5 @@
 use Rattle.std.proofs.Common.{length}
-use Rattle.schedule.specs.Acts.{acts_of}
+use Rattle.self_timed.specs.Acts.{acts_of}
 use Rattle.dates_text.specs.Printed.{Appends, dates_up_to}
 use Rattle.dates_text.proofs.listing.append_reactions.Given as goal
 

@@ -1,7 +1,7 @@
 use Rattle.std.proofs.Common.{◌++◌, List, length, refl, sym, ap, subst, ◌∙◌}
-use Rattle.schedule.specs.declared.decision.Decision.{Decision}
-use Rattle.schedule.specs.Acts.{acts_of}
 use Rattle.syn_base.specs.Bytes.{Bytes}
+use Rattle.self_timed.specs.declared.Decision.{Decision}
+use Rattle.self_timed.specs.Acts.{acts_of}
 use Rattle.dates_text.specs.Listing.{Dated, dated_text}
 use Rattle.dates_text.specs.Printed.{EachFits, entry_span, dates_up_to}
 use Rattle.dates_text.proofs.Entered.{told_is}

@@ -1,7 +1,7 @@
 use Rattle.std.proofs.Common.{◌≡◌, ◌+◌, ◌++◌, List, [], ◌∷◌, map, length, drop, ap, sym, subst, ◌∙◌}
-use Rattle.schedule.specs.declared.decision.Transfer.{Transfer}
-use Rattle.schedule.specs.declared.decision.Decision.{Decision}
-use Rattle.schedule.specs.Acts.{acts_of, carry, run}
+use Rattle.self_timed.specs.declared.Transfer.{Transfer}
+use Rattle.self_timed.specs.declared.Decision.{Decision}
+use Rattle.self_timed.specs.Acts.{acts_of, carry, run}
 use Rattle.self_timed.specs.Told.{reaction_at}
 use Rattle.dates_text.specs.Printed.{Fit, dated_by}
 use Rattle.dates_text.proofs.Left.{decision_from, goes_on, left_from}

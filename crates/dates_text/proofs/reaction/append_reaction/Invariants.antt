@@ -1,8 +1,9 @@
 use Rattle.std.proofs.Common.{length, drop}
-use Rattle.schedule.specs.Acts.{acts_of}
+use Rattle.self_timed.specs.Acts.{acts_of}
 use Rattle.self_timed.specs.Told.{reaction_at}
-use Rattle.dates_text.specs.Printed.{Fit, IsLeft, dated_by}
+use Rattle.dates_text.specs.Printed.{Fit, dated_by}
 use Rattle.dates_text.proofs.reaction.append_reaction.Given as goal
+use Rattle.dates_text.proofs.Left.{IsLeft}
 
 -- the decisions that are left fit, and complete the text
 abbrev pub invariant-loop-decision : goal.invariant-loop-decision

@@ -1,8 +1,9 @@
 use Rattle.std.proofs.Common.{◌+◌, drop, map}
-use Rattle.schedule.specs.Acts.{carry}
+use Rattle.self_timed.specs.Acts.{carry}
 use Rattle.self_timed.specs.Told.{reaction_at}
-use Rattle.dates_text.specs.Printed.{IsLeft, dated_by}
+use Rattle.dates_text.specs.Printed.{dated_by}
 use Rattle.dates_text.proofs.reaction.append_transfers.Given as goal
+use Rattle.dates_text.proofs.Left.{IsLeft}
 
 -- the transfers that are left complete the text
 abbrev pub invariant-loop-place : goal.invariant-loop-place

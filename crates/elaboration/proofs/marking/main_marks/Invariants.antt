@@ -1,6 +1,6 @@
 use Rattle.std.proofs.Common.{◌≡◌, drop}
 use Rattle.std.specs.Prelude.{codes}
-use Rattle.algo_rules.specs.Links.{definition}
+use Rattle.algo_laws.specs.RuleLinks.{definition}
 use Rattle.elaboration.specs.Marking.{marks_in}
 use Rattle.elaboration.proofs.marking.main_marks.Given as goal
 

@@ -1,8 +1,9 @@
 use Rattle.std.proofs.Common.{map}
 use Rattle.std.proofs.lemmas.Result.{err_from_is_err_and}
 use Rattle.algo_check.proofs.Firsts.{told, tells, stops, goes}
-use Rattle.elaboration.specs.Marking.{references_of, bad_by}
+use Rattle.elaboration.specs.Marking.{bad_by}
 use Rattle.elaboration.proofs.standing.check_marks.Goals as goal
+use Rattle.algo_laws.specs.Periods.{references_of}
 
 pub returns-in_err-check_def : goal.returns-in_err-check_def
 returns-in_err-check_def c =

@@ -1,7 +1,7 @@
 use Rattle.std.proofs.Common.{◌≡◌, ℕ, suc, ◌+◌, ◌<◌, List, [], ◌∷◌, ◌++◌, length, get_or, map, drop, drop-cons, refl, sym, ap, ap₂, ◌∙◌, arith, append_assoc, append-nil}
 use Rattle.std.proofs.lemmas.List.{map_push}
-use Rattle.level_meaning.specs.declared.frontier.Give.{Give}
-use Rattle.level_meaning.specs.declared.frontier.Give.TheVariants.{Last, Join}
+use Rattle.algo_tree.specs.declared.Give.{Give}
+use Rattle.algo_tree.specs.declared.Give.TheVariants.{Last, Join}
 use Rattle.algo_tree.specs.Tree.{Vertex}
 use Rattle.algo_tree.specs.View.{view}
 use Rattle.flat_laws.specs.Unrolled.{implode_of, implodes}

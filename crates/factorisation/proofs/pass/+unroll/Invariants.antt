@@ -1,10 +1,10 @@
 use Rattle.std.proofs.Common.{◌≡◌, ◌++◌, map, take}
-use Rattle.level_meaning.specs.Level.{numbers_below}
 use Rattle.algo_tree.specs.Meaning.{vertices_in}
 use Rattle.algo_tree.specs.Typed.{label_of}
 use Rattle.algo_tree.specs.View.{view}
 use Rattle.flat_laws.specs.Unrolled.{copy, unroll as unrolled}
 use Rattle.factorisation.proofs.pass.+unroll.Given as goal
+use Rattle.syn_base.specs.Numbers.{numbers_below}
 
 abbrev pub invariant-add_copies_of-loop-i : goal.invariant-add_copies_of-loop-i
 invariant-add_copies_of-loop-i l =

@@ -1,10 +1,11 @@
 use Rattle.std.proofs.Common.{◌+◌, ◌∷◌, [], length, take, ap, sym, arith, ◌∙◌}
 use Rattle.std.specs.Prelude.{sum}
 use Rattle.body_lang.specs.Expr.{function_outputs}
-use Rattle.level_meaning.specs.Level.{selected, vector_at}
+use Rattle.level_meaning.specs.Level.{selected}
 use Rattle.flat_graph.specs.Fire.{kind_outputs}
 use Rattle.flat_graph.proofs.Firing.{ports_all, function_is, explode_len, case_there, merged_is, merged_fits}
 use Rattle.flat_graph.proofs.operation.fire_active.Goals as goal
+use Rattle.syn_base.specs.Vectors.{vector_at}
 
 pub put_values-requires-clause-ports : goal.put_values-requires-clause-ports
 put_values-requires-clause-ports c =

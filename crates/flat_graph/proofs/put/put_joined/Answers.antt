@@ -1,11 +1,12 @@
 use Rattle.std.proofs.Common.{◌≡◌, ◌+◌, ◌≤◌, ℕ, List, [], ◌∷◌, ◌++◌, map, length, take, drop, ap, sym, arith, ◌∙◌, length-append, length-drop}
 use Rattle.std.specs.Prelude.{slice_index_or, slice_set, sum}
 use Rattle.std.proofs.lemmas.List.{drop_all, append-nil}
-use Rattle.level_meaning.specs.Level.{Values, Vector, vector_at, all_joined}
+use Rattle.level_meaning.specs.Level.{all_joined}
 use Rattle.flat_graph.specs.Put.{over}
 use Rattle.flat_graph.proofs.KindLens.{length-vector_at}
 use Rattle.flat_graph.proofs.Fill.{within_sum, joined_more, first_joined, over_behind}
 use Rattle.flat_graph.proofs.put.put_joined.Goals as goal
+use Rattle.syn_base.specs.Vectors.{Vector, Values, vector_at}
 
 -- the only output has the length of all that is joined
 whole_len : (outs : Values) (n : ℕ) → map length outs ≡ n ∷ [] → length (vector_at outs 0) ≡ n

@@ -1,6 +1,7 @@
 use Rattle.std.proofs.Common.{◌≡◌, [], ◌∷◌, ◌++◌, length, take, drop}
-use Rattle.level_meaning.specs.Level.{vector_at, all_joined}
+use Rattle.level_meaning.specs.Level.{all_joined}
 use Rattle.flat_graph.proofs.put.put_joined.Given as goal
+use Rattle.syn_base.specs.Vectors.{vector_at}
 
 -- the vectors so far
 abbrev pub invariant-loop-port : goal.invariant-loop-port

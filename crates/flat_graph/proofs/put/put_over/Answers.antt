@@ -2,10 +2,10 @@ use Rattle.std.proofs.Common.{◌≡◌, ◌+◌, take, ap, refl, rules, w64, Fi
 use Rattle.std.specs.Prelude.{slice_index_or, slice_set, pos}
 use Rattle.std.proofs.lemmas.Int.{to_z-of_z}
 use Rattle.syn_base.specs.Rows.{with_value}
-use Rattle.level_meaning.specs.Level.{vector_at}
 use Rattle.flat_graph.specs.Put.{over}
 use Rattle.flat_graph.proofs.Fill.{one_written, over_more}
 use Rattle.flat_graph.proofs.put.put_over.Goals as goal
+use Rattle.syn_base.specs.Vectors.{vector_at}
 
 pub loop-j-preserved : goal.loop-j-preserved
 loop-j-preserved c =

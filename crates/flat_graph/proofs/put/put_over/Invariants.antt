@@ -1,8 +1,8 @@
 use Rattle.std.proofs.Common.{◌≡◌, take}
 use Rattle.std.specs.Prelude.{slice_set}
-use Rattle.level_meaning.specs.Level.{vector_at}
 use Rattle.flat_graph.specs.Put.{over}
 use Rattle.flat_graph.proofs.put.put_over.Given as goal
+use Rattle.syn_base.specs.Vectors.{vector_at}
 
 -- the elements so far
 abbrev pub invariant-loop-j : goal.invariant-loop-j

@@ -4,9 +4,9 @@ use Rattle.syn_base.specs.Rows.{with_value}
 use Rattle.std.specs.Prelude.{slice_set, pos}
 use Rattle.std.proofs.lemmas.List.{get_or-set_same}
 use Rattle.body_lang.specs.Expr.{view, value_of, vector_of}
-use Rattle.level_meaning.specs.Level.{vector_at}
 use Rattle.flat_graph.proofs.Fill.{fill, in_front, all_written, one_written, length-vector_of, element_of}
 use Rattle.flat_graph.proofs.put.put_value.Goals as goal
+use Rattle.syn_base.specs.Vectors.{vector_at}
 
 pub set-requires-clause-place : goal.set-requires-clause-place
 set-requires-clause-place c =

@@ -1,8 +1,8 @@
 use Rattle.std.proofs.Common.{◌≡◌, ◌++◌, take, drop}
 use Rattle.std.specs.Prelude.{slice_set}
 use Rattle.body_lang.specs.Expr.{view, value_of, vector_of}
-use Rattle.level_meaning.specs.Level.{vector_at}
 use Rattle.flat_graph.proofs.put.put_value.Given as goal
+use Rattle.syn_base.specs.Vectors.{vector_at}
 
 -- the elements so far
 abbrev pub invariant-loop-j : goal.invariant-loop-j

@@ -1,9 +1,9 @@
 use Rattle.std.proofs.Common.{[], map, ap, sym, arith, ◌∙◌}
 use Rattle.std.specs.Prelude.{slice_set}
 use Rattle.std.proofs.lemmas.List.{length-map, get_or-map}
-use Rattle.level_meaning.specs.Level.{zeros}
 use Rattle.flat_graph.proofs.Fill.{fill, count_of_lens}
 use Rattle.flat_graph.proofs.put.put_zeros.Goals as goal
+use Rattle.syn_base.specs.Vectors.{zeros}
 
 pub loop-port-preserved : goal.loop-port-preserved
 loop-port-preserved c =

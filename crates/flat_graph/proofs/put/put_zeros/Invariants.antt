@@ -1,6 +1,6 @@
 use Rattle.std.proofs.Common.{◌≡◌, ◌++◌, map, take, drop}
-use Rattle.level_meaning.specs.Level.{zeros}
 use Rattle.flat_graph.proofs.put.put_zeros.Given as goal
+use Rattle.syn_base.specs.Vectors.{zeros}
 
 -- the ports so far
 abbrev pub invariant-loop-port : goal.invariant-loop-port

@@ -1,6 +1,6 @@
 use Rattle.std.proofs.Common.{◌≡◌, ◌++◌, drop, map}
-use Rattle.flat_text.specs.Listing.{each_after_comma}
 use Rattle.flat_text.proofs.list.append_each_after_comma.Given as goal
+use Rattle.syn_base.specs.Bytes.{each_after_comma}
 
 -- what is there, with the text of the entries that are left, is the whole
 abbrev pub invariant-loop-entry : goal.invariant-loop-entry

@@ -1,8 +1,8 @@
 use Rattle.std.proofs.Common.{◌≡◌, ◌++◌, List, [], ap, sym, ◌∙◌}
 use Rattle.std.proofs.lemmas.Result.{on_ok_weaker}
-use Rattle.flat_graph.specs.declared.vertex.Source.{Source}
-use Rattle.flat_graph.specs.declared.vertex.Guard.{Guard}
 use Rattle.syn_base.specs.Bytes.{Bytes}
+use Rattle.schedule.specs.declared.Source.{Source}
+use Rattle.schedule.specs.declared.Guard.{Guard}
 use Rattle.graph_drawing.specs.FlatDrawing.{operation_text, statements_text}
 use Rattle.graph_drawing.specs.Statements.{conditions_from, inputs_from, keeping}
 use Rattle.graph_drawing.proofs.Texts.{regroup, whole_text}

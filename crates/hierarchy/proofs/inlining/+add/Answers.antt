@@ -2,7 +2,7 @@ use Rattle.std.proofs.Common.{◌≡◌, ◌+◌, ◌*◌, ◌<◌, List, [], �
 use Rattle.std.proofs.lemmas.List.{drop_all}
 use Rattle.std.proofs.lemmas.Bool.{eqb-true}
 use Rattle.std.proofs.lemmas.Result.{on_ok_weaker}
-use Rattle.level_meaning.specs.Level.{Vector, Path}
+use Rattle.algo_tree.specs.Level.{Path}
 use Rattle.algo_tree.specs.Counted.{operations as count, operations_in as count_all}
 use Rattle.algo_tree.specs.View.{view, vertices_view}
 use Rattle.algo_tree.specs.Well.{IsWell}
@@ -21,6 +21,7 @@ use Rattle.hierarchy.proofs.Linking.{linked_left, linked_right}
 use Rattle.hierarchy.proofs.Texting.{prefixes_inside, prefixes_here}
 use Rattle.hierarchy.proofs.Adding.{rest_from, plain_at, named_at, label_named, inside_named, inside_plain, is_run, graph_adds, delay_adds, run_adds, graph_linked, delay_linked, run_linked, level_linked, graph_counted, delay_counted, run_counted, nothing_added}
 use Rattle.hierarchy.proofs.inlining.+add.Goals as goal
+use Rattle.syn_base.specs.Vectors.{Vector}
 
 pub add_vertices-loop-vertex-init : goal.add_vertices-loop-vertex-init
 add_vertices-loop-vertex-init t c =

@@ -1,5 +1,5 @@
 use Rattle.std.proofs.Common.{◌≡◌, ◌+◌, drop, length}
-use Rattle.level_meaning.specs.Level.{Path}
+use Rattle.algo_tree.specs.Level.{Path}
 use Rattle.algo_tree.specs.Counted.{operations_in as count_all}
 use Rattle.algo_tree.specs.View.{vertices_view}
 use Rattle.flat_laws.specs.Inlined.{inlined_all}

@@ -1,8 +1,7 @@
 use Rattle.std.proofs.Common.{◌≡◌, ℕ, suc, ◌+◌, ◌<◌, ◌==◌, List, [], ◌∷◌, drop, cond, length, map, get_or, sym, ap, ap₂, ◌∙◌, subst, arith}
 use Rattle.std.proofs.lemmas.List.{drop_all, get_or_default}
-use Rattle.level_meaning.specs.declared.source.Source.{Source}
-use Rattle.level_meaning.specs.declared.source.Source.TheVariants.{Of}
-use Rattle.level_meaning.specs.Level.{Vector}
+use Rattle.algo_tree.specs.declared.Source.{Source}
+use Rattle.algo_tree.specs.declared.Source.TheVariants.{Of}
 use Rattle.algo_tree.specs.Tree.{Label}
 use Rattle.algo_tree.specs.View.{label_view}
 use Rattle.algo_tree.specs.declared.vertex.Vertex.{out-Vertex}
@@ -13,6 +12,7 @@ use Rattle.flat_laws.specs.Linked.{AreFound, AllLinked}
 use Rattle.hierarchy.specs.Wires.{led}
 use Rattle.hierarchy.proofs.Building.{input_is, stages_from, stage_added, stages_begin, stages_end}
 use Rattle.hierarchy.proofs.operation.add_delay.Goals as goal
+use Rattle.syn_base.specs.Vectors.{Vector}
 
 pub loop-at-init : goal.loop-at-init
 loop-at-init c = record {

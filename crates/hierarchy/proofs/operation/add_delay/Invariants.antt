@@ -1,5 +1,5 @@
 use Rattle.std.proofs.Common.{◌≡◌, ◌+◌, ◌*◌, [], drop, length}
-use Rattle.level_meaning.specs.Level.{Path}
+use Rattle.algo_tree.specs.Level.{Path}
 use Rattle.algo_tree.specs.View.{label_view}
 use Rattle.algo_tree.specs.declared.vertex.Vertex.{out-Vertex}
 use Rattle.flat_laws.specs.Inlined.{stages}

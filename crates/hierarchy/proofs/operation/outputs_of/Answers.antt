@@ -1,7 +1,7 @@
 use Rattle.std.proofs.Common.{◌++◌, ◌∷◌, [], List, map, ap, ap₂, sym, ◌∙◌}
 use Rattle.std.proofs.lemmas.List.{map_more, map_push}
-use Rattle.level_meaning.specs.declared.source.Source.{Source}
-use Rattle.level_meaning.specs.declared.source.Source.TheVariants.{Own}
+use Rattle.algo_tree.specs.declared.Source.{Source}
+use Rattle.algo_tree.specs.declared.Source.TheVariants.{Own}
 use Rattle.flat_graph.specs.Meaning.{level_source}
 use Rattle.hierarchy.specs.Wires.{led}
 use Rattle.hierarchy.proofs.Linking.{found_at}

@@ -1,5 +1,5 @@
 use Rattle.std.proofs.Common.{◌≡◌, drop}
-use Rattle.level_meaning.specs.Order.{guards_ready}
+use Rattle.algo_tree.specs.Order.{guards_ready}
 use Rattle.hierarchy.specs.Order.{is_done}
 use Rattle.hierarchy.proofs.order.are_guards_ready.Given as goal
 

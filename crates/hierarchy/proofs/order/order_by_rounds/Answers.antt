@@ -1,5 +1,5 @@
 use Rattle.std.proofs.Common.{◌≡◌, true, length, arith}
-use Rattle.level_meaning.specs.Order.{settled}
+use Rattle.algo_tree.specs.Order.{settled}
 use Rattle.hierarchy.specs.Order.{nodes_of}
 use Rattle.hierarchy.proofs.Nodes.{length-nodes_of}
 use Rattle.hierarchy.proofs.Rounds.{settled_more, order_if_done}

@@ -1,5 +1,5 @@
 use Rattle.std.proofs.Common.{◌≡◌, ℕ, true}
-use Rattle.level_meaning.specs.Order.{settled}
+use Rattle.algo_tree.specs.Order.{settled}
 use Rattle.hierarchy.specs.Order.{nodes_of, is_done}
 use Rattle.hierarchy.specs.Begun.{IsBegun}
 use Rattle.hierarchy.proofs.order.order_by_rounds.Given as goal

@@ -7,4 +7,4 @@ use Rattle.hierarchy.proofs.pass.inline_unrolled.Goals as goal
 
 pub inline_guarded-requires-clause-repeats : goal.inline_guarded-requires-clause-repeats
 inline_guarded-requires-clause-repeats c =
-    subst HasNoRepeat (ap unroll (sym c.main.ensures.same) ∙ c.is_unrolled.ensures c.if-is_unrolled.true ∙ c.main.ensures.same) (no-unroll c.args.tree.now)
+    subst HasNoRepeat (ap unroll (sym c.main.ensures.same) ∙ c.has_no_repeat.ensures c.if-has_no_repeat.true ∙ c.main.ensures.same) (no-unroll c.args.tree.now)

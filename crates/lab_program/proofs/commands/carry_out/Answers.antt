@@ -1,4 +1,4 @@
-use Rattle.command_status.specs.Status.{ending_of}
+use Rattle.top_plans.specs.Status.{ending_of}
 use Rattle.lab_words.specs.View.{view_of}
 use Rattle.lab_plans.specs.Plans.{plan_for}
 use Rattle.lab_program.proofs.Carried.{ran_so}

@@ -1,8 +1,8 @@
 use Rattle.std.proofs.Common.{◌≡◌, inl, inr, length, refl, subst}
 use Rattle.std.specs.Prelude.{None}
-use Rattle.durations.specs.Table.{entry_in}
-use Rattle.executive_program.specs.declared.program.Program.{Program}
-use Rattle.sequence_build.specs.Limit.{program_limit}
+use Rattle.self_timed.specs.Table.{entry_in}
+use Rattle.self_timed.specs.declared.Program.{Program}
+use Rattle.top_plans.specs.Limit.{program_limit}
 use Rattle.lab_program.proofs.found.build_program.Goals as goal
 
 pub build-requires : goal.build-requires

@@ -1,11 +1,11 @@
-use Rattle.compiler.specs.Compiles.{described}
 use Rattle.lab_words.specs.View.{effort_view}
 use Rattle.lab_program.specs.Found.{problem_of}
 use Rattle.lab_program.proofs.Searched.{all_found}
 use Rattle.lab_program.proofs.found.find_schedule.Goals as goal
+use Rattle.self_timed.specs.Text.{described_by}
 
 pub search-requires : goal.search-requires
-search-requires c = (c.durations_fit.ensures c.args.compilation.now.flat (described c.args.compilation.now.text) c.args.compilation.now.durations c.requires).0
+search-requires c = (c.durations_fit.ensures c.args.compilation.now.flat (described_by c.args.compilation.now.text) c.args.compilation.now.durations c.requires).0
 
 pub returns : goal.returns
 returns c =

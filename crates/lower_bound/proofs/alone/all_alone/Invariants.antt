@@ -1,6 +1,6 @@
 use Rattle.std.proofs.Common.{◌≡◌, length, map}
 use Rattle.std.specs.List.{range_with_len}
-use Rattle.durations.specs.Table.{entry_in}
+use Rattle.self_timed.specs.Table.{entry_in}
 use Rattle.lower_bound.specs.Numbers.{alone}
 use Rattle.lower_bound.proofs.alone.all_alone.Given as goal
 

@@ -1,5 +1,5 @@
 use Rattle.std.proofs.Common.{◌<◌, Bool, Option, ℕ, Some, None, cond, ap, arith, length, sym}
-use Rattle.durations.specs.Table.{entry_in}
+use Rattle.self_timed.specs.Table.{entry_in}
 use Rattle.lower_bound.specs.Numbers.{time_alone}
 use Rattle.lower_bound.proofs.Steps.{none_stands}
 use Rattle.lower_bound.proofs.alone.time_alone.Goals as goal

@@ -1,7 +1,7 @@
 use Rattle.std.proofs.Common.{◌≡◌, ◌*◌, ◌≤◌, true}
 use Rattle.std.specs.Prelude.{is_some, sum_by, unwrap_or}
 use Rattle.std.specs.List.{list_all, range_with_len}
-use Rattle.durations.specs.Table.{entry_in}
+use Rattle.self_timed.specs.Table.{entry_in}
 use Rattle.lower_bound.proofs.alone.time_alone.Given as goal
 
 -- the operations before may all stand here, and are counted

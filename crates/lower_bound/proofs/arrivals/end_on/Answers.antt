@@ -1,5 +1,5 @@
 use Rattle.std.proofs.Common.{sym, ◌∙◌}
-use Rattle.durations.specs.Table.{entry_in}
+use Rattle.self_timed.specs.Table.{entry_in}
 use Rattle.lower_bound.specs.Turns.{at}
 use Rattle.lower_bound.proofs.Starting.{end_is}
 use Rattle.lower_bound.proofs.arrivals.end_on.Goals as goal

@@ -1,9 +1,10 @@
 use Rattle.std.proofs.Common.{◌≡◌, sym, ◌∙◌}
-use Rattle.durations.specs.Table.{entry_in, lesser}
+use Rattle.self_timed.specs.Table.{entry_in}
 use Rattle.lower_bound.specs.Bound.{end_on}
 use Rattle.lower_bound.specs.Turns.{at}
 use Rattle.lower_bound.proofs.Lesser.{least_more}
 use Rattle.lower_bound.proofs.arrivals.first_end.Goals as goal
+use Rattle.syn_base.specs.Numbers.{lesser}
 
 pub loop-operator-preserved : goal.loop-operator-preserved
 loop-operator-preserved c =

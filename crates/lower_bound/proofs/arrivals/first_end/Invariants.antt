@@ -1,6 +1,6 @@
 use Rattle.std.proofs.Common.{◌≡◌, map}
 use Rattle.std.specs.List.{range_with_len}
-use Rattle.durations.specs.Table.{entry_in, least_of}
+use Rattle.self_timed.specs.Table.{entry_in, least_of}
 use Rattle.lower_bound.specs.Bound.{end_on}
 use Rattle.lower_bound.specs.Turns.{at}
 use Rattle.lower_bound.proofs.arrivals.first_end.Given as goal

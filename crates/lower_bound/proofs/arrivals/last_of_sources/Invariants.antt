@@ -1,8 +1,9 @@
 use Rattle.std.proofs.Common.{◌≡◌, ◌+◌, ◌≤◌, drop, map, max}
-use Rattle.durations.specs.Table.{entry_in}
-use Rattle.lower_bound.specs.Bound.{arrival, greatest}
+use Rattle.self_timed.specs.Table.{entry_in}
+use Rattle.lower_bound.specs.Bound.{arrival}
 use Rattle.lower_bound.specs.Turns.{at, most_date, most_transfer}
 use Rattle.lower_bound.proofs.arrivals.last_of_sources.Given as goal
+use Rattle.syn_base.specs.Numbers.{greatest}
 
 -- the last so far, with the sources that are left, is that of all
 abbrev pub invariant-loop-source : goal.invariant-loop-source

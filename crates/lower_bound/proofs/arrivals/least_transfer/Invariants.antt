@@ -1,7 +1,8 @@
 use Rattle.std.proofs.Common.{◌≡◌, drop, map}
-use Rattle.durations.specs.Table.{least_of, lesser}
+use Rattle.self_timed.specs.Table.{least_of}
 use Rattle.lower_bound.specs.Bound.{brought_in}
 use Rattle.lower_bound.proofs.arrivals.least_transfer.Given as goal
+use Rattle.syn_base.specs.Numbers.{lesser}
 
 -- the least so far, with the media that are left, is that of all
 abbrev pub invariant-loop-medium : goal.invariant-loop-medium

@@ -1,13 +1,14 @@
 use Rattle.std.proofs.Common.{◌≡◌, List, ap, arith, map, ◌∙◌}
-use Rattle.flat_graph.specs.declared.vertex.Guard.{Guard}
-use Rattle.flat_graph.specs.declared.vertex.Source.{Source}
-use Rattle.flat_graph.specs.Order.{get_half}
-use Rattle.durations.specs.Table.{entry_in}
-use Rattle.lower_bound.specs.Bound.{arrival, greatest}
+use Rattle.self_timed.specs.declared.Guard.{Guard}
+use Rattle.self_timed.specs.declared.Source.{Source}
+use Rattle.self_timed.specs.FlatOrder.{get_half}
+use Rattle.self_timed.specs.Table.{entry_in}
+use Rattle.lower_bound.specs.Bound.{arrival}
 use Rattle.lower_bound.specs.Turns.{at, most_date}
 use Rattle.lower_bound.proofs.Renewed.{greatest_low}
 use Rattle.lower_bound.proofs.Starting.{start_is}
 use Rattle.lower_bound.proofs.arrivals.start_on.Goals as goal
+use Rattle.syn_base.specs.Numbers.{greatest}
 
 pub returns : goal.returns
 returns c =

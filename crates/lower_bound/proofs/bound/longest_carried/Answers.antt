@@ -1,8 +1,8 @@
 use Rattle.std.proofs.Common.{ap, ◌∙◌}
-use Rattle.durations.specs.Table.{entry_in}
-use Rattle.lower_bound.specs.Bound.{greatest}
+use Rattle.self_timed.specs.Table.{entry_in}
 use Rattle.lower_bound.proofs.Whole.{longest_is}
 use Rattle.lower_bound.proofs.bound.longest_carried.Goals as goal
+use Rattle.syn_base.specs.Numbers.{greatest}
 
 pub returns : goal.returns
 returns c =

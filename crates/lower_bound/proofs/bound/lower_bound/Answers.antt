@@ -1,12 +1,12 @@
 use Rattle.std.proofs.Common.{◌≡◌, ◌≤◌, max, length, arith, sym, ap, subst, ◌∙◌, List}
 use Rattle.std.specs.Prelude.{IsTrue}
-use Rattle.flat_graph.specs.declared.vertex.Vertex.{Vertex}
-use Rattle.flat_graph.specs.Order.{is_acyclic}
-use Rattle.flat_graph.proofs.Settled.{acyclic_of}
-use Rattle.archi_graph.specs.declared.medium.Medium.{Medium}
-use Rattle.durations.specs.Table.{entry_in}
-use Rattle.schedule.proofs.Archis.{few_operators}
-use Rattle.schedule.proofs.Decided.{few_operations}
+use Rattle.self_timed.specs.declared.Vertex.{Vertex}
+use Rattle.self_timed.specs.FlatOrder.{is_acyclic}
+use Rattle.self_timed.proofs.Settled.{acyclic_of}
+use Rattle.self_timed.specs.declared.Medium.{Medium}
+use Rattle.self_timed.specs.Table.{entry_in}
+use Rattle.self_timed.proofs.Archis.{few_operators}
+use Rattle.self_timed.proofs.Decided.{few_operations}
 use Rattle.lower_bound.specs.Bound.{longest_carried}
 use Rattle.lower_bound.specs.Turns.{AreShort}
 use Rattle.lower_bound.proofs.Short.{are_short}

@@ -1,6 +1,6 @@
 use Rattle.std.proofs.Common.{◌<◌, length, arith, ap, sym, ◌∙◌, length-set}
 use Rattle.std.proofs.lemmas.Bool.{true≢false}
-use Rattle.durations.specs.Table.{entry_in}
+use Rattle.self_timed.specs.Table.{entry_in}
 use Rattle.lower_bound.specs.Turns.{most_date, renewed}
 use Rattle.lower_bound.proofs.Least.{entry_low}
 use Rattle.lower_bound.proofs.Renewed.{kept_is, settled_more, turn_done, turn_more, written_low}

@@ -1,5 +1,5 @@
 use Rattle.std.proofs.Common.{◌≡◌, ℕ, ◌<◌, ◌≤◌, false, length}
-use Rattle.durations.specs.Table.{entry_in}
+use Rattle.self_timed.specs.Table.{entry_in}
 use Rattle.lower_bound.specs.Turns.{at, most_date, renewed, AreChains}
 use Rattle.lower_bound.proofs.Renewed.{HadTurn}
 use Rattle.lower_bound.proofs.chains.has_changed.Given as goal

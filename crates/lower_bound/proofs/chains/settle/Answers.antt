@@ -1,5 +1,5 @@
 use Rattle.std.proofs.Common.{◌≡◌, ℕ, suc, ◌+◌, arith, length, refl, subst}
-use Rattle.durations.specs.Table.{entry_in}
+use Rattle.self_timed.specs.Table.{entry_in}
 use Rattle.lower_bound.specs.Turns.{AreChains}
 use Rattle.lower_bound.proofs.Least.{entry_low}
 use Rattle.lower_bound.proofs.Done.{all_done}

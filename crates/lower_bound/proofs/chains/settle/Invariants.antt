@@ -1,5 +1,5 @@
 use Rattle.std.proofs.Common.{◌≡◌, ℕ, ◌≤◌, length}
-use Rattle.durations.specs.Table.{entry_in}
+use Rattle.self_timed.specs.Table.{entry_in}
 use Rattle.lower_bound.specs.Turns.{at, most_date, AreChains}
 use Rattle.lower_bound.proofs.chains.settle.Given as goal
 

@@ -1,9 +1,9 @@
 use Rattle.std.proofs.Common.{◌≡◌, length, ap, sym, subst, ◌∙◌, List, arith}
 use Rattle.std.specs.Prelude.{IsTrue}
-use Rattle.flat_graph.specs.declared.vertex.Vertex.{Vertex}
-use Rattle.flat_graph.specs.Order.{is_acyclic}
-use Rattle.flat_graph.proofs.Settled.{acyclic_of}
-use Rattle.schedule.proofs.Decided.{few_operations}
+use Rattle.self_timed.specs.declared.Vertex.{Vertex}
+use Rattle.self_timed.specs.FlatOrder.{is_acyclic}
+use Rattle.self_timed.proofs.Settled.{acyclic_of}
+use Rattle.self_timed.proofs.Decided.{few_operations}
 use Rattle.lower_bound.proofs.links.chain_of.Goals as goal
 
 pub links_back-requires : goal.links_back-requires

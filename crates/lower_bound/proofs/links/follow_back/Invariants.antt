@@ -1,6 +1,6 @@
 use Rattle.std.proofs.Common.{◌≡◌, ◌++◌, ◌-◌, ◌<◌, length, map}
 use Rattle.std.specs.Prelude.{IfSome}
-use Rattle.durations.specs.Table.{entry_in}
+use Rattle.self_timed.specs.Table.{entry_in}
 use Rattle.lower_bound.specs.Chain.{back_within, chain_back, link_of}
 use Rattle.lower_bound.proofs.links.follow_back.Given as goal
 

@@ -1,7 +1,7 @@
 use Rattle.std.proofs.Common.{◌≡◌, List, ap, map, ◌∙◌}
-use Rattle.flat_graph.specs.declared.vertex.Guard.{Guard}
-use Rattle.flat_graph.specs.declared.vertex.Source.{Source}
 use Rattle.std.specs.Option.{option_or}
+use Rattle.self_timed.specs.declared.Guard.{Guard}
+use Rattle.self_timed.specs.declared.Source.{Source}
 use Rattle.lower_bound.specs.Chain.{first_at}
 use Rattle.lower_bound.specs.Turns.{at}
 use Rattle.lower_bound.proofs.Follow.{before_is}

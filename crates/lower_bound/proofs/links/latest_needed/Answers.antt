@@ -1,11 +1,11 @@
 use Rattle.std.proofs.Common.{◌≡◌, List, ap, arith, map, ◌∙◌}
-use Rattle.flat_graph.specs.declared.vertex.Guard.{Guard}
-use Rattle.flat_graph.specs.declared.vertex.Source.{Source}
-use Rattle.flat_graph.specs.Order.{depends_on}
-use Rattle.lower_bound.specs.Bound.{greatest}
+use Rattle.self_timed.specs.declared.Guard.{Guard}
+use Rattle.self_timed.specs.declared.Source.{Source}
+use Rattle.self_timed.specs.FlatOrder.{depends_on}
 use Rattle.lower_bound.specs.Turns.{at, most_date}
 use Rattle.lower_bound.proofs.Renewed.{greatest_low, latest_by_parts}
 use Rattle.lower_bound.proofs.links.latest_needed.Goals as goal
+use Rattle.syn_base.specs.Numbers.{greatest}
 
 pub returns : goal.returns
 returns c =

@@ -1,7 +1,7 @@
 use Rattle.std.proofs.Common.{◌≡◌, drop, map, max}
-use Rattle.lower_bound.specs.Bound.{greatest}
 use Rattle.lower_bound.specs.Turns.{at}
 use Rattle.lower_bound.proofs.links.latest_of_guards.Given as goal
+use Rattle.syn_base.specs.Numbers.{greatest}
 
 -- the greatest date so far, with those of the guards that are left, is that of all
 abbrev pub invariant-loop-guard : goal.invariant-loop-guard

@@ -1,5 +1,5 @@
 use Rattle.std.proofs.Common.{◌≡◌, ◌<◌, ℕ, List, ap, arith, length, ◌∙◌}
-use Rattle.durations.specs.Table.{entry_in}
+use Rattle.self_timed.specs.Table.{entry_in}
 use Rattle.lower_bound.specs.Turns.{at}
 use Rattle.lower_bound.proofs.Least.{some_entry}
 use Rattle.lower_bound.proofs.Plain.{plain_chain}

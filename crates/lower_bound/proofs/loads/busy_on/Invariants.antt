@@ -1,5 +1,5 @@
 use Rattle.std.proofs.Common.{◌≡◌, ◌+◌, drop}
-use Rattle.schedule.specs.Acts.{acts_of, is_on}
+use Rattle.self_timed.specs.Acts.{acts_of, is_on}
 use Rattle.lower_bound.specs.Numbers.{busy}
 use Rattle.lower_bound.proofs.loads.busy_on.Given as goal
 

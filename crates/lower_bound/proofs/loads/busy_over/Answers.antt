@@ -1,6 +1,6 @@
 use Rattle.std.proofs.Common.{arith, ap, map}
-use Rattle.schedule.specs.declared.decision.Transfer.{Transfer}
-use Rattle.schedule.specs.Acts.{carry, is_over}
+use Rattle.self_timed.specs.declared.Transfer.{Transfer}
+use Rattle.self_timed.specs.Acts.{carry, is_over}
 use Rattle.lower_bound.specs.Numbers.{busy}
 use Rattle.lower_bound.proofs.Steps.{over_step}
 use Rattle.lower_bound.proofs.loads.busy_over.Goals as goal

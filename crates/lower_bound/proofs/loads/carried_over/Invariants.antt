@@ -1,5 +1,5 @@
 use Rattle.std.proofs.Common.{◌≡◌, ◌+◌, drop, map}
-use Rattle.schedule.specs.Acts.{carry, is_over}
+use Rattle.self_timed.specs.Acts.{carry, is_over}
 use Rattle.lower_bound.specs.Numbers.{busy}
 use Rattle.lower_bound.proofs.loads.carried_over.Given as goal
 

@@ -1,6 +1,6 @@
 use Rattle.std.proofs.Common.{List, ap, arith}
-use Rattle.schedule.specs.declared.decision.Decision.{Decision}
-use Rattle.schedule.specs.Acts.{acts_of, is_on}
+use Rattle.self_timed.specs.declared.Decision.{Decision}
+use Rattle.self_timed.specs.Acts.{acts_of, is_on}
 use Rattle.lower_bound.specs.Numbers.{busy}
 use Rattle.lower_bound.proofs.loads.operator_loads.Goals as goal
 

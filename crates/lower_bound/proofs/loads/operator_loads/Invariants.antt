@@ -1,5 +1,5 @@
 use Rattle.std.proofs.Common.{◌≡◌}
-use Rattle.schedule.specs.Acts.{is_on}
+use Rattle.self_timed.specs.Acts.{is_on}
 use Rattle.lower_bound.specs.Numbers.{loads}
 use Rattle.lower_bound.proofs.loads.operator_loads.Given as goal
 

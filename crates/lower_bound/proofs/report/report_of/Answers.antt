@@ -1,6 +1,6 @@
 use Rattle.std.proofs.Common.{◌≤◌, arith, length}
-use Rattle.schedule.proofs.Decided.{few_operations}
-use Rattle.durations.specs.Table.{entry_in}
+use Rattle.self_timed.proofs.Decided.{few_operations}
+use Rattle.self_timed.specs.Table.{entry_in}
 use Rattle.lower_bound.proofs.Busy.{no_line_is_overfull}
 use Rattle.lower_bound.proofs.WholeReport.{report_is}
 use Rattle.lower_bound.proofs.report.report_of.Goals as goal

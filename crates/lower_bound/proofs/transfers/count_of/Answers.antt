@@ -1,8 +1,9 @@
 use Rattle.std.proofs.Common.{ap, arith, length}
 use Rattle.std.specs.List.{count_by}
-use Rattle.lower_bound.specs.Transfers.{carries, is_sort, transfers_in}
+use Rattle.lower_bound.specs.Transfers.{carries, is_sort}
 use Rattle.lower_bound.proofs.Counting.{all_step, fewer, no_more, sort_step}
 use Rattle.lower_bound.proofs.transfers.count_of.Goals as goal
+use Rattle.self_timed.specs.Acts.{transfers_of}
 
 pub count_in-count-requires : goal.count_in-count-requires
 count_in-count-requires c =
@@ -19,7 +20,7 @@ overflow_add-count c =
     let so_far = c.loop-decision.invariant in
     let here = c.count_in-count.ensures in
     let same = ap (count_by test) c.as_slice.ensures in
-    let least = no_more test (transfers_in c.args.decisions.now) in
+    let least = no_more test (transfers_of c.args.decisions.now) in
     let most = c.requires in
     record { fits = omega arith }
 

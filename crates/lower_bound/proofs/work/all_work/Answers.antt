@@ -1,5 +1,5 @@
 use Rattle.std.proofs.Common.{arith}
-use Rattle.durations.specs.Table.{entry_in}
+use Rattle.self_timed.specs.Table.{entry_in}
 use Rattle.lower_bound.specs.Bound.{least}
 use Rattle.lower_bound.proofs.Sums.{sum_more}
 use Rattle.lower_bound.proofs.work.all_work.Goals as goal

@@ -1,5 +1,5 @@
 use Rattle.std.proofs.Common.{arith, length}
-use Rattle.durations.specs.Table.{entry_in}
+use Rattle.self_timed.specs.Table.{entry_in}
 use Rattle.lower_bound.specs.Bound.{work_only}
 use Rattle.lower_bound.proofs.Sums.{greatest_more}
 use Rattle.lower_bound.proofs.work.greatest_work.Goals as goal

@@ -1,5 +1,5 @@
 use Rattle.std.proofs.Common.{◌≡◌, Bool, cond, ap, arith, sym, ◌∙◌}
-use Rattle.durations.specs.Table.{entry_in}
+use Rattle.self_timed.specs.Table.{entry_in}
 use Rattle.lower_bound.specs.Bound.{least, stands_only}
 use Rattle.lower_bound.proofs.Sums.{filtered_more}
 use Rattle.lower_bound.proofs.work.work_only.Goals.{then-stands_only, else-stands_only}

@@ -1,5 +1,5 @@
 use Rattle.std.proofs.Common.{arith, length, sym, ◌∙◌}
-use Rattle.durations.specs.Table.{entry_in}
+use Rattle.self_timed.specs.Table.{entry_in}
 use Rattle.lower_bound.specs.Bound.{may_work}
 use Rattle.lower_bound.proofs.Sums.{count_yes, count_no}
 use Rattle.lower_bound.proofs.work.working_operators.Goals.{then-may_work, else-may_work}

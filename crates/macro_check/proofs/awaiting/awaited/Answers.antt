@@ -1,8 +1,8 @@
 use Rattle.std.proofs.Common.{sym, ap, subst, inl, ◌∙◌}
 use Rattle.std.proofs.lemmas.Option.{slice_get_within}
-use Rattle.executive_program.specs.declared.program.Instr.{Instr}
-use Rattle.executive_program.specs.Instructions.{turn}
-use Rattle.executive_program.specs.WellFormed.{Stands}
+use Rattle.sequence_build_laws.specs.declared.Instr.{Instr}
+use Rattle.sequence_build_laws.specs.Instructions.{turn}
+use Rattle.sequence_build_laws.specs.WellFormed.{Stands}
 use Rattle.check_laws.specs.Run.{awaited}
 use Rattle.macro_check.specs.Awaiting.{received_at, sent_at, stand_or}
 use Rattle.macro_check.proofs.Told.{receive_told, send_told, wait_told}

@@ -1,7 +1,7 @@
 use Rattle.std.proofs.Common.{Bool, ap, ◌∙◌}
 use Rattle.std.specs.Prelude.{◌&&◌, is_none}
-use Rattle.executive_program.specs.Instructions.{medium}
-use Rattle.executive_program.specs.Places.{caller_of}
+use Rattle.sequence_build_laws.specs.Instructions.{medium}
+use Rattle.sequence_build_laws.specs.Places.{caller_of}
 use Rattle.program_tables.specs.declared.roles.Role.TheVariants.{Called}
 use Rattle.program_tables.specs.Marks.{lone}
 use Rattle.program_tables.proofs.Lone.{lone_is}

@@ -1,9 +1,9 @@
 use Rattle.std.proofs.Common.{sym, ap, subst, ◌∙◌}
 use Rattle.std.specs.Prelude.{Some}
 use Rattle.std.proofs.lemmas.Option.{slice_get_within}
-use Rattle.executive_program.specs.declared.program.Instr.{Instr}
-use Rattle.executive_program.specs.Instructions.{turn}
-use Rattle.executive_program.specs.WellFormed.{Stands}
+use Rattle.sequence_build_laws.specs.declared.Instr.{Instr}
+use Rattle.sequence_build_laws.specs.Instructions.{turn}
+use Rattle.sequence_build_laws.specs.WellFormed.{Stands}
 use Rattle.order_check.specs.Carries.{origin_of}
 use Rattle.macro_check.specs.Carrying.{from_transfer}
 use Rattle.macro_check.proofs.Sourced.{received_is}

@@ -1,7 +1,7 @@
 use Rattle.std.proofs.Common.{◌≡◌, ℕ, drop}
 use Rattle.std.specs.Prelude.{slice_get}
 use Rattle.program_walks.specs.Walks.{all_at}
-use Rattle.flat_graph.specs.declared.vertex.Guard.{Guard}
+use Rattle.sequence_build_laws.specs.declared.Guard.{Guard}
 use Rattle.order_check.specs.Calls.{carries}
 use Rattle.macro_check.proofs.fitting.carry_guards.Given as goal
 

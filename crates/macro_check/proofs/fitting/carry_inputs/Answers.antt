@@ -1,7 +1,7 @@
 use Rattle.std.proofs.Common.{ℕ, get_or, sym}
 use Rattle.std.specs.Prelude.{slice_get}
 use Rattle.std.proofs.lemmas.Option.{slice_get-get_or}
-use Rattle.flat_graph.specs.declared.vertex.Source.{Source}
+use Rattle.sequence_build_laws.specs.declared.Source.{Source}
 use Rattle.order_check.specs.Calls.{carries}
 use Rattle.program_walks.proofs.ListTests.{fails_at}
 use Rattle.macro_check.proofs.fitting.carry_inputs.Goals as goal

@@ -1,5 +1,5 @@
 use Rattle.std.proofs.Common.{◌≡◌, ℕ, ◌<◌, true}
-use Rattle.executive_program.specs.MicroSteps.{transfers}
+use Rattle.sequence_build_laws.specs.MicroSteps.{transfers}
 use Rattle.program_walks.specs.Walks.{all_below}
 use Rattle.check_laws.specs.Tests.{is_moved}
 use Rattle.macro_check.proofs.moving.are_moved.Given as goal

@@ -1,6 +1,6 @@
 use Rattle.std.proofs.Common.{◌≡◌, true, sym, arith, ◌∙◌, below_more}
 use Rattle.std.proofs.lemmas.Option.{slice_get-get_or}
-use Rattle.executive_program.specs.MicroSteps.{transfers}
+use Rattle.sequence_build_laws.specs.MicroSteps.{transfers}
 use Rattle.program_tables.proofs.Below.{one_fails, all_pass}
 use Rattle.check_laws.specs.Tests.{is_moved}
 use Rattle.macro_check.proofs.MovedBy.{crossing_here, many_here}

@@ -1,7 +1,7 @@
 use Rattle.std.proofs.Common.{ℕ, ◌<◌, List, [], ◌∷◌, ◌++◌, length, refl, sym, ap, inr, arith, ◌∙◌}
 use Rattle.std.specs.Prelude.{slice_get, slice_index, Option, Some}
 use Rattle.std.proofs.lemmas.Option.{slice_get_read}
-use Rattle.executive_program.specs.declared.program.Instr.{Instr}
+use Rattle.sequence_build_laws.specs.declared.Instr.{Instr}
 use Rattle.macro_check.specs.Awaiting.{woken, woken_at}
 use Rattle.macro_check.proofs.Results.{on_ok}
 use Rattle.macro_check.proofs.running.step.Goals as goal

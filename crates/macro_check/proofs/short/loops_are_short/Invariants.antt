@@ -1,5 +1,5 @@
 use Rattle.std.proofs.Common.{ℕ, ◌<◌, ◌^◌, length}
-use Rattle.executive_program.specs.Instructions.{turn}
+use Rattle.sequence_build_laws.specs.Instructions.{turn}
 use Rattle.macro_check.proofs.short.loops_are_short.Given as goal
 
 abbrev pub invariant-loop-sequence : goal.invariant-loop-sequence

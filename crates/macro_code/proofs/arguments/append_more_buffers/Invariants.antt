@@ -1,6 +1,7 @@
 use Rattle.std.proofs.Common.{◌≡◌, ◌++◌, drop, map}
-use Rattle.macro_code.specs.Text.{buffer_name, each_after_comma}
+use Rattle.macro_code.specs.Text.{buffer_name}
 use Rattle.macro_code.proofs.arguments.append_more_buffers.Given as goal
+use Rattle.syn_base.specs.Bytes.{each_after_comma}
 
 -- what is there, with what is left, is the whole
 abbrev pub invariant-loop-buffer : goal.invariant-loop-buffer

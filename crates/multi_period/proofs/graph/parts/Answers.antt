@@ -1,12 +1,12 @@
 use Rattle.std.proofs.Common.{◌≡◌, ◌∙◌, ◌+◌, ◌∷◌, [], ◌++◌, ℕ, List, length, map, ap, ap₂, sym, add-one, arith}
 use Rattle.std.proofs.lemmas.List.{map_push}
-use Rattle.level_meaning.specs.Level.{numbers_below}
 use Rattle.algo_tree.specs.Tree.{Vertex as Plain}
 use Rattle.algo_tree.specs.View.{view}
 use Rattle.algo_tree.specs.declared.vertex.Vertex.{Vertex}
 use Rattle.multi_period.specs.Periods.{body, count, keep}
 use Rattle.multi_period.specs.Seen.{inside_seen, label_seen}
 use Rattle.multi_period.proofs.graph.parts.Goals as goal
+use Rattle.syn_base.specs.Numbers.{numbers_below}
 
 -- one vertex more
 one_more : (us : List Vertex) (u : Vertex) (first : Plain) (made : ℕ → Plain) (n : ℕ) → map view us ≡ first ∷ map made (numbers_below n) → view u ≡ made n

@@ -1,11 +1,11 @@
 use Rattle.std.proofs.Common.{◌≡◌, length, map, ap, sym, subst, ◌∙◌, arith}
-use Rattle.level_meaning.specs.Level.{numbers_below}
 use Rattle.algo_tree.specs.Code.{count_of}
 use Rattle.algo_tree.specs.View.{vertices_of, vertices_view}
 use Rattle.multi_period.specs.Marks.{mark_at, MayHave}
 use Rattle.multi_period.specs.Seen.{label_seen}
 use Rattle.multi_period.proofs.Placed.{made_of, all_made, count_view, may_at, next_made, table_at, long_table}
 use Rattle.multi_period.proofs.pass.each_period.Goals as goal
+use Rattle.syn_base.specs.Numbers.{numbers_below}
 
 pub mark_table-requires : goal.mark_table-requires
 mark_table-requires c = c.requires.within

@@ -1,9 +1,9 @@
 use Rattle.std.proofs.Common.{ℕ, ◌++◌, ◌∷◌, [], List, map, ap, sym, ◌∙◌, add-one}
 use Rattle.std.proofs.lemmas.List.{map_push}
-use Rattle.level_meaning.specs.declared.source.Source.{Source}
-use Rattle.level_meaning.specs.declared.source.Source.TheVariants.{Of}
-use Rattle.level_meaning.specs.Level.{numbers_below}
+use Rattle.algo_tree.specs.declared.Source.{Source}
+use Rattle.algo_tree.specs.declared.Source.TheVariants.{Of}
 use Rattle.multi_period.proofs.ports.outputs_of.Goals as goal
+use Rattle.syn_base.specs.Numbers.{numbers_below}
 
 pub loop-output-preserved : goal.loop-output-preserved
 loop-output-preserved c =

@@ -1,10 +1,10 @@
 use Rattle.std.proofs.Common.{map, drop, length, ◌-◌, ap, sym, ◌∙◌, arith}
 use Rattle.std.proofs.lemmas.List.{drop_all}
-use Rattle.level_meaning.specs.Level.{numbers_below}
 use Rattle.multi_period.specs.Marks.{mark_at}
 use Rattle.multi_period.proofs.Placed.{long_table}
 use Rattle.multi_period.proofs.Tables.{one_set}
 use Rattle.multi_period.proofs.table.mark_table.Goals as goal
+use Rattle.syn_base.specs.Numbers.{numbers_below}
 
 pub loop-left-init : goal.loop-left-init
 loop-left-init c = c.in_ok-table.ensures ∙ ap (λ ms. map (mark_at ms) (numbers_below c.args.count)) (sym (drop_all (length c.args.marks.now) c.args.marks.now (omega arith)))

@@ -1,6 +1,6 @@
 -- One more operation.
 use Rattle.std.proofs.Common.{◌≡◌, ◌+◌, ◌∙◌, ◌++◌, ◌∷◌, [], List, ℕ, cond, length, length-append, ap, sym, arith}
-use Rattle.flat_graph.specs.Meaning.{delay_number}
+use Rattle.executive_program.specs.Meaning.{delay_number}
 use Rattle.operation_desks.proofs.DelayNumbers.{first, delay_more, numbers_more}
 use Rattle.operation_desks.proofs.laying.delay_numbers.Goals as goal
 

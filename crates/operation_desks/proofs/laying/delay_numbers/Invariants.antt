@@ -1,5 +1,5 @@
 use Rattle.std.proofs.Common.{◌≡◌, ℕ, ◌+◌, ◌<◌, ◌≤◌, length, get_or}
-use Rattle.flat_graph.specs.Meaning.{delay_number}
+use Rattle.executive_program.specs.Meaning.{delay_number}
 use Rattle.operation_desks.proofs.laying.delay_numbers.Given as goal
 
 -- the numbers of the operations before this one, and its own

@@ -2,8 +2,8 @@
 use Rattle.std.proofs.Common.{◌<◌, ◌∷◌, [], ◌∙◌, map, List, ap, length, get_or, false, Option, arith}
 use Rattle.std.specs.Option.{option_map}
 use Rattle.std.proofs.lemmas.List.{map-append}
-use Rattle.flat_graph.specs.declared.vertex.Vertex.{Vertex}
-use Rattle.flat_graph.proofs.ReadLens.{vertex_there}
+use Rattle.executive_program.specs.declared.Vertex.{Vertex}
+use Rattle.executive_program.proofs.ReadLens.{vertex_there}
 use Rattle.operation_desks.specs.Desk.{DeskData, lens_of_desk}
 use Rattle.operation_desks.proofs.MoreDesks.{desks_more}
 use Rattle.operation_desks.proofs.laying.desks_for.Goals as goal

@@ -2,7 +2,7 @@
 use Rattle.std.proofs.Common.{◌∙◌, ap, map, get_or, true, false, length, replicate, List}
 use Rattle.std.specs.Option.{option_map}
 use Rattle.std.proofs.lemmas.Result.{IfOk-weaker}
-use Rattle.flat_graph.specs.declared.vertex.Vertex.{Vertex}
+use Rattle.executive_program.specs.declared.Vertex.{Vertex}
 use Rattle.operation_desks.specs.Desk.{AreDesks, lens_of_desk}
 use Rattle.operation_desks.proofs.MoreDesks.{all_desks}
 use Rattle.operation_desks.proofs.laying.desks_of.Goals as goal

@@ -1,5 +1,5 @@
 use Rattle.std.proofs.Common.{◌≡◌, ◌++◌, drop}
-use Rattle.flat_graph.specs.Meaning.{initial_cells}
+use Rattle.executive_program.specs.Meaning.{initial_cells}
 use Rattle.operation_desks.proofs.opening.opening_of.Given as goal
 
 abbrev pub invariant-loop-x : goal.invariant-loop-x

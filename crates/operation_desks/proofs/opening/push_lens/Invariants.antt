@@ -1,5 +1,5 @@
 use Rattle.std.proofs.Common.{◌≡◌, ◌++◌, take}
-use Rattle.flat_graph.specs.Graph.{lens_of}
+use Rattle.executive_program.specs.Graph.{lens_of}
 use Rattle.operation_desks.proofs.opening.push_lens.Given as goal
 
 abbrev pub invariant-loop-source : goal.invariant-loop-source

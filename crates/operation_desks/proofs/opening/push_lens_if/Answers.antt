@@ -2,7 +2,7 @@
 use Rattle.std.proofs.Common.{◌≡◌, ℕ, Bool, false, cond, List, [], ◌∷◌, ◌++◌, map, length, refl, sym, ap, subst, ◌∙◌}
 use Rattle.std.specs.Prelude.{replicate, OnOk}
 use Rattle.std.proofs.lemmas.List.{length-map}
-use Rattle.flat_graph.specs.Graph.{len_of, lens_of}
+use Rattle.executive_program.specs.Graph.{len_of, lens_of}
 use Rattle.operation_desks.proofs.opening.push_lens_if.Goals as goal
 
 none_of : (xs : List ℕ) → map (λ (l : ℕ). cond false l 0) xs ≡ replicate (length xs) 0

@@ -2,7 +2,7 @@
 use Rattle.std.proofs.Common.{◌≡◌, ◌∙◌, ℕ, List, Some, refl, false, get_or, sym, ap, arith}
 use Rattle.std.specs.Prelude.{slice_get}
 use Rattle.std.proofs.lemmas.Option.{slice_get_read}
-use Rattle.flat_graph.specs.declared.vertex.Vertex.{Vertex}
+use Rattle.executive_program.specs.declared.Vertex.{Vertex}
 use Rattle.operation_desks.specs.RowLens.{lens_for}
 use Rattle.operation_desks.proofs.MoreRows.{lens_more}
 use Rattle.operation_desks.proofs.opening.row_lens.Goals as goal

@@ -1,7 +1,7 @@
 -- One more operation.
 use Rattle.std.proofs.Common.{◌<◌, List, refl, get_or, length, ap, subst, ◌∙◌}
-use Rattle.flat_graph.specs.declared.vertex.Vertex.{Vertex}
-use Rattle.flat_graph.specs.Laws.{sensor_len, sensor_lens}
+use Rattle.executive_program.specs.declared.Vertex.{Vertex}
+use Rattle.executive_program.specs.FlatLaws.{sensor_len, sensor_lens}
 use Rattle.operation_desks.proofs.Appending.{appended}
 use Rattle.operation_desks.proofs.opening.sensor_lens.Goals as goal
 

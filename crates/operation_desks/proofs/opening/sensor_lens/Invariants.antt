@@ -1,5 +1,5 @@
 use Rattle.std.proofs.Common.{◌≡◌, ◌++◌, drop}
-use Rattle.flat_graph.specs.Laws.{sensor_lens}
+use Rattle.executive_program.specs.FlatLaws.{sensor_lens}
 use Rattle.operation_desks.proofs.opening.sensor_lens.Given as goal
 
 abbrev pub invariant-loop-x : goal.invariant-loop-x

@@ -1,8 +1,8 @@
 -- One more port.
 use Rattle.std.proofs.Common.{◌+◌, ◌<◌, length, arith, ap}
-use Rattle.level_meaning.specs.Level.{Vector}
 use Rattle.operation_desks.proofs.ReadVectors.{reads_more, next_more}
 use Rattle.operation_desks.proofs.reading.read_ports.Goals as goal
+use Rattle.syn_base.specs.Vectors.{Vector}
 
 pub loop-i-preserved : goal.loop-i-preserved
 loop-i-preserved c =

@@ -2,9 +2,9 @@
 use Rattle.std.proofs.Common.{◌<◌, ◌∙◌, length, arith, rules, w64, to_z, of_z}
 use Rattle.std.proofs.lemmas.Int.{to_z-of_z}
 use mir.Val.{SFits}
-use Rattle.level_meaning.specs.Level.{vector_at}
 use Rattle.operation_desks.proofs.ReadVectors.{place_there, element_more}
 use Rattle.operation_desks.proofs.reading.read_vector.Goals as goal
+use Rattle.syn_base.specs.Vectors.{vector_at}
 
 pub set-requires-clause-place : goal.set-requires-clause-place
 set-requires-clause-place c =

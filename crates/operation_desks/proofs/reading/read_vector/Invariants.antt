@@ -1,8 +1,8 @@
 use Rattle.std.proofs.Common.{◌≡◌, length}
 use Rattle.std.specs.Prelude.{slice_set}
-use Rattle.level_meaning.specs.Level.{vector_at}
 use Rattle.operation_desks.proofs.ReadVectors.{half_read}
 use Rattle.operation_desks.proofs.reading.read_vector.Given as goal
+use Rattle.syn_base.specs.Vectors.{vector_at}
 
 abbrev pub invariant-loop-j : goal.invariant-loop-j
 invariant-loop-j l = record {

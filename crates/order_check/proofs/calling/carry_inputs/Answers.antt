@@ -1,7 +1,7 @@
 use Rattle.std.proofs.Common.{ℕ, get_or, sym}
 use Rattle.std.specs.Prelude.{slice_get}
 use Rattle.std.proofs.lemmas.Option.{slice_get-get_or}
-use Rattle.flat_graph.specs.declared.vertex.Source.{Source}
+use Rattle.executive_program.specs.declared.Source.{Source}
 use Rattle.order_check.specs.Calls.{carries}
 use Rattle.program_walks.proofs.ListTests.{fails_at}
 use Rattle.order_check.proofs.calling.carry_inputs.Goals as goal

@@ -1,7 +1,7 @@
 use Rattle.std.proofs.Common.{◌≡◌, ℕ, drop}
 use Rattle.std.specs.Prelude.{slice_get}
 use Rattle.program_walks.specs.Walks.{all_at}
-use Rattle.flat_graph.specs.declared.vertex.Source.{Source}
+use Rattle.executive_program.specs.declared.Source.{Source}
 use Rattle.order_check.specs.Calls.{carries}
 use Rattle.order_check.proofs.calling.carry_inputs.Given as goal
 

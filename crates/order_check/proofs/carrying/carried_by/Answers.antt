@@ -1,5 +1,5 @@
 use Rattle.std.proofs.Common.{◌≡◌, ◌+◌, ◌-◌, ◌<◌, List, length, arith, ap}
-use Rattle.flat_graph.specs.declared.vertex.Source.{Source}
+use Rattle.executive_program.specs.declared.Source.{Source}
 use Rattle.executive_program.specs.declared.program.Buffer.{Buffer}
 use Rattle.order_check.proofs.Kept.{comes_from_buffer, comes_from_call, comes_from_nowhere}
 use Rattle.order_check.proofs.carrying.carried_by.Goals as goal

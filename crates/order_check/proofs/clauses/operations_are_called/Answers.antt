@@ -1,5 +1,5 @@
 use Rattle.std.proofs.Common.{List, sym, ap, ◌∙◌}
-use Rattle.flat_graph.specs.declared.vertex.Vertex.{Vertex}
+use Rattle.executive_program.specs.declared.Vertex.{Vertex}
 use Rattle.order_check.specs.Calls.{are_called}
 use Rattle.order_check.proofs.Called.{calls_of, of_calls}
 use Rattle.order_check.proofs.clauses.operations_are_called.Goals as goal

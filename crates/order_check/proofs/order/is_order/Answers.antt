@@ -1,6 +1,6 @@
 use Rattle.std.proofs.Common.{length, ◌∙◌}
 use Rattle.std.proofs.lemmas.Bool.Decides.{Decides-at}
-use Rattle.archi_graph.specs.Sequences.{sequences}
+use Rattle.executive_program.specs.Sequences.{sequences}
 use Rattle.order_check.specs.Order.{is_order}
 use Rattle.order_check.proofs.Listed.{listed_are}
 use Rattle.order_check.proofs.Ordered.{decides_order}

@@ -1,5 +1,5 @@
 use Rattle.std.proofs.Common.{◌≡◌, drop}
-use Rattle.archi_graph.specs.Sequences.{communicators}
+use Rattle.executive_program.specs.Sequences.{communicators}
 use Rattle.program_walks.specs.Walks.{passed}
 use Rattle.order_check.specs.Sequenced.{is_sequence}
 use Rattle.order_check.proofs.sequencing.after_communicators.Given as goal

@@ -1,6 +1,6 @@
 use Rattle.std.proofs.Common.{◌≡◌, ◌-◌}
 use Rattle.std.specs.List.{flat_map, range_with_len}
-use Rattle.archi_graph.specs.Sequences.{sequences_of}
+use Rattle.executive_program.specs.Sequences.{sequences_of}
 use Rattle.program_walks.specs.Walks.{passed}
 use Rattle.order_check.specs.Sequenced.{is_sequence}
 use Rattle.order_check.proofs.sequencing.are_sequences.Given as goal

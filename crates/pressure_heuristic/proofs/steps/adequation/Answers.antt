@@ -1,6 +1,6 @@
 use Rattle.std.proofs.Common.{List, ℕ, ap, subst, sym, ◌∙◌}
-use Rattle.flat_graph.specs.Order.{is_acyclic}
-use Rattle.flat_graph.proofs.Settled.{acyclic_of}
+use Rattle.schedule.specs.FlatOrder.{is_acyclic}
+use Rattle.schedule.proofs.Settled.{acyclic_of}
 use Rattle.comm_routing.proofs.Sites.{site_of}
 use Rattle.pressure_heuristic.specs.Choosing.{IsGuide}
 use Rattle.pressure_heuristic.proofs.Running.{guide_of, run_of_any, valid_run}

@@ -1,6 +1,6 @@
 use Rattle.std.proofs.Common.{◌+◌, ◌*◌, ap, arith, sym, ◌∙◌}
 use Rattle.std.specs.Prelude.{slice_index_or}
-use Rattle.flat_graph.specs.Order.{depends_on}
+use Rattle.schedule.specs.FlatOrder.{depends_on}
 use Rattle.comm_routing.specs.Placing.{ticks_in}
 use Rattle.comm_routing.proofs.Sites.{vertex_at}
 use Rattle.pressure_heuristic.proofs.Rounds.{so_far_step}

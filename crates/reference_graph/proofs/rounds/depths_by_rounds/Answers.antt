@@ -1,8 +1,8 @@
 use Rattle.std.proofs.Common.{◌≡◌, ℕ, List, length, map, get_or, refl, ap, ◌∙◌, arith}
 use Rattle.std.specs.Prelude.{slice_index}
 use Rattle.reference_graph.specs.Links.{numbers}
-use Rattle.reference_graph.specs.Settled.{depth_by, depths_within}
-use Rattle.reference_graph.proofs.Deeper.{no_round, one_round, rounds_bound, rounds_length}
+use Rattle.reference_graph.specs.Settled.{depth_by}
+use Rattle.reference_graph.proofs.Deeper.{no_round, one_round, rounds_bound, rounds_length, depths_within}
 use Rattle.reference_graph.proofs.rounds.depths_by_rounds.Goals as goal
 
 pub loop-round-init : goal.loop-round-init

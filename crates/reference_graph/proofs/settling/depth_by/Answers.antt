@@ -1,8 +1,8 @@
 use Rattle.std.proofs.Common.{◌+◌, List, ℕ, map, ap, arith, ◌∙◌}
 use Rattle.std.specs.Prelude.{slice_index}
-use Rattle.reference_graph.specs.Links.{greatest}
 use Rattle.reference_graph.proofs.SettledDepths.{greatest_below}
 use Rattle.reference_graph.proofs.settling.depth_by.Goals as goal
+use Rattle.syn_base.specs.Numbers.{greatest}
 
 pub overflow_add-result : goal.overflow_add-result
 overflow_add-result c =

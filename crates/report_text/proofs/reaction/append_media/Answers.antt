@@ -1,7 +1,7 @@
 use Rattle.std.proofs.Common.{◌≡◌, ◌∷◌, ◌+◌, ◌++◌, List, drop, map, get_or, ap, sym, append_assoc, ◌∙◌, arith, codes}
 use Rattle.syn_base.specs.Bytes.{Bytes}
-use Rattle.archi_graph.specs.declared.medium.Medium.{Medium}
 use Rattle.timing_chart.specs.Chart.{line_text, text_of}
+use Rattle.self_timed.specs.declared.Medium.{Medium}
 use Rattle.lower_bound.specs.declared.loads.Load.{Load}
 use Rattle.report_text.specs.Text.{load_line, load_lines}
 use Rattle.report_text.proofs.Lines.{begins, load_here, load_past}

@@ -1,8 +1,8 @@
 use Rattle.std.proofs.Common.{ℕ, List, ap, sym, ◌∙◌}
 use Rattle.std.specs.Prelude.{slice_get}
-use Rattle.schedule.specs.Acts.{acts_of}
 use Rattle.comm_routing.specs.Draft.{task_of}
 use Rattle.comm_routing.specs.Placing.{may_place}
+use Rattle.self_timed.specs.Acts.{acts_of}
 use Rattle.schedule_search.proofs.Way.{none_returned, when_passes}
 use Rattle.schedule_search.proofs.alone.next_on.Goals as goal
 

@@ -1,5 +1,5 @@
 use Rattle.std.proofs.Common.{arith}
-use Rattle.durations.specs.Table.{entry_in}
+use Rattle.self_timed.specs.Table.{entry_in}
 use Rattle.schedule_search.proofs.Measures.{no_slower_than_alone, no_slower_than_run, run_is_no_slower}
 use Rattle.schedule_search.proofs.seeking.search.Goals as goal
 

@@ -1,9 +1,10 @@
 use Rattle.std.proofs.Common.{List, length, refl, sym, ap, subst, arith, ◌∙◌, ◌+◌, ◌∷◌, [], ◌++◌}
 use Rattle.std.specs.Prelude.{All}
-use Rattle.flat_graph.specs.declared.vertex.Vertex.{Vertex}
-use Rattle.schedule.specs.declared.decision.Decision.{Decision}
+use Rattle.sequence_build_laws.specs.declared.Vertex.{Vertex}
+use Rattle.sequence_build_laws.specs.declared.Decision.{Decision}
+use Rattle.sequence_build_laws.specs.FlatValid.{HasFewOutputs}
 use Rattle.self_timed.specs.declared.dates.Span.{Span}
-use Rattle.self_timed.specs.Laid.{HasFewOutputs, IsDecided}
+use Rattle.self_timed.specs.Laid.{IsDecided}
 use Rattle.self_timed.specs.Running.{running}
 use Rattle.self_timed.proofs.Dated.{Asked, all_decided, are_told, count_is, few_outputs_all, next_from, row_read, sized, step_fits, step_more, steps_from, told_first, told_in_time}
 use Rattle.self_timed.proofs.compute.dates_with.Goals as goal

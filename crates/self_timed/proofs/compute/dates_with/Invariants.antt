@@ -1,4 +1,4 @@
-use Rattle.schedule.specs.Acts.{acts}
+use Rattle.sequence_build_laws.specs.Acts.{acts}
 use Rattle.self_timed.specs.Told.{end_at}
 use Rattle.self_timed.proofs.Following.{SoFar}
 use Rattle.self_timed.proofs.compute.dates_with.Given as goal

@@ -1,6 +1,6 @@
 use Rattle.std.proofs.Common.{◌∙◌, ◌++◌, List, ap, sym, true, false}
 use Rattle.std.proofs.lemmas.List.{append-nil}
-use Rattle.flat_graph.specs.declared.vertex.Vertex.{Vertex}
+use Rattle.sequence_build_laws.specs.declared.Vertex.{Vertex}
 use Rattle.self_timed.specs.Latency.{senses}
 use Rattle.self_timed.specs.declared.latency.Latency.{Latency}
 use Rattle.self_timed.proofs.Listing.{from_is}

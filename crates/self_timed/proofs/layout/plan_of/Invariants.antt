@@ -1,5 +1,5 @@
 use Rattle.std.proofs.Common.{◌≡◌, drop}
-use Rattle.schedule.specs.Acts.{acts_of}
+use Rattle.sequence_build_laws.specs.Acts.{acts_of}
 use Rattle.self_timed.specs.Laid.{HasShape, after_all, started}
 use Rattle.self_timed.proofs.layout.plan_of.Given as goal
 

@@ -1,10 +1,10 @@
 -- The rows have the actuators' lengths.
 use Rattle.std.proofs.Common.{◌≡◌, ◌∙◌, ap, map, replicate}
 use Rattle.syn_base.specs.Rows.{Reactions}
-use Rattle.level_meaning.specs.Level.{zeros}
-use Rattle.flat_graph.specs.Graph.{Graph}
-use Rattle.operation_desks.specs.RowLens.{actuator_lens}
+use Rattle.executive_program.specs.Graph.{Graph}
+use Rattle.executive_program.specs.FlatLaws.{actuator_lens}
 use Rattle.semaphore_core.proofs.operations.cells_and_rows.Goals as goal
+use Rattle.syn_base.specs.Vectors.{zeros}
 
 pub returns-clause-lens : goal.returns-clause-lens
 returns-clause-lens c = ap (λ (r : Reactions). r.lens) c.in_ok-rows.ensures ∙ c.as_slice.ensures ∙ c.in_ok-lens.ensures ∙ ap (λ (g : Graph). actuator_lens g g.vertices) c.flat.ensures

@@ -1,10 +1,10 @@
 -- The cell that was lent has its new value.
 use Rattle.std.proofs.Common.{◌≡◌, ◌<◌, ◌∙◌, length, sym, arith, Some, Vec, ℤ, Global}
 use Rattle.std.proofs.lemmas.List.{length-map}
-use Rattle.flat_graph.specs.Fire.{kept_at, cell_len}
-use Rattle.level_meaning.specs.Level.{Vector}
+use Rattle.executive_program.specs.Fire.{kept_at, cell_len}
 use Rattle.semaphore_core.proofs.RowVectors.{cell_set, cell_there, cells_of}
 use Rattle.semaphore_core.proofs.operations.fire_on.Goals as goal
+use Rattle.syn_base.specs.Vectors.{Vector}
 
 pub returns-in-Some-clause-cells : goal.returns-in-Some-clause-cells
 returns-in-Some-clause-cells c =

@@ -1,19 +1,19 @@
 -- An operation is made on its desk.
 use Rattle.std.proofs.Common.{◌≡◌, ℕ, true, ◌<◌, ◌∙◌, length, sum, sym, ap, subst, arith, List, [], get_or, Some}
 use Rattle.std.specs.Prelude.{slice_get}
-use Rattle.level_meaning.specs.Level.{Values, Vector, vector_at}
-use Rattle.flat_graph.specs.declared.vertex.Vertex.{Vertex}
-use Rattle.flat_graph.specs.declared.vertex.Kind.TheVariants.{Sensor}
-use Rattle.flat_graph.specs.Meaning.{sensed}
-use Rattle.flat_graph.specs.Valid.{is_flat}
-use Rattle.flat_graph.specs.Fire.{seen_len}
-use Rattle.flat_graph.specs.Graph.{Graph}
+use Rattle.executive_program.specs.declared.Vertex.{Vertex}
+use Rattle.executive_program.specs.declared.Kind.TheVariants.{Sensor}
+use Rattle.executive_program.specs.Meaning.{sensed}
+use Rattle.executive_program.specs.FlatValid.{is_flat}
+use Rattle.executive_program.specs.Fire.{seen_len}
+use Rattle.executive_program.specs.Graph.{Graph}
 use Rattle.operation_desks.specs.Operation.{rows_by}
 use Rattle.semaphore_core.specs.Job.{JobData}
 use Rattle.semaphore_core.specs.Rows.{TakesRow}
 use Rattle.semaphore_core.proofs.RowVectors.{cells_of}
 use Rattle.semaphore_core.proofs.Operate.{is_there, senses, takes_row, rows_are, given_lens, read_same, desk_same}
 use Rattle.semaphore_core.proofs.operations.operate.Goals as goal
+use Rattle.syn_base.specs.Vectors.{Vector, Values, vector_at}
 
 seen : (j : JobData) (v : ℕ) (x : Vertex) (k : ℕ) (s : Vector) → is_flat j.graph ≡ true → slice_get j.graph.vertices v ≡ Some x → s ≡ sensed x.kind (get_or j.sensors k []) → ((i : ℕ) → x.kind ≡ Sensor i → length s ≡ get_or j.lens i 0)
     → ((i : ℕ) → x.kind ≡ Sensor i → (i < length j.lens) × (get_or j.lens i 0 ≡ seen_len j.graph v)) → length s ≡ seen_len j.graph v

@@ -3,9 +3,9 @@ use Rattle.std.proofs.Common.{◌≡◌, ◌∙◌, [], get_or, length, arith, a
 use Rattle.std.proofs.lemmas.Int.{to_z-of_z}
 use mir.Val.{SFits}
 use Rattle.syn_base.specs.Rows.{Reactions, with_element}
-use Rattle.level_meaning.specs.Level.{Values, Vector}
 use Rattle.semaphore_core.proofs.RowVectors.{one_put}
 use Rattle.semaphore_core.proofs.operations.put_row.Goals as goal
+use Rattle.syn_base.specs.Vectors.{Vector, Values}
 
 pub loop-j-preserved : goal.loop-j-preserved
 loop-j-preserved c =

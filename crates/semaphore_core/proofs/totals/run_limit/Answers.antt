@@ -1,6 +1,6 @@
 -- A well-formed program takes each pair twice in a reaction, and without a limit its micro-steps are few.
 use Rattle.std.proofs.Common.{length}
-use Rattle.archi_graph.specs.Sequences.{sequences}
+use Rattle.executive_program.specs.Sequences.{sequences}
 use Rattle.semaphore_core.proofs.Counting.{counts_looks}
 use Rattle.semaphore_core.proofs.totals.run_limit.Goals as goal
 

@@ -1,6 +1,6 @@
 use Rattle.std.proofs.Common.{◌≡◌, ◌*◌, ◌^◌, ◌≤◌, take}
 use Rattle.std.specs.List.{sum_by}
-use Rattle.flat_graph.specs.Graph.{len_of}
+use Rattle.executive_program.specs.Graph.{len_of}
 use Rattle.semaphore_core.proofs.totals.source_elements.Given as goal
 
 abbrev pub invariant-loop-source : goal.invariant-loop-source

@@ -1,6 +1,6 @@
 -- At most 2,048 operations.
 use Rattle.std.proofs.Common.{List, length, ap, arith}
-use Rattle.flat_graph.specs.declared.vertex.Vertex.{Vertex}
+use Rattle.executive_program.specs.declared.Vertex.{Vertex}
 use Rattle.semaphore_core.proofs.Counting.{few_operations}
 use Rattle.semaphore_core.proofs.totals.taken_elements.Goals as goal
 

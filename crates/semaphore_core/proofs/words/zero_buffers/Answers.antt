@@ -2,9 +2,9 @@
 use Rattle.std.proofs.Common.{◌<◌, length, arith, ap}
 use Rattle.executive_program.specs.declared.program.Buffer.{Buffer}
 use Rattle.std.proofs.Common.{List, ℕ, ◌∙◌}
-use Rattle.level_meaning.specs.Level.{zeros}
 use Rattle.semaphore_core.proofs.Openings.{buffer_more}
 use Rattle.semaphore_core.proofs.words.zero_buffers.Goals as goal
+use Rattle.syn_base.specs.Vectors.{zeros}
 
 pub loop-buffer-preserved : goal.loop-buffer-preserved
 loop-buffer-preserved c =

@@ -1,7 +1,7 @@
 use Rattle.std.proofs.Common.{◌≡◌, ◌++◌, map}
-use Rattle.level_meaning.specs.Level.{numbers_below}
 use Rattle.sensor_table.specs.Columns.{column}
 use Rattle.sensor_table.proofs.header.append_elements.Given as goal
+use Rattle.syn_base.specs.Numbers.{numbers_below}
 
 -- the columns so far
 abbrev pub invariant-loop-j : goal.invariant-loop-j

@@ -1,11 +1,11 @@
 use Rattle.std.proofs.Common.{◌≡◌, ◌∙◌, ◌<◌, ◌+◌, ◌++◌, ℕ, List, length, get_or, drop, ap, ap₂, sym, append_assoc}
 use Rattle.std.proofs.lemmas.List.{append-nil, at_drop_more, at_drop_all}
+use Rattle.algo_tree.specs.Parts.{name_of}
 use Rattle.algo_tree.specs.Ends.{first_length}
 use Rattle.algo_tree.specs.Tree.{Vertex as Plain, and_vertex}
 use Rattle.algo_tree.specs.View.{kind_view, view, vertices_view}
 use Rattle.algo_tree.specs.declared.vertex.Vertex.{Vertex, out-Vertex}
 use Rattle.algo_tree.proofs.Views.{view_out}
-use Rattle.level_meaning.specs.Parts.{name_of}
 use Rattle.sensor_table.specs.Columns.{columns_in, columns_of}
 use Rattle.sensor_table.proofs.header.append_sensors.Goals as goal
 

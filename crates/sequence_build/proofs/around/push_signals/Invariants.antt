@@ -1,6 +1,6 @@
 use Rattle.std.proofs.Common.{◌≡◌, ◌++◌}
 use Rattle.std.specs.Prelude.{replicate}
-use Rattle.executive_program.specs.declared.program.Instr.TheVariants.{Pre0}
+use Rattle.sequence_build_laws.specs.declared.Instr.TheVariants.{Pre0}
 use Rattle.sequence_build.proofs.around.push_signals.Given as goal
 
 -- this many were added

@@ -1,6 +1,6 @@
 use Rattle.std.proofs.Common.{◌≡◌, ◌∷◌, [], ◌-◌, ◌^◌, min, take}
 use Rattle.std.specs.List.{flat_map, sum_by}
-use Rattle.schedule.specs.Acts.{acts_of}
+use Rattle.sequence_build_laws.specs.Acts.{acts_of}
 use Rattle.sequence_build.specs.Plain.{steps_at}
 use Rattle.sequence_build.specs.Counted.{step_micros}
 use Rattle.sequence_build.proofs.counted.act_micros.Given as goal

@@ -1,6 +1,6 @@
 use Rattle.std.proofs.Common.{◌≡◌, ◌-◌, ◌^◌, min, take}
 use Rattle.std.specs.List.{sum_by}
-use Rattle.schedule.specs.Acts.{carry}
+use Rattle.sequence_build_laws.specs.Acts.{carry}
 use Rattle.sequence_build.specs.Plain.{steps_at}
 use Rattle.sequence_build.specs.Counted.{step_micros}
 use Rattle.sequence_build.proofs.counted.carry_all_micros.Given as goal

@@ -1,5 +1,5 @@
 use Rattle.std.proofs.Common.{◌≡◌, max, drop, map}
-use Rattle.schedule.specs.Acts.{carry}
+use Rattle.sequence_build_laws.specs.Acts.{carry}
 use Rattle.sequence_build.specs.Plain.{numbering}
 use Rattle.sequence_build.specs.Counted.{longest}
 use Rattle.sequence_build.proofs.counted.longest_carried.Given as goal

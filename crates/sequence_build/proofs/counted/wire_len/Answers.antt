@@ -1,6 +1,6 @@
 -- One more decision.
 use Rattle.std.proofs.Common.{map, ap, ◌∙◌}
-use Rattle.schedule.specs.Acts.{carry}
+use Rattle.sequence_build_laws.specs.Acts.{carry}
 use Rattle.sequence_build.specs.Plain.{numbering}
 use Rattle.sequence_build.specs.Counted.{longest}
 use Rattle.sequence_build.proofs.Micros.{wire_more}

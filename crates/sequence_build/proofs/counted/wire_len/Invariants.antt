@@ -1,5 +1,5 @@
 use Rattle.std.proofs.Common.{◌≡◌, max, drop}
-use Rattle.schedule.specs.Acts.{acts_of}
+use Rattle.sequence_build_laws.specs.Acts.{acts_of}
 use Rattle.sequence_build.specs.Plain.{numbering}
 use Rattle.sequence_build.specs.Counted.{longest}
 use Rattle.sequence_build.proofs.counted.wire_len.Given as goal

@@ -1,6 +1,6 @@
 use Rattle.std.proofs.Common.{◌≡◌, ◌*◌, ◌^◌, ◌≤◌}
-use Rattle.interleavings.specs.Owners.{sum_below}
-use Rattle.schedule.specs.Acts.{acts_of}
+use Rattle.sequence_build_laws.specs.Owners.{sum_below}
+use Rattle.sequence_build_laws.specs.Acts.{acts_of}
 use Rattle.sequence_build.specs.Plain.{numbering}
 use Rattle.sequence_build.specs.Counted.{longest}
 use Rattle.sequence_build.proofs.counted.wire_words.Given as goal

@@ -1,12 +1,12 @@
 use Rattle.std.proofs.Common.{ℕ, ◌-◌, ◌^◌, None, min, sym, ap, ◌∙◌}
 use Rattle.std.specs.List.{flat_map}
-use Rattle.schedule.specs.Acts.{acts_of}
 use Rattle.syn_base.specs.declared.limits.LimitKind.TheVariants.{Words, MicroSteps}
+use Rattle.sequence_build_laws.specs.Acts.{acts_of}
 use Rattle.sequence_build.specs.Counted.{all_micros, all_words}
-use Rattle.sequence_build.specs.Limit.{above}
 use Rattle.sequence_build.specs.Plain.{numbering, steps_at}
 use Rattle.sequence_build.proofs.Limits.{next_decides, over}
 use Rattle.sequence_build.proofs.limit.limit_by.Goals as goal
+use Rattle.syn_base.specs.Limits.{above}
 
 pub returns-in-Some : goal.returns-in-Some
 returns-in-Some c =

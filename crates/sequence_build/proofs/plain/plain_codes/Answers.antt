@@ -1,8 +1,8 @@
 use Rattle.std.proofs.Common.{◌≡◌, List, length, ap, subst, arith, ◌∙◌}
 use Rattle.std.specs.List.{flat_map}
 use Rattle.std.specs.Prelude.{IfOk}
-use Rattle.schedule.specs.Acts.{acts_of}
-use Rattle.executive_program.specs.declared.program.SeqCode.{SeqCode}
+use Rattle.sequence_build_laws.specs.Acts.{acts_of}
+use Rattle.sequence_build_laws.specs.declared.SeqCode.{SeqCode}
 use Rattle.sequence_build_laws.specs.Serial.{projection}
 use Rattle.sequence_build.specs.Numbers.{number_in}
 use Rattle.sequence_build.specs.Plain.{codes_from, steps_of}

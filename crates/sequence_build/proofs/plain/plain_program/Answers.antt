@@ -1,6 +1,6 @@
 use Rattle.std.proofs.Common.{length, map, ◌∙◌}
 use Rattle.std.specs.List.{flat_map}
-use Rattle.schedule.specs.Acts.{acts_of, made_by}
+use Rattle.sequence_build_laws.specs.Acts.{acts_of, made_by}
 use Rattle.sequence_build.specs.Made.{buffer_of}
 use Rattle.sequence_build.specs.Numbers.{place}
 use Rattle.sequence_build.proofs.plain.plain_program.Goals as goal

@@ -1,8 +1,7 @@
 -- One more without any.
 use Rattle.std.proofs.Common.{◌≡◌, List, [], arith, refl, subst, sym, Vec, Global}
-use Rattle.executive_program.specs.declared.program.Instr.{Instr}
-use Rattle.sequence_build.specs.Plain.{loop_at}
-use Rattle.sequence_build.specs.Plain.{elements}
+use Rattle.sequence_build_laws.specs.declared.Instr.{Instr}
+use Rattle.sequence_build.specs.Plain.{loop_at, elements}
 use Rattle.sequence_build.proofs.Appending.{none_more}
 use Rattle.sequence_build.proofs.site.empty_loops.Goals as goal
 

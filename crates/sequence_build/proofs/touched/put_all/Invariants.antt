@@ -1,7 +1,7 @@
 use Rattle.std.proofs.Common.{◌&&◌, nat_eq, drop}
 use Rattle.std.specs.List.{list_any}
-use Rattle.sequence_build.specs.Touched.{PutsUp}
 use Rattle.sequence_build.proofs.touched.put_all.Given as goal
+use Rattle.sequence_build.proofs.Touching.{PutsUp}
 
 -- what is left makes the whole
 abbrev pub invariant-loop-buffer : goal.invariant-loop-buffer

@@ -1,6 +1,6 @@
 use Rattle.std.proofs.Common.{arith}
 use Rattle.std.specs.List.{flat_map}
-use Rattle.schedule.specs.Acts.{acts_of}
+use Rattle.sequence_build_laws.specs.Acts.{acts_of}
 use Rattle.sequence_build.specs.Plain.{steps_at}
 use Rattle.sequence_build.proofs.Touching.{counts_are}
 use Rattle.sequence_build.proofs.touched.reader_counts.Goals as goal

@@ -1,6 +1,6 @@
 -- One more instruction.
 use Rattle.std.proofs.Common.{arith, ◌∙◌}
-use Rattle.executive_program.specs.Instructions.{reads}
+use Rattle.sequence_build_laws.specs.Instructions.{reads}
 use Rattle.sequence_build.specs.Uses.{uses_at}
 use Rattle.sequence_build.proofs.Appending.{uses_next}
 use Rattle.sequence_build.proofs.uses.note_loop.Goals as goal

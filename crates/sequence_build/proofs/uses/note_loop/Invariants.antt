@@ -1,5 +1,5 @@
 use Rattle.std.proofs.Common.{◌≡◌, ℕ, ◌<◌, drop, vec_len}
-use Rattle.executive_program.specs.Instructions.{reads}
+use Rattle.sequence_build_laws.specs.Instructions.{reads}
 use Rattle.sequence_build.specs.Uses.{uses_at, uses_in}
 use Rattle.sequence_build.proofs.uses.note_loop.Given as goal
 

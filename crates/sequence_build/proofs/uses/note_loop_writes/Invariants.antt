@@ -1,5 +1,5 @@
 use Rattle.std.proofs.Common.{◌≡◌, ℕ, ◌<◌, drop, length}
-use Rattle.executive_program.specs.Instructions.{writes}
+use Rattle.sequence_build_laws.specs.Instructions.{writes}
 use Rattle.sequence_build.specs.Uses.{write_at, write_in}
 use Rattle.sequence_build.proofs.uses.note_loop_writes.Given as goal
 

@@ -1,5 +1,5 @@
 use Rattle.std.proofs.Common.{◌≡◌, ℕ, ◌<◌, drop, length, [], vec_len}
-use Rattle.executive_program.specs.Instructions.{reads}
+use Rattle.sequence_build_laws.specs.Instructions.{reads}
 use Rattle.sequence_build.specs.Uses.{uses_at, uses_by}
 use Rattle.sequence_build.proofs.uses.uses_of.Given as goal
 

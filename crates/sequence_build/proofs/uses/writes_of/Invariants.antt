@@ -1,5 +1,5 @@
 use Rattle.std.proofs.Common.{◌≡◌, ℕ, ◌<◌, drop, length, None, vec_len}
-use Rattle.executive_program.specs.Instructions.{writes}
+use Rattle.sequence_build_laws.specs.Instructions.{writes}
 use Rattle.sequence_build.specs.Uses.{write_at, write_by}
 use Rattle.sequence_build.proofs.uses.writes_of.Given as goal
 

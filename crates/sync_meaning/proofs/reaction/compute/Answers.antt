@@ -1,5 +1,4 @@
 use Rattle.std.proofs.Common.{◌≡◌, ◌<◌, ◌++◌, List, [], map, length, refl, sym, ap, ◌∙◌, arith}
-use Rattle.level_meaning.specs.Level.{Values}
 use Rattle.flat_graph.specs.declared.vertex.Vertex.{Vertex}
 use Rattle.flat_graph.specs.Meaning.{conditions, inputs}
 use Rattle.flat_graph.proofs.Facts.{vertex_valid}
@@ -8,6 +7,7 @@ use Rattle.sync_meaning.specs.Store.{lengths, lens_read, value_at, given}
 use Rattle.sync_meaning.proofs.Facts.{same_at, same_count, read_lens_is, reads_are, input_lens, fired_lens, fired_is}
 use Rattle.sync_meaning.proofs.Operating.{gives}
 use Rattle.sync_meaning.proofs.reaction.compute.Goals as goal
+use Rattle.syn_base.specs.Vectors.{Values}
 
 pub read_values-requires : goal.read_values-requires
 read_values-requires c =

@@ -1,7 +1,6 @@
 use Rattle.std.proofs.Common.{◌≡◌, ◌<◌, ◌≤◌, ℕ, List, length, take, refl, sym, ap, ◌∙◌, arith, subst}
 use Rattle.std.specs.Prelude.{slice_index_or}
 use Rattle.std.proofs.lemmas.List.{take_all}
-use Rattle.level_meaning.specs.Level.{Values, vector_at}
 use Rattle.flat_graph.specs.declared.vertex.Vertex.{Vertex}
 use Rattle.flat_graph.specs.Fire.{fired}
 use Rattle.flat_graph.specs.Meaning.{sensed, conditions, inputs}
@@ -10,6 +9,7 @@ use Rattle.sync_meaning.specs.Reaction.{row_of, kept_in}
 use Rattle.sync_meaning.proofs.Facts.{same_count}
 use Rattle.sync_meaning.proofs.Table.{AreRight, right_more, all_right}
 use Rattle.sync_meaning.proofs.reaction.fire_all.Goals as goal
+use Rattle.syn_base.specs.Vectors.{Values, vector_at}
 
 pub loop-v-preserved : goal.loop-v-preserved
 loop-v-preserved c =

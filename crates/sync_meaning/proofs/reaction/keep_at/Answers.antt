@@ -1,7 +1,6 @@
 use Rattle.std.proofs.Common.{◌≡◌, ◌<◌, ℕ, ℤ, List, [], map, length, set, sym, ap, ◌∙◌, arith, Vec, Global}
 use Rattle.std.specs.Prelude.{slice_get}
 use Rattle.std.proofs.lemmas.List.{with_items_is, set-get_or}
-use Rattle.level_meaning.specs.Level.{Vector, Values, vector_at}
 use Rattle.flat_graph.specs.declared.vertex.Vertex.{Vertex}
 use Rattle.flat_graph.specs.Meaning.{next_cell}
 use Rattle.flat_graph.proofs.ReadLens.{vertex_there}
@@ -10,6 +9,7 @@ use Rattle.sync_meaning.specs.Reaction.{next_kept}
 use Rattle.sync_meaning.proofs.Facts.{same_at, same_vertex}
 use Rattle.sync_meaning.proofs.Keeping.{set_half, next_is, next_not, beside, cells_set, lengths_set, cells_count}
 use Rattle.sync_meaning.proofs.reaction.keep_at.Goals as goal
+use Rattle.syn_base.specs.Vectors.{Vector, Values, vector_at}
 
 pub keep_by-requires : goal.keep_by-requires
 keep_by-requires c t twin =

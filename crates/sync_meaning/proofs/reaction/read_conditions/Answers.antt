@@ -1,10 +1,10 @@
 use Rattle.std.proofs.Common.{◌≡◌, ◌+◌, ◌-◌, ◌<◌, ◌++◌, ℕ, length, take, drop, get_or, ap, sym, arith, ◌∙◌}
-use Rattle.level_meaning.specs.Level.{Vector, vector_at}
 use Rattle.flat_graph.specs.declared.vertex.Guard.{Guard}
 use Rattle.sync_meaning.specs.Store.{value_at}
 use Rattle.sync_meaning.proofs.Reading.{there, long, written}
 use Rattle.sync_meaning.proofs.Whole.{over_last, last_lens, last_at, last_count, last_none, last_whole}
 use Rattle.sync_meaning.proofs.reaction.read_conditions.Goals as goal
+use Rattle.syn_base.specs.Vectors.{Vector, vector_at}
 
 pub put-requires-clause-port : goal.put-requires-clause-port
 put-requires-clause-port c =

@@ -1,7 +1,6 @@
 use Rattle.std.proofs.Common.{◌≡◌, ◌<◌, ℕ, ℤ, List, [], map, length, refl, sym, ap, ◌∙◌, arith, subst, Vec, Global}
 use Rattle.std.specs.Prelude.{slice_index_or}
 use Rattle.std.proofs.lemmas.List.{with_items_is, get_or_default}
-use Rattle.level_meaning.specs.Level.{Vector, Values, vector_at}
 use Rattle.flat_graph.specs.declared.vertex.Kind.TheVariants.{Set}
 use Rattle.flat_graph.specs.declared.vertex.Vertex.{Vertex}
 use Rattle.flat_graph.specs.Meaning.{sensed}
@@ -12,6 +11,7 @@ use Rattle.sync_meaning.proofs.Facts.{same_at, same_count, read_lens_is, own_cel
 use Rattle.sync_meaning.proofs.Keeping.{beside, cells_same, cells_count}
 use Rattle.sync_meaning.proofs.Operating.{set_stays, has_run}
 use Rattle.sync_meaning.proofs.reaction.run_operation.Goals as goal
+use Rattle.syn_base.specs.Vectors.{Vector, Values, vector_at}
 
 pub returns-in-Set : goal.returns-in-Set
 returns-in-Set c =

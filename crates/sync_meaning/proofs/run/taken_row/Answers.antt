@@ -1,5 +1,5 @@
 use Rattle.std.proofs.Common.{◌++◌, List}
-use Rattle.level_meaning.specs.Level.{all_joined}
+use Rattle.algo_tree.specs.Level.{all_joined}
 use Rattle.flat_graph.specs.declared.vertex.Vertex.{Vertex}
 use Rattle.flat_graph.specs.Meaning.{taken, taken_by}
 use Rattle.sync_meaning.specs.Store.{value_at}

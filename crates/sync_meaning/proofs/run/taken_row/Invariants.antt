@@ -1,5 +1,5 @@
 use Rattle.std.proofs.Common.{◌≡◌, ◌++◌, drop}
-use Rattle.level_meaning.specs.Level.{all_joined}
+use Rattle.algo_tree.specs.Level.{all_joined}
 use Rattle.flat_graph.specs.Meaning.{taken}
 use Rattle.sync_meaning.specs.Store.{value_at}
 use Rattle.sync_meaning.proofs.run.taken_row.Given as goal

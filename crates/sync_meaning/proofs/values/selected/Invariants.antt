@@ -1,5 +1,5 @@
 use Rattle.std.proofs.Common.{◌≡◌, ◌+◌, drop}
-use Rattle.level_meaning.specs.Level.{selected}
+use Rattle.algo_tree.specs.Level.{selected}
 use Rattle.sync_meaning.proofs.values.selected.Given as goal
 
 abbrev pub invariant-loop-case : goal.invariant-loop-case

@@ -1,5 +1,5 @@
 use Rattle.syndex_program.specs.Executes.{made_of}
-use Rattle.command_status.specs.Status.{ending_of}
+use Rattle.top_plans.specs.Status.{ending_of}
 use Rattle.top_plans.specs.Given.{executed, printed, summed}
 use Rattle.top_plans.specs.Plans.{exec_plan, head, summary}
 use Rattle.syndex_program.proofs.Coded.{ran_so}

@@ -1,11 +1,11 @@
 use Rattle.std.proofs.Common.{subst}
 use Rattle.std.specs.Prelude.{Ok, Err}
 use Rattle.std.proofs.lemmas.Result.{err_from_is_err_and}
-use Rattle.archi_defs.specs.declared.text.ArchiText.{ArchiText}
-use Rattle.executive_program.specs.declared.program.Program.{Program}
-use Rattle.flat_graph.specs.Graph.{Graph}
-use Rattle.command_plan.specs.Run.{Makes}
-use Rattle.command_status.specs.Status.{ending_of}
+use Rattle.self_timed.specs.declared.ArchiText.{ArchiText}
+use Rattle.self_timed.specs.declared.Program.{Program}
+use Rattle.self_timed.specs.Graph.{Graph}
+use Rattle.top_plans.specs.Run.{Makes}
+use Rattle.top_plans.specs.Status.{ending_of}
 use Rattle.top_plans.specs.Plans.{execution, execution_plan, program_plan}
 use Rattle.compiler.specs.Builds.{BuildsProgram}
 use Rattle.syndex_program.specs.Executes.{made_of}

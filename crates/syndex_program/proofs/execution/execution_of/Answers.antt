@@ -1,9 +1,9 @@
 use Rattle.std.proofs.Common.{◌≡◌, subst, length}
 use Rattle.std.specs.Prelude.{None, Some}
-use Rattle.archi_graph.specs.Sequences.{sequences}
-use Rattle.executive_program.specs.WellFormed.{IsWellFormed}
-use Rattle.flat_graph.specs.Graph.{Graph}
-use Rattle.semaphore_core.specs.IsJob.{limit_in}
+use Rattle.word_rule.specs.IsJob.{limit_in}
+use Rattle.self_timed.specs.Sequences.{sequences}
+use Rattle.self_timed.specs.WellFormed.{IsWellFormed}
+use Rattle.self_timed.specs.Graph.{Graph}
 use Rattle.syndex_program.proofs.Executing.{fit, given, stopped}
 use Rattle.syndex_program.proofs.execution.execution_of.Goals as goal
 

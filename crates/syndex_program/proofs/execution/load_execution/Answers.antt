@@ -3,16 +3,17 @@ use Rattle.std.specs.Prelude.{Ok, Err}
 use Rattle.std.proofs.lemmas.Result.{err_from_is_err_and}
 use Rattle.csv.specs.Reading.{default_config, records, strip_bom}
 use Rattle.syn_base.specs.Bytes.{Bytes}
-use Rattle.outside.specs.Shelf.{file_bound}
-use Rattle.durations.specs.Table.{durations_of}
-use Rattle.flat_graph.specs.Graph.{Graph}
+use Rattle.self_timed.specs.Table.{durations_of}
+use Rattle.self_timed.specs.Graph.{Graph}
+use Rattle.self_timed.specs.Text.{described_by}
 use Rattle.load_texts.specs.Algorithm.{algorithm_text}
 use Rattle.load_texts.specs.Architecture.{architecture_text}
 use Rattle.load_texts.specs.Table.{table_text}
-use Rattle.command_plan.proofs.Makes.{memory}
+use Rattle.top_plans.specs.Shelf.{file_bound}
+use Rattle.top_plans.proofs.Makes.{memory}
 use Rattle.top_plans.specs.Loads.{load_algorithm, load_architecture, load_table}
 use Rattle.syndex_program.specs.Executes.{made_of, texts_plan}
-use Rattle.compiler.specs.Compiles.{MakesAlgorithm, MakesCompilation, described}
+use Rattle.compiler.specs.Compiles.{MakesAlgorithm, MakesCompilation}
 use Rattle.compiler.specs.Reads.{MakesTable}
 use Rattle.syndex_program.proofs.Loading as loading
 use Rattle.syndex_program.proofs.Loads.{short_algorithm, short_architecture}
@@ -45,7 +46,7 @@ pub compile_execution-requires-clause-lasts : goal.compile_execution-requires-cl
 compile_execution-requires-clause-lasts c =
     let given = c.in_ok-compilation.compilation in
     let is = c.in_ok-compilation.ensures in
-    subst (λ (f : Graph). durations_of f (described given.text) ≡ Ok given.durations) (sym is.flattens) is.lasts
+    subst (λ (f : Graph). durations_of f (described_by given.text) ≡ Ok given.durations) (sym is.flattens) is.lasts
 
 pub compile_execution-requires-clause-has : goal.compile_execution-requires-clause-has
 compile_execution-requires-clause-has c =

@@ -3,14 +3,13 @@ use Rattle.std.specs.Prelude.{Ok}
 use Rattle.std.proofs.lemmas.Result.{err_from_is_err_and}
 use Rattle.algo_text.specs.declared.definition.Defs.{Defs}
 use Rattle.algo_tree.specs.Tree.{Vertex}
-use Rattle.archi_defs.specs.Text.{Described}
 use Rattle.csv.specs.Reading.{default_config, records, strip_bom}
-use Rattle.durations.specs.Table.{Table, durations_of}
-use Rattle.flat_graph.specs.Graph.{Graph}
 use Rattle.syn_base.specs.Rows.{Reactions}
+use Rattle.self_timed.specs.Text.{Described, described_by}
+use Rattle.self_timed.specs.Table.{Table, durations_of}
+use Rattle.self_timed.specs.Graph.{Graph}
 use Rattle.top_plans.specs.Plans.{architecture_plan, table_plan}
 use Rattle.syndex_program.specs.Executes.{made_of, rest_plan}
-use Rattle.compiler.specs.Compiles.{described}
 use Rattle.compiler.proofs.Architectures as architecture
 use Rattle.compiler.proofs.Steps.{went_on, rows_went_on}
 use Rattle.compiler.proofs.Tables.{few_rows}
@@ -23,7 +22,7 @@ pub compile_execution-requires-clause-lasts : goal.compile_execution-requires-cl
 compile_execution-requires-clause-lasts g c =
     let given = c.in_ok-compilation.compilation in
     let is = c.in_ok-compilation.ensures.reads.2 in
-    subst (λ (f : Graph). durations_of f (described given.text) ≡ Ok given.durations) (sym is.flattens) is.lasts
+    subst (λ (f : Graph). durations_of f (described_by given.text) ≡ Ok given.durations) (sym is.flattens) is.lasts
 
 pub compile_execution-requires-clause-has : goal.compile_execution-requires-clause-has
 compile_execution-requires-clause-has g c =

@@ -1,13 +1,13 @@
 use Rattle.std.proofs.Common.{◌≡◌, ◌∙◌, ap, subst, sym}
 use Rattle.algo_tree.specs.Ends.{actuator_lengths}
-use Rattle.phase_laws.specs.Ended.{all_acts}
-use Rattle.operation_desks.specs.RowLens.{actuator_lens}
+use Rattle.word_rule.specs.Ended.{all_acts}
 use Rattle.job_windows.specs.Windowed.{WindowsData}
 use Rattle.top_plans.specs.Given.{acts_of}
 use Rattle.syndex_program.specs.Executes.{executed}
 use Rattle.syndex_program.specs.Left.{stages_left}
 use Rattle.syndex_program.proofs.Leaving.{all_stages, same_acts}
 use Rattle.syndex_program.proofs.lines.lines_of.Goals as goal
+use Rattle.self_timed.specs.FlatLaws.{actuator_lens}
 
 pub invariant_of-result-clause-lens : goal.invariant_of-result-clause-lens
 invariant_of-result-clause-lens c =

@@ -1,9 +1,9 @@
 use Rattle.std.proofs.Common.{length}
-use Rattle.outside.specs.Sink.{Sunk}
-use Rattle.command_plan.specs.Ending.{Ending}
-use Rattle.command_plan.specs.Run.{Performs}
-use Rattle.command_status.specs.Status.{Refusal}
 use Rattle.word_rule.specs.Driven.{Driven, driven_by}
+use Rattle.top_plans.specs.Sink.{Sunk}
+use Rattle.top_plans.specs.Ending.{Ending}
+use Rattle.top_plans.specs.Run.{Performs}
+use Rattle.top_plans.specs.Status.{Refusal}
 use Rattle.syndex_program.specs.Left.{stages_left}
 use Rattle.syndex_program.proofs.lines.write_lines.Given as goal
 

@@ -1,5 +1,5 @@
 use Rattle.std.proofs.Common.{List, ◌++◌, ap, ◌∙◌}
-use Rattle.algo_text.specs.declared.definition.Def.{Def}
+use Rattle.algo_rules.specs.declared.Def.{Def}
 use Rattle.text_lint.specs.Algorithm.{findings_at}
 use Rattle.text_lint.specs.declared.finding.Finding.{Finding}
 use Rattle.text_lint.proofs.findings.algorithm_findings.Goals as goal

@@ -1,7 +1,7 @@
 use Rattle.std.proofs.Common.{◌≡◌, ℕ, List, ◌++◌, map, Bor, subst, ap, ◌∙◌}
 use Rattle.std.specs.Prelude.{IfOk}
 use Rattle.syn_base.specs.Bytes.{Bytes}
-use Rattle.algo_text.specs.Among.{is_among}
+use Rattle.algo_rules.specs.Among.{is_among}
 use Rattle.text_lint.specs.Named.{named_in}
 use Rattle.text_lint.proofs.known.used_in.Goals as goal
 

@@ -1,7 +1,7 @@
 use Rattle.std.proofs.Common.{ℕ, List, ◌||◌, map, Bor, sym, ap, ◌∙◌}
 use Rattle.std.proofs.lemmas.List.{drop_all}
 use Rattle.syn_base.specs.Bytes.{Bytes}
-use Rattle.algo_text.specs.Among.{is_among}
+use Rattle.algo_rules.specs.Among.{is_among}
 use Rattle.text_lint.proofs.Among.{one_more, or_none}
 use Rattle.text_lint.proofs.named.table_of.Goals as goal
 

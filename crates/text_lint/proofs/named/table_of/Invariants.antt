@@ -1,6 +1,6 @@
 use Rattle.std.proofs.Common.{◌≡◌, ◌||◌, drop, map}
 use Rattle.syn_base.specs.Bytes.{Bytes}
-use Rattle.algo_text.specs.Among.{is_among}
+use Rattle.algo_rules.specs.Among.{is_among}
 use Rattle.text_lint.proofs.named.table_of.Given as goal
 
 -- a name is in the table, or among those that are left, exactly where it is among all

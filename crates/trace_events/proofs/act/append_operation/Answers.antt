@@ -1,8 +1,8 @@
 use Rattle.std.proofs.Common.{◌≡◌, ◌++◌, ap, sym, append_assoc, ◌∙◌}
 use Rattle.std.specs.Prelude.{slice_get}
 use Rattle.std.proofs.lemmas.Result.{on_ok_weaker}
-use Rattle.schedule.specs.Acts.{run, sources_of}
 use Rattle.syn_base.specs.Bytes.{Bytes}
+use Rattle.self_timed.specs.Acts.{run, sources_of}
 use Rattle.trace_events.specs.declared.event.Reader.{Reader}
 use Rattle.trace_events.specs.Events.{slice_text}
 use Rattle.trace_events.specs.Printed.{arrived}

@@ -1,5 +1,5 @@
 use Rattle.std.proofs.Common.{◌≡◌, ◌++◌, drop}
-use Rattle.schedule.specs.Acts.{acts_of}
+use Rattle.self_timed.specs.Acts.{acts_of}
 use Rattle.trace_events.specs.Printed.{charted}
 use Rattle.trace_events.proofs.chart.append_decisions.Given as goal
 

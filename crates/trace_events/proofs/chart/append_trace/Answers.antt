@@ -1,7 +1,7 @@
 use Rattle.std.proofs.Common.{◌≡◌, ◌++◌, ap, sym, ◌∙◌}
 use Rattle.std.proofs.lemmas.Result.{on_ok_weaker}
-use Rattle.schedule.specs.Acts.{acts, acts_of}
 use Rattle.syn_base.specs.Bytes.{Bytes}
+use Rattle.self_timed.specs.Acts.{acts, acts_of}
 use Rattle.trace_events.specs.Events.{opening, closing, text_of}
 use Rattle.trace_events.specs.Printed.{charted}
 use Rattle.trace_events.specs.Trace.{lanes}

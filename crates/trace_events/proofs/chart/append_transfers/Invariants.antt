@@ -1,5 +1,5 @@
 use Rattle.std.proofs.Common.{◌≡◌, ◌++◌, drop, map}
-use Rattle.schedule.specs.Acts.{carry}
+use Rattle.self_timed.specs.Acts.{carry}
 use Rattle.trace_events.specs.Printed.{charted}
 use Rattle.trace_events.proofs.chart.append_transfers.Given as goal
 

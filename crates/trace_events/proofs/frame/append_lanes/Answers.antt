@@ -1,6 +1,6 @@
 use Rattle.std.proofs.Common.{◌≤◌, List, length, sym, subst}
-use Rattle.archi_graph.specs.declared.medium.Medium.{Medium}
 use Rattle.syn_base.specs.Bytes.{Bytes}
+use Rattle.self_timed.specs.declared.Medium.{Medium}
 use Rattle.trace_events.proofs.Lanes.{few_operators, few_media}
 use Rattle.trace_events.proofs.frame.append_lanes.Goals as goal
 

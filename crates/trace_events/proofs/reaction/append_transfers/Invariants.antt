@@ -1,5 +1,5 @@
 use Rattle.std.proofs.Common.{◌≡◌, ◌+◌, ◌++◌, drop, map}
-use Rattle.schedule.specs.Acts.{carry}
+use Rattle.self_timed.specs.Acts.{carry}
 use Rattle.self_timed.specs.Told.{reaction_at}
 use Rattle.dates_text.specs.Printed.{dated_by}
 use Rattle.trace_events.specs.DatesTrace.{told}

@@ -1,6 +1,6 @@
 use Rattle.std.proofs.Common.{◌≡◌, ℕ, List, length, refl, sym, subst, ap, ◌∙◌, arith}
 use Rattle.std.specs.Prelude.{IfOk}
-use Rattle.schedule.specs.Acts.{Act, acts}
+use Rattle.self_timed.specs.Acts.{Act, acts}
 use Rattle.self_timed.specs.Running.{span}
 use Rattle.self_timed.specs.Told.{end_at, start_at}
 use Rattle.dates_text.specs.Listing.{Dated, dated_in}

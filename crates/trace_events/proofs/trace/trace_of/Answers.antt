@@ -1,8 +1,8 @@
 use Rattle.std.proofs.Common.{◌≡◌, ◌++◌, List, [], length, refl, sym, ap, subst, ◌∙◌}
 use Rattle.syn_base.specs.Bytes.{Bytes}
-use Rattle.flat_graph.specs.declared.vertex.Vertex.{Vertex}
-use Rattle.schedule.specs.declared.decision.Decision.{Decision}
-use Rattle.schedule.specs.Acts.{acts, acts_of}
+use Rattle.self_timed.specs.declared.Vertex.{Vertex}
+use Rattle.self_timed.specs.declared.Decision.{Decision}
+use Rattle.self_timed.specs.Acts.{acts, acts_of}
 use Rattle.dates_text.specs.Listing.{Dated, dated_in}
 use Rattle.dates_text.specs.Printed.{EachFits, dates_up_to, entry_span}
 use Rattle.dates_text.proofs.Entered.{told_is}

@@ -1,10 +1,10 @@
 use Rattle.std.proofs.Common.{◌%◌, ◌∙◌, ℕ, List, get_or, refl, sym, ap, subst}
-use Rattle.level_meaning.specs.Level.{Values}
 use Rattle.syn_base.specs.Rows.{Reactions}
-use Rattle.semaphore_core.specs.Held.{HasRow}
+use Rattle.word_rule.specs.Held.{HasRow}
 use Rattle.word_table.specs.Ends.{TakesCounts, TakesCells, TakesRows}
 use Rattle.word_table.proofs.Closings.{own_laid}
 use Rattle.word_table.proofs.closing.gather.Goals as goal
+use Rattle.syn_base.specs.Vectors.{Values}
 
 pub take_rows-requires-clause-others_laid : goal.take_rows-requires-clause-others_laid
 take_rows-requires-clause-others_laid c v q = let s = c.args.driver in let r = c.args.remains.now in

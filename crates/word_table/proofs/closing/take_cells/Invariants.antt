@@ -1,6 +1,6 @@
 use Rattle.std.specs.Prelude.{◌≡◌, ◌<◌, ◌≤◌, ◌%◌, ℕ, Some, length, map, take, slice_get}
-use Rattle.level_meaning.specs.Level.{vector_at}
 use Rattle.word_table.proofs.closing.take_cells.Given as goal
+use Rattle.syn_base.specs.Vectors.{vector_at}
 
 abbrev pub invariant-loop-cell : goal.invariant-loop-cell
 invariant-loop-cell l = (length l.cells.items ≡ length l.initial.cells.items)

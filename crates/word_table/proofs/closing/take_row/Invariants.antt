@@ -1,5 +1,5 @@
 use Rattle.std.specs.Prelude.{◌≡◌, ◌<◌, ℕ, length}
-use Rattle.phase_laws.specs.Agrees.{row_at}
+use Rattle.word_rule.specs.Agrees.{row_at}
 use Rattle.word_table.specs.Ends.{AreWide}
 use Rattle.word_table.proofs.closing.take_row.Given as goal
 

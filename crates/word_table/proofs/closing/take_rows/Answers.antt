@@ -2,10 +2,10 @@ use Rattle.std.proofs.Common.{◌≡◌, ◌<◌, ◌+◌, ◌∙◌, ℕ, List,
 use Rattle.std.specs.Prelude.{slice_get}
 use Rattle.std.proofs.lemmas.Option.{slice_get_read, get_or_from_slice_get}
 use Rattle.syn_base.specs.Rows.{Reactions}
-use Rattle.flat_graph.specs.Graph.{Graph}
-use Rattle.flat_graph.specs.Valid.{is_flat}
-use Rattle.flat_graph.specs.declared.vertex.Kind.TheVariants.{Actuator}
-use Rattle.flat_graph.specs.declared.vertex.Vertex.{Vertex}
+use Rattle.executive_program.specs.Graph.{Graph}
+use Rattle.executive_program.specs.FlatValid.{is_flat}
+use Rattle.executive_program.specs.declared.Kind.TheVariants.{Actuator}
+use Rattle.executive_program.specs.declared.Vertex.{Vertex}
 use Rattle.word_table.specs.Ends.{TakesRow}
 use Rattle.word_table.proofs.TakingRows.{AreTaken, one_taken, none_taken, all_taken}
 use Rattle.word_table.proofs.closing.take_rows.Goals.{then-callers-v+in-Actuator, then-callers-v+in_default, else-callers-v}

@@ -1,7 +1,7 @@
 use Rattle.std.specs.Prelude.{◌≡◌, ◌<◌, ◌%◌, ℕ, Some, length, slice_get, slice_index_or}
-use Rattle.flat_graph.specs.declared.vertex.Vertex.{Vertex}
-use Rattle.flat_graph.specs.declared.vertex.Kind.TheVariants.{Actuator}
-use Rattle.phase_laws.specs.Agrees.{row_at}
+use Rattle.executive_program.specs.declared.Vertex.{Vertex}
+use Rattle.executive_program.specs.declared.Kind.TheVariants.{Actuator}
+use Rattle.word_rule.specs.Agrees.{row_at}
 use Rattle.word_table.specs.Ends.{AreWide}
 use Rattle.word_table.proofs.closing.take_rows.Given as goal
 

@@ -3,7 +3,7 @@ use Rattle.std.specs.Prelude.{replicate, nat_eq, ◌%◌}
 use Rattle.executive_program.specs.declared.program.SeqCode.{SeqCode}
 use Rattle.executive_program.specs.declared.program.Program.{Program}
 use Rattle.executive_program.specs.declared.expand.SeqSteps.{SeqSteps}
-use Rattle.semaphore_core.specs.AtOpening.{AreAtOpening}
+use Rattle.word_rule.specs.AtOpening.{AreAtOpening}
 use Rattle.word_table.proofs.Beginning.{begins_by}
 use Rattle.word_table.proofs.weaving.driver_of.Goals as goal
 

@@ -1,6 +1,6 @@
 use Rattle.std.proofs.Common.{rules, ◌≡◌, ℕ, suc, ◌<◌, ◌+◌, ◌*◌, ◌++◌, ◌∙◌, List, length, get_or, ap, arith}
 use Rattle.executive_program.specs.declared.program.Program.{Program}
-use Rattle.semaphore_core.specs.Core.{opening, buffer_zeros, wire_zeros}
+use Rattle.word_rule.specs.Core.{opening, buffer_zeros, wire_zeros}
 use Rattle.word_rule.specs.Words.{element_lens, elements_start}
 use Rattle.word_table.specs.Weaving.{starts_from, end_from}
 use Rattle.word_table.proofs.Starts.{starts_are, words_are}

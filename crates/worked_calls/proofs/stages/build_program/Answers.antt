@@ -1,12 +1,12 @@
 use Rattle.std.proofs.Common.{◌≡◌, Result, Ok, Err}
 use Rattle.std.specs.Prelude.{IfOk}
-use Rattle.archi_graph.specs.Archi.{Architecture}
-use Rattle.durations.specs.Table.{entry_in}
-use Rattle.executive_program.specs.declared.program.Program.{Program}
-use Rattle.flat_graph.specs.Graph.{Graph}
-use Rattle.schedule.specs.declared.decision.Schedule.{Schedule}
 use Rattle.sequence_build.specs.Answers.{IsProgram}
 use Rattle.sequence_build.specs.declared.error.BuildError.{BuildError}
+use Rattle.sequence_build_laws.specs.Archi.{Architecture}
+use Rattle.sequence_build_laws.specs.Table.{entry_in}
+use Rattle.sequence_build_laws.specs.declared.Program.{Program}
+use Rattle.sequence_build_laws.specs.Graph.{Graph}
+use Rattle.sequence_build_laws.specs.declared.Schedule.{Schedule}
 use Rattle.sequence_build_laws.specs.Built.{program_of}
 use Rattle.worked_calls.proofs.stages.build_program.Goals as goal
 

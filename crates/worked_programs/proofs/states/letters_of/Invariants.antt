@@ -1,4 +1,4 @@
-use Rattle.semaphore_core.specs.Held.{IsOpened}
+use Rattle.phase_laws.specs.Held.{IsOpened}
 use Rattle.worked_programs.proofs.states.letters_of.Given as goal
 
 abbrev pub invariant-loop-digit : goal.invariant-loop-digit

@@ -1,12 +1,13 @@
 use Rattle.std.proofs.Common.{◌≡◌, true, List, length, Ok, arith, ap, sym, ◌∙◌}
 use Rattle.std.proofs.lemmas.Result.{err_from_is_err_and}
-use Rattle.body_lang.specs.declared.expression.Port.{Port}
+use Rattle.algo_text.specs.declared.Port.{Port}
 use Rattle.algo_text.specs.declared.part.Part.TheVariants.{Outputs}
 use Rattle.algo_text.specs.Parts.{admits}
 use Rattle.algo_reader.specs.Views.{function_view}
 use Rattle.algo_reader.proofs.PortLines.{fails, goes, taken_stops, result_follows, result_taken, result_free, formula_same, formula_fails}
 use Rattle.std.specs.Prelude.{map}
-use Rattle.algo_text.specs.Blocks.{and_then, with_result}
+use Rattle.algo_text.specs.Blocks.{with_result}
+use Rattle.text_lines.specs.Refusals.{and_then}
 use Rattle.algo_text.specs.declared.definition.Output.{Output}
 use Rattle.algo_reader.proofs.function.FunctionBlock.result_words.Goals as goal
 

@@ -1,6 +1,6 @@
 use Rattle.std.proofs.Common.{◌≡◌, true, List, length, Ok, arith, ap, sym, ◌∙◌}
 use Rattle.std.proofs.lemmas.Result.{err_from_is_err_and}
-use Rattle.body_lang.specs.declared.expression.Port.{Port}
+use Rattle.algo_text.specs.declared.Port.{Port}
 use Rattle.algo_text.specs.declared.part.Part.TheVariants.{Outputs}
 use Rattle.algo_text.specs.Parts.{admits}
 use Rattle.algo_reader.specs.Views.{graph_view}

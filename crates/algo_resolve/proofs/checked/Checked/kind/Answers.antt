@@ -1,22 +1,22 @@
 use Rattle.std.proofs.Common.{◌≡◌, ℕ, List, map, None, Result, Ok, Err, ap, sym, ◌∙◌}
 use Rattle.std.specs.Prelude.{IfOk}
 use Rattle.syn_base.specs.declared.memory.OutOfMemory.{OutOfMemory}
-use Rattle.algo_tree.specs.declared.vertex.Kind.{Kind}
-use Rattle.algo_tree.specs.View.{kind_view}
 use Rattle.std.specs.List.{flat_map}
 use Rattle.body_lang.specs.declared.expression.Port.{Port}
-use Rattle.level_meaning.specs.declared.source.Source.{Source}
-use Rattle.algo_tree.specs.Tree as tree
-use Rattle.algo_text.specs.declared.definition.Def.{Def}
-use Rattle.algo_text.specs.declared.definition.Body.{Body}
-use Rattle.algo_text.specs.declared.definition.Body.TheVariants.{Graph, Repeat}
-use Rattle.algo_text.specs.declared.definition.Reference.{Reference}
-use Rattle.algo_text.specs.declared.definition.Edge.{Edge}
-use Rattle.algo_text.specs.declared.definition.FrontierLine.{FrontierLine}
 use Rattle.syn_base.specs.Bytes.{Bytes}
-use Rattle.algo_rules.specs.Ports.{ports_of}
-use Rattle.algo_rules.specs.Resolved.{Making, feed_of, give_by, kind_by, sources_to}
-use Rattle.algo_rules.specs.declared.ports.Ports.{Ports}
+use Rattle.algo_laws.specs.declared.Kind.{Kind}
+use Rattle.algo_laws.specs.View.{kind_view}
+use Rattle.algo_laws.specs.declared.Source.{Source}
+use Rattle.algo_laws.specs.Tree as tree
+use Rattle.algo_laws.specs.declared.Def.{Def}
+use Rattle.algo_laws.specs.declared.Body.{Body}
+use Rattle.algo_laws.specs.declared.Body.TheVariants.{Graph, Repeat}
+use Rattle.algo_laws.specs.declared.Reference.{Reference}
+use Rattle.algo_laws.specs.declared.Edge.{Edge}
+use Rattle.algo_laws.specs.declared.FrontierLine.{FrontierLine}
+use Rattle.algo_laws.specs.Ports.{ports_of}
+use Rattle.algo_laws.specs.Resolved.{Making, feed_of, give_by, kind_by, sources_to}
+use Rattle.algo_laws.specs.declared.Ports.{Ports}
 use Rattle.algo_resolve.proofs.checked.Checked.kind.Goals as goal
 
 module _ (ds : List Def) (make : Making) (own : Ports) (body : Body) where

@@ -1,6 +1,6 @@
 use Rattle.std.proofs.Common.{ap, ◌∙◌}
-use Rattle.algo_rules.specs.Graphs.{place}
 use Rattle.body_check.proofs.Named.{named_below, named_at, named_past}
+use Rattle.algo_laws.specs.Graphs.{place}
 use Rattle.algo_resolve.proofs.sources.Graph.named.Goals as goal
 
 pub bounds-self-self : goal.bounds-self-self

@@ -1,6 +1,6 @@
 use Rattle.std.proofs.Common.{List, map, ap, ◌∙◌}
-use Rattle.algo_text.specs.declared.definition.Edge.{Edge}
-use Rattle.algo_rules.specs.Resolved.{sources_to}
+use Rattle.algo_laws.specs.declared.Edge.{Edge}
+use Rattle.algo_laws.specs.Resolved.{sources_to}
 use Rattle.algo_resolve.specs.Parts.{of}
 use Rattle.algo_resolve.specs.Wiring.{source_among}
 use Rattle.algo_resolve.proofs.Edges.{sources_by_owner}

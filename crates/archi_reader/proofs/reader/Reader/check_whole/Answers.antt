@@ -2,13 +2,15 @@ use Rattle.std.proofs.Common.{◌≡◌, ℕ, ◌<◌, ◌==◌, Bool, not, fals
 use Rattle.std.specs.Prelude.{slice_index_or}
 use Rattle.std.specs.List.{range_with_len}
 use Rattle.std.proofs.lemmas.Bool.{eqb-false}
-use Rattle.archi_graph.specs.declared.medium.Medium.{Medium}
-use Rattle.archi_graph.specs.Archi.{reached_within}
+use Rattle.archi_defs.specs.declared.Medium.{Medium}
+use Rattle.archi_defs.specs.Archi.{reached_within}
 use Rattle.archi_defs.specs.declared.fault.ArchiCause.TheVariants.{BadMedium, Disconnected}
 use Rattle.syn_base.specs.Bytes.{Bytes}
-use Rattle.archi_defs.specs.Text.{apart, has_stands, no_medium, refused}
+use Rattle.archi_defs.specs.Text.{apart, has_stands, no_medium}
+use Rattle.text_lines.specs.Refusals.{refused}
 use Rattle.archi_reader.specs.Views.{reading}
-use Rattle.archi_reader.proofs.Endings.{whole_wrong, whole_apart, whole_fine, valid, stopped, read_at}
+use Rattle.archi_reader.proofs.Endings.{whole_wrong, whole_apart, whole_fine, valid, read_at}
+use Rattle.text_lines.proofs.Refusals.{stopped}
 use Rattle.archi_reader.proofs.reader.Reader.check_whole.Goals as goal
 
 abbrev is_wrong : Medium → Bool

@@ -1,6 +1,6 @@
 use Rattle.std.proofs.Common.{◌≡◌, ap, sym, ◌∙◌}
 use Rattle.std.proofs.lemmas.Result.{err_from_is_err_and}
-use Rattle.algo_text.specs.declared.definition.Reference.{Reference}
+use Rattle.algo_rules.specs.declared.Reference.{Reference}
 use Rattle.algo_rules.specs.declared.ports.Ports.{Ports}
 use Rattle.body_check.specs.Parts.{of}
 use Rattle.body_check.proofs.LeftOpen.{are_there, open_passes, open_stops}

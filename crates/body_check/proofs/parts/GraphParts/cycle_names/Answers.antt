@@ -4,8 +4,8 @@ use Rattle.std.specs.List.{range_with_len}
 use Rattle.std.proofs.lemmas.List.{length-map}
 use Rattle.std.proofs.lemmas.List.FromFn.{length-map-range_with_len}
 use Rattle.syn_base.specs.Bytes.{Bytes}
+use Rattle.algo_rules.specs.ReferenceLinks.{Links, reaches_itself}
 use Rattle.algo_rules.specs.Graphs.{dependences, sources}
-use Rattle.reference_graph.specs.Links.{Links, reaches_itself}
 use Rattle.body_check.specs.Cycles.{flagged}
 use Rattle.body_check.proofs.Depends.{names_are}
 use Rattle.body_check.proofs.parts.GraphParts.cycle_names.Goals as goal

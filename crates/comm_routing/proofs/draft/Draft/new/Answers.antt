@@ -1,6 +1,6 @@
 use Rattle.std.proofs.Common.{◌∙◌, ◌≤◌, List, ap, length, map, subst, sym}
 use Rattle.std.specs.Prelude.{All}
-use Rattle.flat_graph.specs.declared.vertex.Source.{Source}
+use Rattle.schedule.specs.declared.Source.{Source}
 use Rattle.comm_routing.specs.Draft.{drafted}
 use Rattle.comm_routing.specs.Start.{reads_of}
 use Rattle.comm_routing.proofs.Sites.{all_there, site_of}

@@ -1,6 +1,6 @@
 use Rattle.std.proofs.Common.{◌≡◌, ◌<◌, ◌∙◌, subst, sym}
-use Rattle.semaphore_core.specs.Job.{reactions}
-use Rattle.phase_laws.specs.Ended.{last_cells}
+use Rattle.word_rule.specs.Job.{reactions}
+use Rattle.word_rule.specs.Ended.{last_cells}
 use Rattle.job_windows.specs.Windowed.{WindowsData, first_of, next_job}
 use Rattle.job_windows.proofs.Opened.{passes}
 use Rattle.job_windows.proofs.windows.JobWindows.go_on.Goals as goal

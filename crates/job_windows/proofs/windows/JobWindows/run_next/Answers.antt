@@ -1,9 +1,9 @@
 use Rattle.std.proofs.Common.{◌≡◌, ◌<◌, ◌∙◌, Ok, ap, subst, sym, arith, length}
 use Rattle.std.specs.Prelude.{Some}
-use Rattle.semaphore_core.specs.Job.{JobData}
-use Rattle.semaphore_core.specs.IsJob.{FitTogether, job_of}
 use Rattle.run_laws.specs.Windows.{reactions_from}
-use Rattle.phase_laws.specs.Windows.{window}
+use Rattle.word_rule.specs.Job.{JobData}
+use Rattle.word_rule.specs.IsJob.{FitTogether, job_of}
+use Rattle.word_rule.specs.Windows.{window}
 use Rattle.word_rule.specs.Driven.{driven_by}
 use Rattle.word_table.specs.Closed.{IsAtEnd}
 use Rattle.job_windows.specs.Windowed.{RunsNext, WindowsData, first_of}

@@ -1,12 +1,12 @@
 use Rattle.std.proofs.Common.{◌∙◌, ℕ, List, Result, Global, ap, inl, refl, replicate, subst, sym}
 use Rattle.std.specs.Prelude.{Vec}
 use Rattle.std.proofs.lemmas.Result.{err_from_is_err_and}
-use Rattle.schedule.specs.Acts.{acts}
+use Rattle.self_timed.specs.Acts.{acts}
 use Rattle.self_timed.specs.Told.{HaveEntries, entries_of}
 use Rattle.self_timed.specs.Entries.{AreWithin}
-use Rattle.actual_defs.specs.declared.fault.ActualError.{ActualError}
-use Rattle.actual_durations.specs.Actual.{actual_of}
-use Rattle.actual_durations.specs.Answers as answers
+use Rattle.top_plans.specs.declared.ActualError.{ActualError}
+use Rattle.top_plans.specs.Actual.{actual_of}
+use Rattle.top_plans.specs.ActualAnswers as answers
 use Rattle.compiler.proofs.Sizes.{few_lines}
 use Rattle.lab_words.specs.Command.{for_length}
 use Rattle.lab_words.specs.View.{form_view}

@@ -2,16 +2,16 @@ use Rattle.std.proofs.Common.{◌≡◌, subst, sym}
 use Rattle.std.specs.Prelude.{Ok}
 use Rattle.std.proofs.lemmas.Result.{err_from_is_err_and}
 use Rattle.syn_base.specs.Bytes.{Bytes}
-use Rattle.outside.specs.declared.file.File.TheVariants.{Durations}
-use Rattle.algo_text.specs.declared.definition.Defs.{Defs}
-use Rattle.algo_tree.specs.Tree.{Vertex}
-use Rattle.durations.specs.Table.{durations_of}
-use Rattle.flat_graph.specs.Graph.{Graph}
-use Rattle.command_plan.specs.Plan.{give}
-use Rattle.command_plan.specs.Run.{not_read}
-use Rattle.command_status.specs.Status.{ending_of}
+use Rattle.algo_laws.specs.declared.Defs.{Defs}
+use Rattle.algo_laws.specs.Tree.{Vertex}
+use Rattle.self_timed.specs.Table.{durations_of}
+use Rattle.self_timed.specs.Graph.{Graph}
+use Rattle.self_timed.specs.Text.{described_by}
+use Rattle.top_plans.specs.declared.File.TheVariants.{Durations}
+use Rattle.top_plans.specs.Plan.{give}
+use Rattle.top_plans.specs.Run.{not_read}
+use Rattle.top_plans.specs.Status.{ending_of}
 use Rattle.top_plans.specs.Plans.{architecture_plan}
-use Rattle.compiler.specs.Compiles.{described}
 use Rattle.lab_words.specs.View.{effort_view, form_view}
 use Rattle.lab_plans.specs.Asked.{of_dates}
 use Rattle.lab_program.specs.Found.{problem_of}
@@ -24,7 +24,7 @@ pub dates_of_found-requires-clause-durations : goal.dates_of_found-requires-clau
 dates_of_found-requires-clause-durations g c =
     let given = c.in_ok-compilation.compilation in
     let is = c.in_ok-compilation.ensures.reads.2 in
-    subst (λ (f : Graph). durations_of f (described given.text) ≡ Ok given.durations) (sym is.flattens) is.lasts
+    subst (λ (f : Graph). durations_of f (described_by given.text) ≡ Ok given.durations) (sym is.flattens) is.lasts
 
 pub returns-in_err-algorithm-clause-carries : goal.returns-in_err-algorithm-clause-carries
 returns-in_err-algorithm-clause-carries g c =

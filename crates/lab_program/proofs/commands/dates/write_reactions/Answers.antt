@@ -1,5 +1,5 @@
 use Rattle.std.proofs.Common.{ℕ, List, subst, sym}
-use Rattle.schedule.specs.Acts.{acts}
+use Rattle.self_timed.specs.Acts.{acts}
 use Rattle.self_timed.specs.Told.{HaveEntries, entries_of}
 use Rattle.self_timed.specs.Entries.{AreWithin}
 use Rattle.lab_program.proofs.commands.dates.write_reactions.Goals as goal

@@ -1,12 +1,12 @@
 use Rattle.std.proofs.Common.{refl}
 use Rattle.std.specs.Prelude.{Ok}
 use Rattle.std.proofs.lemmas.Result.{err_from_is_err_and}
-use Rattle.algo_text.specs.declared.definition.Defs.{Defs}
-use Rattle.algo_tree.specs.Tree.{Vertex}
+use Rattle.algo_laws.specs.declared.Defs.{Defs}
+use Rattle.algo_laws.specs.Tree.{Vertex}
 use Rattle.definition_drawing.specs.Drawing.{drawing}
-use Rattle.command_plan.specs.Plan.{give}
-use Rattle.command_plan.proofs.Makes.{gave}
-use Rattle.command_status.specs.Status.{ending_of}
+use Rattle.top_plans.specs.Plan.{give}
+use Rattle.top_plans.proofs.Makes.{gave}
+use Rattle.top_plans.specs.Status.{ending_of}
 use Rattle.lab_plans.specs.Asked.{of_text}
 use Rattle.lab_plans.specs.Plans.{graph_plan}
 use Rattle.lab_program.proofs.Carried.{no_schedule, stopped, wanted, went_on}

@@ -1,7 +1,7 @@
 use Rattle.std.proofs.Common.{refl}
 use Rattle.std.specs.Prelude.{Ok}
 use Rattle.std.proofs.lemmas.Result.{err_from_is_err_and}
-use Rattle.command_plan.proofs.Makes.{gave}
+use Rattle.top_plans.proofs.Makes.{gave}
 use Rattle.lab_words.specs.Help.{help_text}
 use Rattle.lab_plans.specs.Asked.{of_text}
 use Rattle.lab_program.proofs.Carried.{no_schedule, wanted}

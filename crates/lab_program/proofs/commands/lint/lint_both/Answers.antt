@@ -2,15 +2,15 @@ use Rattle.std.proofs.Common.{◌∙◌, ap, refl, subst}
 use Rattle.std.specs.Prelude.{Err, Ok}
 use Rattle.std.proofs.lemmas.Result.{err_from_is_err_and}
 use Rattle.syn_base.specs.Bytes.{Bytes}
-use Rattle.outside.specs.declared.file.File.TheVariants.{Architecture}
-use Rattle.archi_defs.specs.Text.{Described}
-use Rattle.durations.specs.Table.{Table}
-use Rattle.command_plan.specs.Plan.{give}
-use Rattle.command_plan.specs.Run.{not_read}
-use Rattle.command_plan.proofs.Makes.{gave}
-use Rattle.command_status.specs.Status.{ending_of, status_of_architecture}
+use Rattle.self_timed.specs.Text.{Described, described_by}
+use Rattle.self_timed.specs.Table.{Table}
+use Rattle.top_plans.specs.declared.File.TheVariants.{Architecture}
+use Rattle.top_plans.specs.Plan.{give}
+use Rattle.top_plans.specs.Run.{not_read}
+use Rattle.top_plans.proofs.Makes.{gave}
+use Rattle.top_plans.specs.Status.{ending_of, status_of_architecture}
 use Rattle.top_plans.specs.Plans.{architecture_in}
-use Rattle.compiler.specs.Compiles.{IsCompilation, MakesCompilation, described}
+use Rattle.compiler.specs.Compiles.{IsCompilation, MakesCompilation}
 use Rattle.compiler.proofs.Architectures.{refused_so}
 use Rattle.lab_plans.specs.Asked.{of_text}
 use Rattle.lab_plans.specs.Plans.{Asks, lint_of_both}
@@ -59,8 +59,8 @@ returns-clause-carries g c =
     let text = c.in_ok-text.text.items in
     let given = c.in_ok-compilation.compilation in
     let is = subst (λ (t : Bytes). IsCompilation main t given) c.deref.ensures.value c.in_ok-compilation.ensures in
-    let same = c.in_ok-print_both.ensures ∙ ap (λ (t : Bytes). lint_of_both defs t (described given.text)) c.deref-2.ensures.value in
+    let same = c.in_ok-print_both.ensures ∙ ap (λ (t : Bytes). lint_of_both defs t (described_by given.text)) c.deref-2.ensures.value in
     read_on Architecture c.args.name.now (H c.args.shelf.now) held text
     (λ (text : Bytes). architecture_in text main (λ (d : Described) (t : Table). give (of_text (lint_of_both defs text d)))) _ c.in_ok-text.ensures.read
     (compiled_in main text held given (λ (d : Described) (t : Table). give (of_text (lint_of_both defs text d))) _ is
-    (Ok (of_text (lint_of_both defs text (described given.text))), gave held _ _ refl, (no_schedule, tt, same)))
+    (Ok (of_text (lint_of_both defs text (described_by given.text))), gave held _ _ refl, (no_schedule, tt, same)))

@@ -1,6 +1,6 @@
 use Rattle.std.proofs.lemmas.Result.{err_from_is_err_and}
-use Rattle.command_status.specs.Status.{ending_of}
 use Rattle.std.specs.Prelude.{option_map}
+use Rattle.top_plans.specs.Status.{ending_of}
 use Rattle.lab_plans.specs.Plans.{lint_behind}
 use Rattle.lab_program.proofs.Carried.{stopped, went_on}
 use Rattle.lab_program.proofs.Stops.{algorithm_stops}

@@ -2,15 +2,15 @@ use Rattle.std.proofs.Common.{◌≡◌, ◌∙◌, ◌*◌, ℕ, length, sum, s
 use Rattle.std.specs.Prelude.{Ok, Some, None, Option}
 use Rattle.std.proofs.lemmas.Result.{err_from_is_err_and}
 use Rattle.syn_base.specs.declared.limits.LimitFault.{LimitFault}
-use Rattle.algo_tree.specs.Ends.{actuator_lengths}
-use Rattle.act_text.specs.Names.{actuator_names}
+use Rattle.algo_laws.specs.Ends.{actuator_lengths}
 use Rattle.sync_meaning.specs.Simulated.{simulated}
 use Rattle.svg_text.specs.Plot.{plot}
-use Rattle.command_plan.specs.Ending.{refused}
-use Rattle.command_plan.specs.Plan.{give}
-use Rattle.command_plan.specs.Run.{Makes, refuses}
-use Rattle.command_plan.proofs.Makes.{gave}
-use Rattle.command_status.specs.Status.{above}
+use Rattle.top_plans.specs.ActNames.{actuator_names}
+use Rattle.top_plans.specs.Ending.{refused}
+use Rattle.top_plans.specs.Plan.{give}
+use Rattle.top_plans.specs.Run.{Makes, refuses}
+use Rattle.top_plans.proofs.Makes.{gave}
+use Rattle.top_plans.specs.Status.{above}
 use Rattle.top_plans.specs.Plans.{excess, unless}
 use Rattle.lab_plans.specs.Asked.{of_text}
 use Rattle.lab_plans.specs.Plans.{plotted}

@@ -1,7 +1,7 @@
 use Rattle.std.proofs.lemmas.Result.{err_from_is_err_and}
-use Rattle.algo_text.specs.declared.definition.Defs.{Defs}
-use Rattle.algo_tree.specs.Tree.{Vertex}
-use Rattle.command_status.specs.Status.{ending_of}
+use Rattle.algo_laws.specs.declared.Defs.{Defs}
+use Rattle.algo_laws.specs.Tree.{Vertex}
+use Rattle.top_plans.specs.Status.{ending_of}
 use Rattle.top_plans.specs.Plans.{table_plan}
 use Rattle.lab_plans.specs.Plans.{plot_plan, plotted}
 use Rattle.lab_program.proofs.Carried.{rows_on, stopped, went_on}

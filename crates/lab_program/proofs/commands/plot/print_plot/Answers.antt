@@ -2,11 +2,11 @@ use Rattle.std.proofs.Common.{◌≡◌, ◌∙◌, ℕ, List, length, map, ap, 
 use Rattle.std.specs.Prelude.{IfOk}
 use Rattle.std.proofs.lemmas.List.{length-map}
 use Rattle.syn_base.specs.Rows.{Reactions}
-use Rattle.algo_tree.specs.Ends.{actuator_lengths}
-use Rattle.act_text.specs.Names.{actuator_names}
-use Rattle.act_text.proofs.EndCounts.{as_many}
+use Rattle.algo_laws.specs.Ends.{actuator_lengths}
 use Rattle.sync_meaning.specs.Simulated.{simulated}
 use Rattle.svg_text.specs.Plot.{plot}
+use Rattle.top_plans.specs.ActNames.{actuator_names}
+use Rattle.top_plans.proofs.EndCounts.{as_many}
 use Rattle.lab_program.proofs.commands.plot.print_plot.Goals as goal
 
 pub plot_rows-requires : goal.plot_rows-requires

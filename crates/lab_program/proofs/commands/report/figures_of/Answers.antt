@@ -1,8 +1,8 @@
-use Rattle.compiler.specs.Compiles.{described}
 use Rattle.lab_program.proofs.commands.report.figures_of.Goals as goal
+use Rattle.self_timed.specs.Text.{described_by}
 
 pub report_of-requires-clause-fits : goal.report_of-requires-clause-fits
-report_of-requires-clause-fits c = (c.durations_fit.ensures c.args.compilation.now.flat (described c.args.compilation.now.text) c.args.compilation.now.durations c.requires.durations).0
+report_of-requires-clause-fits c = (c.durations_fit.ensures c.args.compilation.now.flat (described_by c.args.compilation.now.text) c.args.compilation.now.durations c.requires.durations).0
 
 pub schedule_period-requires-clause-valid : goal.schedule_period-requires-clause-valid
 schedule_period-requires-clause-valid c =

@@ -1,8 +1,8 @@
 use Rattle.std.proofs.Common.{◌∙◌, ◌++◌, Global, ap, inl, refl}
 use Rattle.std.proofs.lemmas.Result.{err_from_is_err_and}
 use Rattle.syn_base.specs.Bytes.{Bytes}
-use Rattle.executive_program.specs.declared.program.Program.{Program}
-use Rattle.macro_code.specs.Text.{macro_code}
+use Rattle.self_timed.specs.declared.Program.{Program}
+use Rattle.top_plans.specs.CodeText.{macro_code}
 use Rattle.lab_plans.specs.Answers.{program}
 use Rattle.lab_program.specs.Found.{problem_of}
 use Rattle.lab_program.proofs.Schedules.{built, not_built}

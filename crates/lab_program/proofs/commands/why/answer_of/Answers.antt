@@ -1,10 +1,10 @@
 use Rattle.std.proofs.Common.{◌≡◌, Result, inl, refl, subst}
 use Rattle.std.specs.Prelude.{Ok}
 use Rattle.std.proofs.lemmas.Result.{err_from_is_err_and}
-use Rattle.macro_code.specs.ReadText.{program_in}
-use Rattle.command_plan.proofs.Makes.{after_ok, gave}
-use Rattle.command_status.specs.Status.{of_code}
-use Rattle.command_status.specs.declared.status.Status.TheVariants.{OutOfMemory}
+use Rattle.top_plans.specs.ReadText.{program_in}
+use Rattle.top_plans.proofs.Makes.{after_ok, gave}
+use Rattle.top_plans.specs.Status.{of_code}
+use Rattle.top_plans.specs.declared.Status.TheVariants.{OutOfMemory}
 use Rattle.lab_plans.specs.Asked.{of_text}
 use Rattle.lab_plans.specs.Plans.{why_answer, why_of_code}
 use Rattle.lab_program.proofs.Carried.{code_refused, no_schedule, wanted}

@@ -1,12 +1,12 @@
 use Rattle.std.proofs.Common.{◌≡◌, ◌≤◌, length, refl, subst, sym}
 use Rattle.std.proofs.lemmas.Result.{err_from_is_err_and}
 use Rattle.syn_base.specs.Bytes.{Bytes}
-use Rattle.outside.specs.Shelf.{file_bound}
-use Rattle.outside.specs.declared.file.File.TheVariants.{Code}
-use Rattle.flat_graph.specs.Graph.{Graph}
-use Rattle.flat_laws.specs.FlatOf.{flat_of}
-use Rattle.command_plan.specs.Run.{not_read}
-use Rattle.command_status.specs.Status.{ending_of}
+use Rattle.self_timed.specs.Graph.{Graph}
+use Rattle.top_plans.specs.Shelf.{file_bound}
+use Rattle.top_plans.specs.declared.File.TheVariants.{Code}
+use Rattle.top_plans.specs.FlatOf.{flat_of}
+use Rattle.top_plans.specs.Run.{not_read}
+use Rattle.top_plans.specs.Status.{ending_of}
 use Rattle.compiler.proofs.Sizes.{few_lines}
 use Rattle.lab_plans.specs.Plans.{why_behind, why_behind_text, why_of_code}
 use Rattle.lab_program.specs.Texts.{Carries}

@@ -1,6 +1,6 @@
 -- The lengths of vectors of zeros.
 use Rattle.std.proofs.Common.{◌∙◌, ap, map, length}
-use Rattle.flat_graph.proofs.KindLens.{length-zeros}
+use Rattle.executive_program.proofs.KindLens.{length-zeros}
 use Rattle.operation_desks.proofs.desk.Desk.new.Goals as goal
 
 pub returns : goal.returns

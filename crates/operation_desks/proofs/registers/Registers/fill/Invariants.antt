@@ -1,5 +1,5 @@
 use Rattle.std.proofs.Common.{◌≡◌, take}
-use Rattle.level_meaning.specs.Level.{all_joined}
+use Rattle.executive_program.specs.Level.{all_joined}
 use Rattle.operation_desks.proofs.registers.Registers.fill.Given as goal
 
 abbrev pub invariant-loop-port : goal.invariant-loop-port

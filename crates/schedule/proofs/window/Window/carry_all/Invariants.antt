@@ -1,5 +1,5 @@
 use Rattle.std.proofs.Common.{◌≡◌, List, ◌++◌, drop, length, map}
-use Rattle.flat_graph.specs.declared.vertex.Vertex.{Vertex}
+use Rattle.durations.specs.declared.Vertex.{Vertex}
 use Rattle.schedule.specs.Acts.{Act, carry}
 use Rattle.schedule.specs.Windows.{are_fed}
 use Rattle.schedule.proofs.window.Window.carry_all.Given as goal

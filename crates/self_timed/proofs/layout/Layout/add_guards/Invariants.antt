@@ -1,6 +1,6 @@
 use Rattle.std.proofs.Common.{◌≡◌, ◌++◌, take, map}
-use Rattle.flat_graph.specs.declared.vertex.Guard.{Guard}
-use Rattle.schedule.specs.Acts.{copy}
+use Rattle.sequence_build_laws.specs.declared.Guard.{Guard}
+use Rattle.sequence_build_laws.specs.Acts.{copy}
 use Rattle.self_timed.specs.Laid.{maker_in}
 use Rattle.self_timed.proofs.layout.Layout.add_guards.Given as goal
 

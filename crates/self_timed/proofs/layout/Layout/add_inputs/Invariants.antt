@@ -1,6 +1,6 @@
 use Rattle.std.proofs.Common.{◌≡◌, ◌++◌, take, map}
-use Rattle.flat_graph.specs.declared.vertex.Source.{Source}
-use Rattle.schedule.specs.Acts.{copy}
+use Rattle.sequence_build_laws.specs.declared.Source.{Source}
+use Rattle.sequence_build_laws.specs.Acts.{copy}
 use Rattle.self_timed.specs.Laid.{maker_in}
 use Rattle.self_timed.proofs.layout.Layout.add_inputs.Given as goal
 

@@ -1,5 +1,5 @@
 use Rattle.std.proofs.Common.{sym, subst}
-use Rattle.schedule.specs.Acts.{copy}
+use Rattle.sequence_build_laws.specs.Acts.{copy}
 use Rattle.self_timed.specs.Laid.{Laid, HasShape}
 use Rattle.self_timed.proofs.Places.{held_place, shape_kept}
 use Rattle.self_timed.proofs.layout.Layout.carry.Goals as goal

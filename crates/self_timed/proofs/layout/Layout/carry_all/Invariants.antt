@@ -1,5 +1,5 @@
 use Rattle.std.proofs.Common.{◌≡◌, List, ◌++◌, drop, map}
-use Rattle.schedule.specs.Acts.{Act, carry}
+use Rattle.sequence_build_laws.specs.Acts.{Act, carry}
 use Rattle.self_timed.specs.Laid.{HasShape, after_all}
 use Rattle.self_timed.proofs.layout.Layout.carry_all.Given as goal
 

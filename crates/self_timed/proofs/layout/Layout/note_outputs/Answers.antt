@@ -1,5 +1,5 @@
 use Rattle.std.proofs.Common.{ℕ, List, length, drop, map, sym, ap, subst, arith, ◌∙◌, ◌+◌}
-use Rattle.schedule.specs.Acts.{copy, outputs_from}
+use Rattle.sequence_build_laws.specs.Acts.{copy, outputs_from}
 use Rattle.self_timed.specs.Laid.{Laid, HasRow, with_makers}
 use Rattle.self_timed.proofs.Places.{has_row_kept}
 use Rattle.self_timed.proofs.Placing.{output_noted}

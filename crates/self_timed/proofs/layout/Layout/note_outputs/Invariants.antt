@@ -1,5 +1,5 @@
 use Rattle.std.proofs.Common.{◌≡◌, drop, length, map}
-use Rattle.schedule.specs.Acts.{copy, outputs_from}
+use Rattle.sequence_build_laws.specs.Acts.{copy, outputs_from}
 use Rattle.self_timed.specs.Laid.{HasRow, with_makers}
 use Rattle.self_timed.proofs.layout.Layout.note_outputs.Given as goal
 

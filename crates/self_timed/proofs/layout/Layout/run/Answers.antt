@@ -1,5 +1,5 @@
 use Rattle.std.proofs.Common.{ℕ, List, length, map, get_or, sym, ap, subst, arith, ◌∙◌}
-use Rattle.schedule.specs.Acts.{copy, outputs_from}
+use Rattle.sequence_build_laws.specs.Acts.{copy, outputs_from}
 use Rattle.self_timed.specs.Laid.{Laid, HasRow, HasShape}
 use Rattle.self_timed.proofs.Places.{shape_kept_all}
 use Rattle.self_timed.proofs.Placing.{guards_placed, inputs_placed, row_placed, few_placed, there_placed, run_after}

@@ -1,6 +1,6 @@
 -- A well-formed program takes each pair twice in a reaction.
 use Rattle.std.proofs.Common.{length}
-use Rattle.archi_graph.specs.Sequences.{sequences}
+use Rattle.executive_program.specs.Sequences.{sequences}
 use Rattle.semaphore_core.proofs.Counting.{counts_looks}
 use Rattle.semaphore_core.proofs.job.Job.new.Goals as goal
 

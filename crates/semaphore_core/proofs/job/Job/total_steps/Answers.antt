@@ -1,6 +1,6 @@
 -- A job's program takes each pair twice in a reaction, and its micro-steps are few.
 use Rattle.std.proofs.Common.{length}
-use Rattle.archi_graph.specs.Sequences.{sequences}
+use Rattle.executive_program.specs.Sequences.{sequences}
 use Rattle.semaphore_core.proofs.Counting.{counts_looks}
 use Rattle.semaphore_core.proofs.job.Job.total_steps.Goals as goal
 

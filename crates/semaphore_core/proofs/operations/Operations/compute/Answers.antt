@@ -7,11 +7,11 @@ use Rattle.std.proofs.lemmas.List.{length-map}
 use Rattle.std.proofs.lemmas.Option.{slice_get_read, slice_get-map, slice_get_past}
 use Rattle.std.proofs.Math.Seq.{map-set_same}
 use Rattle.syn_base.specs.Rows.{Reactions}
-use Rattle.flat_graph.specs.declared.vertex.Vertex.{Vertex}
-use Rattle.flat_graph.specs.Graph.{Graph}
-use Rattle.flat_graph.specs.Valid.{is_flat}
+use Rattle.executive_program.specs.declared.Vertex.{Vertex}
+use Rattle.executive_program.specs.Graph.{Graph}
+use Rattle.executive_program.specs.FlatValid.{is_flat}
+use Rattle.executive_program.proofs.ReadLens.{vertex_there}
 use Rattle.semaphore_core.specs.Job.{JobData}
-use Rattle.flat_graph.proofs.ReadLens.{vertex_there}
 use Rattle.operation_desks.specs.Desk.{DeskData, DeskLens, HasDesk, lens_of_desk}
 use Rattle.operation_desks.specs.Registers.{compute_by}
 use Rattle.semaphore_core.specs.Parts.{Kept, own_of, with_kept, with_values}

@@ -3,17 +3,16 @@ use Rattle.std.proofs.Common.{◌≡◌, ◌∙◌, sym, ap, subst, map, length,
 use Rattle.std.specs.Prelude.{IsTrue}
 use Rattle.std.proofs.lemmas.List.{length-replicate}
 use Rattle.syn_base.specs.Rows.{Reactions}
-use Rattle.level_meaning.specs.Level.{Values, zeros}
-use Rattle.flat_graph.specs.Graph.{Graph}
-use Rattle.flat_graph.specs.Valid.{is_flat}
 use Rattle.std.specs.Option.{option_map}
-use Rattle.operation_desks.specs.Desk.{lens_of_desk}
+use Rattle.executive_program.specs.Graph.{Graph}
+use Rattle.executive_program.specs.FlatValid.{is_flat}
+use Rattle.operation_desks.specs.Desk.{lens_of_desk, AreDesks}
 use Rattle.semaphore_core.specs.Job.{reactions}
-use Rattle.operation_desks.specs.Desk.{AreDesks}
 use Rattle.operation_desks.specs.RowLens.{lens_for}
 use Rattle.semaphore_core.proofs.Jobs.{opening_ready}
 use Rattle.semaphore_core.proofs.Some.{rows_for}
 use Rattle.semaphore_core.proofs.operations.Operations.for_some.Goals as goal
+use Rattle.syn_base.specs.Vectors.{Values, zeros}
 
 pub returns-clause-lens : goal.returns-clause-lens
 returns-clause-lens c =

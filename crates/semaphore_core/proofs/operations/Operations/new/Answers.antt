@@ -2,16 +2,15 @@
 use Rattle.std.proofs.Common.{◌∙◌, ap, subst, refl, map, length, List, true}
 use Rattle.std.specs.Prelude.{IsTrue}
 use Rattle.std.proofs.lemmas.List.{length-replicate}
-use Rattle.level_meaning.specs.Level.{Values, zeros}
-use Rattle.flat_graph.specs.Graph.{Graph}
-use Rattle.flat_graph.specs.Valid.{is_flat}
 use Rattle.std.specs.Option.{option_map}
-use Rattle.operation_desks.specs.Desk.{lens_of_desk}
-use Rattle.operation_desks.specs.RowLens.{actuator_lens}
+use Rattle.executive_program.specs.Graph.{Graph}
+use Rattle.executive_program.specs.FlatValid.{is_flat}
+use Rattle.executive_program.specs.FlatLaws.{actuator_lens}
+use Rattle.operation_desks.specs.Desk.{lens_of_desk, AreDesks}
 use Rattle.semaphore_core.specs.Job.{reactions}
-use Rattle.operation_desks.specs.Desk.{AreDesks}
 use Rattle.semaphore_core.proofs.Jobs.{opening_ready, rows_laid_out}
 use Rattle.semaphore_core.proofs.operations.Operations.new.Goals as goal
+use Rattle.syn_base.specs.Vectors.{Values, zeros}
 
 desks_are : (c : goal.In_ok-desks) → AreDesks c.args.job.now.graph (λ v. true) (length c.args.job.now.graph.vertices) (map (option_map lens_of_desk) c.in_ok-desks.desks.items)
 desks_are c = subst (λ (g : Graph). AreDesks g (λ v. true) (length g.vertices) (map (option_map lens_of_desk) c.in_ok-desks.desks.items)) c.flat.ensures c.in_ok-desks.ensures.desks

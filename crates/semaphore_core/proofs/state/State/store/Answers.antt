@@ -8,9 +8,9 @@ use Rattle.semaphore_core.specs.Held.{Held, AreReady, StoreIsLaid, kept_of}
 use Rattle.semaphore_core.proofs.Ready.{store_is_laid}
 use Rattle.executive_program.specs.declared.program.Program.{Program}
 use Rattle.semaphore_core.specs.Core.{home_of, slot_of}
-use Rattle.semaphore_core.specs.Elements.{with_element_in}
 use Rattle.semaphore_core.proofs.Viewing.{stored}
 use Rattle.semaphore_core.proofs.state.State.store.Goals as goal
+use Rattle.syn_base.specs.Rows.{with_value}
 
 pub returns : goal.returns
 returns c = rw (← c.self.view_is) (
@@ -23,7 +23,7 @@ returns c = rw (← c.self.view_is) (
     c.args.seq c.args.reaction c.index_mut.result.now few c.index_mut.ensures.value
     c.args.place c.args.what (to_z w64 (of_z w64 c.emit-value.result)) c.home.result c.slot.result (with_items s.elements c.put_element.new.lists).items c.emit-value.new.self
     (to_z-of_z w64 c.emit-value.result f ∙ c.emit-value.ensures.value) (c.home.ensures ∙ ap (λ (r : Program). home_of r c.args.place) c.program-program.ensures.same) (c.slot.ensures ∙ ap (λ (r : Program). slot_of r c.args.place c.args.reaction) c.program-program.ensures.same)
-    (same ∙ c.put_element.ensures ∙ ap (λ (l : List (List ℤ)). with_element_in l c.home.result c.slot.result (to_z w64 (of_z w64 c.emit-value.result))) c.deref_mut.ensures.value)
+    (same ∙ c.put_element.ensures ∙ ap (λ (l : List (List ℤ)). with_value l c.home.result c.slot.result (to_z w64 (of_z w64 c.emit-value.result))) c.deref_mut.ensures.value)
     c.emit-value.ensures.own)
 
 pub emit-value-requires-clause-ready : goal.emit-value-requires-clause-ready

@@ -1,9 +1,9 @@
 use Rattle.std.proofs.Common.{drop, map}
 use Rattle.std.specs.List.{flat_map}
-use Rattle.schedule.specs.Acts.{carry, made_by}
-use Rattle.sequence_build.specs.Made.{ComesTo}
+use Rattle.sequence_build_laws.specs.Acts.{carry, made_by}
 use Rattle.sequence_build.proofs.made.Made.carry_all.Given as goal
+use Rattle.sequence_build.proofs.Adding.{MakesUp}
 
 -- what is left makes the whole
 abbrev pub invariant-loop-transfer : goal.invariant-loop-transfer
-invariant-loop-transfer l = ComesTo l.vertices l.fn.self l.self (flat_map (made_by l.vertices) (map carry (drop l.transfer-index l.transfers))) (flat_map (made_by l.vertices) (map carry l.transfers))
+invariant-loop-transfer l = MakesUp l.vertices l.fn.self l.self (flat_map (made_by l.vertices) (map carry (drop l.transfer-index l.transfers))) (flat_map (made_by l.vertices) (map carry l.transfers))

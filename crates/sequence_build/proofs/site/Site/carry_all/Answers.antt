@@ -2,11 +2,11 @@
 use Rattle.std.proofs.Common.{List, map, drop, get_or, ◌+◌, ◌∙◌, ap, arith, subst}
 use Rattle.std.specs.List.{flat_map}
 use Rattle.std.proofs.lemmas.List.{drop_more}
-use Rattle.schedule.specs.declared.decision.Transfer.{Transfer}
-use Rattle.schedule.specs.Acts.{carry}
+use Rattle.sequence_build_laws.specs.declared.Transfer.{Transfer}
+use Rattle.sequence_build_laws.specs.Acts.{carry}
 use Rattle.sequence_build_laws.specs.Serial.{Step}
-use Rattle.sequence_build.specs.Plain.{ComesTo, steps_at}
-use Rattle.sequence_build.proofs.Adding.{comes_next}
+use Rattle.sequence_build.specs.Plain.{steps_at}
+use Rattle.sequence_build.proofs.Adding.{comes_next, ComesTo}
 use Rattle.sequence_build.proofs.site.Site.carry_all.Goals as goal
 
 pub loop-transfer-preserved : goal.loop-transfer-preserved

@@ -1,8 +1,9 @@
 use Rattle.std.proofs.Common.{◌≡◌, drop, map, vec_len}
 use Rattle.std.specs.List.{flat_map}
-use Rattle.schedule.specs.Acts.{carry}
-use Rattle.sequence_build.specs.Plain.{ComesTo, steps_at}
+use Rattle.sequence_build_laws.specs.Acts.{carry}
+use Rattle.sequence_build.specs.Plain.{steps_at}
 use Rattle.sequence_build.proofs.site.Site.carry_all.Given as goal
+use Rattle.sequence_build.proofs.Adding.{ComesTo}
 
 -- what is left makes the whole
 abbrev pub invariant-loop-transfer : goal.invariant-loop-transfer

@@ -1,6 +1,6 @@
 use Rattle.std.proofs.Common.{◌≡◌, ℕ, ◌+◌, ◌++◌, List, [], ◌∷◌, map, drop, subst, ap, ◌∙◌}
-use Rattle.flat_graph.specs.declared.vertex.Source.{Source}
-use Rattle.schedule.specs.Acts.{copy, outputs_from}
+use Rattle.sequence_build_laws.specs.declared.Source.{Source}
+use Rattle.sequence_build_laws.specs.Acts.{copy, outputs_from}
 use Rattle.sequence_build.specs.Plain.{numbering}
 use Rattle.sequence_build.proofs.Reading.{outputs_next, one_more}
 use Rattle.sequence_build.proofs.site.Site.give_all.Goals as goal

@@ -1,5 +1,5 @@
 use Rattle.std.proofs.Common.{◌≡◌, ◌++◌, drop, map}
-use Rattle.schedule.specs.Acts.{copy, outputs_from}
+use Rattle.sequence_build_laws.specs.Acts.{copy, outputs_from}
 use Rattle.sequence_build.specs.Plain.{numbering}
 use Rattle.sequence_build.proofs.site.Site.give_all.Given as goal
 

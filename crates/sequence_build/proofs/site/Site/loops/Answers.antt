@@ -1,7 +1,7 @@
 -- One more decision.
 use Rattle.std.proofs.Common.{List, [], ◌∷◌, drop, ◌+◌, ◌∙◌, ap, arith}
 use Rattle.std.specs.List.{flat_map}
-use Rattle.schedule.specs.Acts.{acts_of}
+use Rattle.sequence_build_laws.specs.Acts.{acts_of}
 use Rattle.sequence_build_laws.specs.Serial.{Step, projection}
 use Rattle.sequence_build.specs.Plain.{loop_at, steps_at}
 use Rattle.sequence_build_laws.proofs.Guarded.{projection-append}

@@ -1,6 +1,6 @@
 use Rattle.std.proofs.Common.{◌≡◌, ℕ, ◌<◌, ◌++◌, drop, length, vec_len}
 use Rattle.std.specs.List.{flat_map}
-use Rattle.schedule.specs.Acts.{acts_of}
+use Rattle.sequence_build_laws.specs.Acts.{acts_of}
 use Rattle.sequence_build_laws.specs.Serial.{projection}
 use Rattle.sequence_build.specs.Plain.{loop_at, steps_at}
 use Rattle.sequence_build.proofs.site.Site.loops.Given as goal

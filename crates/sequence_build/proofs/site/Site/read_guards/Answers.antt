@@ -1,7 +1,7 @@
 -- One more guard.
 use Rattle.std.proofs.Common.{ap, ◌∙◌}
-use Rattle.flat_graph.specs.declared.vertex.Guard.{Guard}
-use Rattle.schedule.specs.Acts.{copy}
+use Rattle.sequence_build_laws.specs.declared.Guard.{Guard}
+use Rattle.sequence_build_laws.specs.Acts.{copy}
 use Rattle.sequence_build.specs.Plain.{numbering}
 use Rattle.sequence_build.proofs.Appending.{mapped}
 use Rattle.sequence_build.proofs.site.Site.read_guards.Goals as goal

@@ -1,6 +1,6 @@
 use Rattle.std.proofs.Common.{◌≡◌, ◌++◌, drop, map}
-use Rattle.flat_graph.specs.declared.vertex.Guard.{Guard}
-use Rattle.schedule.specs.Acts.{copy}
+use Rattle.sequence_build_laws.specs.declared.Guard.{Guard}
+use Rattle.sequence_build_laws.specs.Acts.{copy}
 use Rattle.sequence_build.specs.Plain.{numbering}
 use Rattle.sequence_build.proofs.site.Site.read_guards.Given as goal
 

@@ -1,6 +1,6 @@
 -- One more source.
-use Rattle.flat_graph.specs.declared.vertex.Source.{Source}
-use Rattle.schedule.specs.Acts.{copy}
+use Rattle.sequence_build_laws.specs.declared.Source.{Source}
+use Rattle.sequence_build_laws.specs.Acts.{copy}
 use Rattle.sequence_build.specs.Plain.{numbering}
 use Rattle.sequence_build.proofs.Appending.{mapped}
 use Rattle.sequence_build.proofs.site.Site.read_sources.Goals as goal

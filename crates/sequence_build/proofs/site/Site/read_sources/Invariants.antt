@@ -1,5 +1,5 @@
 use Rattle.std.proofs.Common.{◌≡◌, ◌++◌, drop, map}
-use Rattle.schedule.specs.Acts.{copy}
+use Rattle.sequence_build_laws.specs.Acts.{copy}
 use Rattle.sequence_build.specs.Plain.{numbering}
 use Rattle.sequence_build.proofs.site.Site.read_sources.Given as goal
 

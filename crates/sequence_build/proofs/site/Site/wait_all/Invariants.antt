@@ -1,6 +1,7 @@
 use Rattle.std.proofs.Common.{◌≡◌, drop, vec_len}
-use Rattle.sequence_build.specs.Plain.{ComesTo, waits_from}
+use Rattle.sequence_build.specs.Plain.{waits_from}
 use Rattle.sequence_build.proofs.site.Site.wait_all.Given as goal
+use Rattle.sequence_build.proofs.Adding.{ComesTo}
 
 -- what is left makes the whole
 abbrev pub invariant-loop-place : goal.invariant-loop-place

@@ -1,9 +1,9 @@
 use Rattle.std.proofs.Common.{drop, map}
 use Rattle.std.specs.List.{flat_map}
-use Rattle.schedule.specs.Acts.{carry}
+use Rattle.sequence_build_laws.specs.Acts.{carry}
 use Rattle.sequence_build.specs.Plain.{steps_at}
-use Rattle.sequence_build.specs.Touched.{NotesUp}
 use Rattle.sequence_build.proofs.touched.Touched.carry_all.Given as goal
+use Rattle.sequence_build.proofs.Touching.{NotesUp}
 
 -- what is left makes the whole
 abbrev pub invariant-loop-transfer : goal.invariant-loop-transfer

@@ -2,13 +2,12 @@
 use Rattle.std.proofs.Common.{List, subst, arith}
 use Rattle.std.specs.List.{flat_map}
 use Rattle.std.proofs.lemmas.List.{at_drop_all}
-use Rattle.schedule.specs.declared.decision.Decision.{Decision}
-use Rattle.schedule.specs.Acts.{acts_of}
+use Rattle.sequence_build_laws.specs.declared.Decision.{Decision}
+use Rattle.sequence_build_laws.specs.Acts.{acts_of}
 use Rattle.sequence_build_laws.specs.Serial.{Step}
 use Rattle.sequence_build.specs.Plain.{steps_at}
-use Rattle.sequence_build.specs.Touched.{NotesUp}
 use Rattle.sequence_build.proofs.Appending.{acts_left}
-use Rattle.sequence_build.proofs.Touching.{noted_all, notes_all, notes_next}
+use Rattle.sequence_build.proofs.Touching.{noted_all, notes_all, notes_next, NotesUp}
 use Rattle.sequence_build.proofs.touched.Touched.of.Goals as goal
 
 pub loop-decision-preserved : goal.loop-decision-preserved

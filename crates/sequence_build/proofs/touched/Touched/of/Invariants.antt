@@ -1,9 +1,9 @@
 use Rattle.std.proofs.Common.{drop}
 use Rattle.std.specs.List.{flat_map}
-use Rattle.schedule.specs.Acts.{acts_of}
+use Rattle.sequence_build_laws.specs.Acts.{acts_of}
 use Rattle.sequence_build.specs.Plain.{steps_at}
-use Rattle.sequence_build.specs.Touched.{NotesUp}
 use Rattle.sequence_build.proofs.touched.Touched.of.Given as goal
+use Rattle.sequence_build.proofs.Touching.{NotesUp}
 
 -- what is left makes the whole
 abbrev pub invariant-loop-decision : goal.invariant-loop-decision

@@ -1,5 +1,5 @@
 use Rattle.std.proofs.Common.{◌≡◌, ◌≤◌, cond}
-use Rattle.interleavings.specs.Owners.{sum_below}
+use Rattle.sequence_build_laws.specs.Owners.{sum_below}
 use Rattle.sequence_build.specs.Touched.{waits}
 use Rattle.sequence_build.proofs.touched.Touched.readers.Given as goal
 

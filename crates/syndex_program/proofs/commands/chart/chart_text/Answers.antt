@@ -4,16 +4,15 @@ use Rattle.std.proofs.lemmas.Result.{err_from_is_err_and}
 use Rattle.syn_base.specs.Bytes.{Bytes}
 use Rattle.algo_text.specs.declared.definition.Defs.{Defs}
 use Rattle.algo_tree.specs.Tree.{Vertex}
-use Rattle.archi_defs.specs.Text.{Described}
-use Rattle.durations.specs.Table.{Table, durations_of}
-use Rattle.flat_graph.specs.Graph.{Graph}
-use Rattle.flat_laws.specs.FlatOf.{flat_of}
-use Rattle.command_plan.specs.Plan.{give}
-use Rattle.command_plan.proofs.Makes.{gave, memory}
-use Rattle.command_status.specs.Status.{ending_of}
+use Rattle.self_timed.specs.Text.{Described, described_by}
+use Rattle.self_timed.specs.Table.{Table, durations_of}
+use Rattle.self_timed.specs.Graph.{Graph}
+use Rattle.top_plans.specs.FlatOf.{flat_of}
+use Rattle.top_plans.specs.Plan.{give}
+use Rattle.top_plans.proofs.Makes.{gave, memory}
+use Rattle.top_plans.specs.Status.{ending_of}
 use Rattle.top_plans.specs.Given.{written}
 use Rattle.top_plans.specs.Plans.{architecture_plan, chart_of}
-use Rattle.compiler.specs.Compiles.{described}
 use Rattle.compiler.proofs.Architectures as architecture
 use Rattle.compiler.proofs.Steps.{went_on}
 use Rattle.syndex_program.proofs.commands.chart.chart_text.Goals as goal
@@ -22,7 +21,7 @@ pub print_schedule-requires : goal.print_schedule-requires
 print_schedule-requires g c =
     let given = c.in_ok-compilation.compilation in
     let is = c.in_ok-compilation.ensures.reads.2 in
-    subst (λ (f : Graph). durations_of f (described given.text) ≡ Ok given.durations) (sym is.flattens) is.lasts
+    subst (λ (f : Graph). durations_of f (described_by given.text) ≡ Ok given.durations) (sym is.flattens) is.lasts
 
 pub returns-in_err-compilation-clause-makes : goal.returns-in_err-compilation-clause-makes
 returns-in_err-compilation-clause-makes g c =
@@ -52,7 +51,7 @@ returns-clause-makes g c =
     let algorithm = c.in_ok-algorithm.algorithm in
     let given = c.in_ok-compilation.compilation in
     let is = c.in_ok-compilation.ensures.reads.2 in
-    let d = described given.text in
+    let d = described_by given.text in
     went_on c.args.algorithm.now (H c.args.shelf.now) (H c.read_algorithm.new.shelf) (H c.read_architecture.new.shelf) algorithm
     (λ (defs : Defs) (main : Vertex). architecture_plan c.args.architecture.now main (λ (d : Described) (t : Table). give (written (chart_of (flat_of main) d t)))) _ c.in_ok-algorithm.ensures.reads
     (architecture.went_on algorithm.tree c.args.architecture.now (H c.read_algorithm.new.shelf) (H c.read_architecture.new.shelf) (H c.read_architecture.new.shelf) given

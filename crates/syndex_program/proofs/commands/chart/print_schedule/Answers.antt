@@ -1,7 +1,7 @@
 use Rattle.std.proofs.Common.{◌∙◌, ◌++◌, ap}
 use Rattle.syn_base.specs.Bytes.{Bytes}
-use Rattle.schedule.specs.declared.decision.Schedule.{Schedule}
-use Rattle.timing_chart.specs.Chart as timing
+use Rattle.self_timed.specs.declared.Schedule.{Schedule}
+use Rattle.top_plans.specs.Chart as timing
 use Rattle.syndex_program.proofs.commands.chart.print_schedule.Goals as goal
 
 pub returns : goal.returns

@@ -4,11 +4,11 @@ use Rattle.std.proofs.lemmas.Result.{err_from_is_err_and}
 use Rattle.syn_base.specs.Bytes.{Bytes}
 use Rattle.algo_text.specs.declared.definition.Defs.{Defs}
 use Rattle.algo_tree.specs.Tree.{Vertex}
-use Rattle.archi_defs.specs.Text.{Described}
-use Rattle.durations.specs.Table.{Table}
-use Rattle.command_plan.specs.Plan.{give}
-use Rattle.command_plan.proofs.Makes.{gave, memory}
-use Rattle.command_status.specs.Status.{ending_of}
+use Rattle.self_timed.specs.Text.{Described}
+use Rattle.self_timed.specs.Table.{Table}
+use Rattle.top_plans.specs.Plan.{give}
+use Rattle.top_plans.proofs.Makes.{gave, memory}
+use Rattle.top_plans.specs.Status.{ending_of}
 use Rattle.top_plans.specs.Given.{written}
 use Rattle.top_plans.specs.Plans.{architecture_plan, both_texts}
 use Rattle.compiler.proofs.Architectures as architecture

@@ -5,8 +5,8 @@ use Rattle.syn_base.specs.Bytes.{Bytes}
 use Rattle.algo_text.specs.declared.definition.Defs.{Defs}
 use Rattle.algo_print.specs.Canonical.{canonical_text}
 use Rattle.algo_tree.specs.Tree.{Vertex}
-use Rattle.command_plan.specs.Plan.{give}
-use Rattle.command_plan.proofs.Makes.{gave, memory}
+use Rattle.top_plans.specs.Plan.{give}
+use Rattle.top_plans.proofs.Makes.{gave, memory}
 use Rattle.top_plans.specs.Given.{written}
 use Rattle.compiler.proofs.Steps.{went_on}
 use Rattle.syndex_program.proofs.commands.check.check_text.Goals as goal

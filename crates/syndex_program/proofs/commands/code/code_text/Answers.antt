@@ -3,14 +3,13 @@ use Rattle.std.specs.Prelude.{Ok, Err}
 use Rattle.std.proofs.lemmas.Result.{err_from_is_err_and}
 use Rattle.algo_text.specs.declared.definition.Defs.{Defs}
 use Rattle.algo_tree.specs.Tree.{Vertex}
-use Rattle.archi_defs.specs.Text.{Described}
-use Rattle.durations.specs.Table.{Table, durations_of}
-use Rattle.flat_graph.specs.Graph.{Graph}
-use Rattle.flat_laws.specs.FlatOf.{flat_of}
-use Rattle.command_plan.specs.Run.{Makes}
-use Rattle.command_status.specs.Status.{ending_of}
+use Rattle.self_timed.specs.Text.{Described, described_by}
+use Rattle.self_timed.specs.Table.{Table, durations_of}
+use Rattle.self_timed.specs.Graph.{Graph}
+use Rattle.top_plans.specs.FlatOf.{flat_of}
+use Rattle.top_plans.specs.Run.{Makes}
+use Rattle.top_plans.specs.Status.{ending_of}
 use Rattle.top_plans.specs.Plans.{architecture_plan, macro_plan}
-use Rattle.compiler.specs.Compiles.{described}
 use Rattle.compiler.specs.Reads.{text_in}
 use Rattle.compiler.proofs.Architectures as architecture
 use Rattle.compiler.proofs.Steps.{went_on}
@@ -20,7 +19,7 @@ pub compile_code-requires : goal.compile_code-requires
 compile_code-requires g c =
     let given = c.in_ok-compilation.compilation in
     let is = c.in_ok-compilation.ensures.reads.2 in
-    subst (λ (f : Graph). durations_of f (described given.text) ≡ Ok given.durations) (sym is.flattens) is.lasts
+    subst (λ (f : Graph). durations_of f (described_by given.text) ≡ Ok given.durations) (sym is.flattens) is.lasts
 
 pub returns-in_err-compilation-clause-makes : goal.returns-in_err-compilation-clause-makes
 returns-in_err-compilation-clause-makes g c =

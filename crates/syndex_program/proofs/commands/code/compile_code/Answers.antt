@@ -2,11 +2,11 @@ use Rattle.std.proofs.Common.{◌∙◌, ap, length}
 use Rattle.std.specs.Prelude.{Ok}
 use Rattle.std.proofs.lemmas.Result.{err_from_is_err_and}
 use Rattle.syn_base.specs.Bytes.{Bytes}
-use Rattle.executive_program.specs.declared.program.Program.{Program}
-use Rattle.macro_code.specs.Text.{macro_code}
-use Rattle.sequence_build.specs.Limit.{program_limit}
-use Rattle.command_plan.specs.Plan.{give}
-use Rattle.command_plan.proofs.Makes.{gave, memory}
+use Rattle.self_timed.specs.declared.Program.{Program}
+use Rattle.top_plans.specs.CodeText.{macro_code}
+use Rattle.top_plans.specs.Limit.{program_limit}
+use Rattle.top_plans.specs.Plan.{give}
+use Rattle.top_plans.proofs.Makes.{gave, memory}
 use Rattle.top_plans.specs.Given.{written}
 use Rattle.top_plans.specs.Plans.{macro_plan, program_by}
 use Rattle.compiler.proofs.Steps.{is_within}

@@ -2,17 +2,17 @@ use Rattle.std.proofs.Common.{◌≡◌, ◌∙◌, ℕ, List, length, replicate
 use Rattle.std.specs.Prelude.{Ok}
 use Rattle.std.proofs.lemmas.Result.{err_from_is_err_and}
 use Rattle.syn_base.specs.Bytes.{Bytes}
-use Rattle.executive_program.specs.declared.program.Program.{Program}
-use Rattle.schedule.specs.declared.decision.Schedule.{Schedule}
-use Rattle.schedule.specs.Acts.{acts}
+use Rattle.self_timed.specs.declared.Program.{Program}
+use Rattle.self_timed.specs.declared.Schedule.{Schedule}
+use Rattle.self_timed.specs.Acts.{acts}
 use Rattle.self_timed.specs.Entries.{AreWithin}
 use Rattle.self_timed.specs.Told.{HaveEntries, entries_of}
-use Rattle.actual_durations.specs.Actual.{actual_of}
-use Rattle.dates_text.specs.Listing.{dates_text}
-use Rattle.sequence_build.specs.Limit.{program_limit}
-use Rattle.command_plan.specs.Plan.{give}
-use Rattle.command_plan.proofs.Makes.{after_ok, gave, memory}
-use Rattle.command_status.specs.Status.{of_durations}
+use Rattle.top_plans.specs.Actual.{actual_of}
+use Rattle.top_plans.specs.Listing.{dates_text}
+use Rattle.top_plans.specs.Limit.{program_limit}
+use Rattle.top_plans.specs.Plan.{give}
+use Rattle.top_plans.proofs.Makes.{after_ok, gave, memory}
+use Rattle.top_plans.specs.Status.{of_durations}
 use Rattle.top_plans.specs.Given.{written}
 use Rattle.top_plans.specs.Plans.{program_by, schedule_of}
 use Rattle.syndex_program.specs.Dates.{dated_in}

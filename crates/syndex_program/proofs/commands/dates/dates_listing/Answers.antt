@@ -4,14 +4,14 @@ use Rattle.std.proofs.lemmas.Result.{err_from_is_err_and}
 use Rattle.syn_base.specs.Bytes.{Bytes}
 use Rattle.algo_text.specs.declared.definition.Defs.{Defs}
 use Rattle.algo_tree.specs.Tree.{Vertex}
-use Rattle.durations.specs.Table.{durations_of}
-use Rattle.flat_graph.specs.Graph.{Graph}
-use Rattle.command_plan.specs.Run.{Makes, not_read, was_read}
-use Rattle.command_plan.proofs.Makes.{memory}
-use Rattle.command_status.specs.Status.{ending_of}
+use Rattle.self_timed.specs.Table.{durations_of}
+use Rattle.self_timed.specs.Graph.{Graph}
+use Rattle.self_timed.specs.Text.{described_by}
+use Rattle.top_plans.specs.Run.{Makes, not_read, was_read}
+use Rattle.top_plans.proofs.Makes.{memory}
+use Rattle.top_plans.specs.Status.{ending_of}
 use Rattle.top_plans.specs.Plans.{architecture_plan}
 use Rattle.syndex_program.specs.Dates.{dated_in}
-use Rattle.compiler.specs.Compiles.{described}
 use Rattle.compiler.specs.Reads.{text_in}
 use Rattle.compiler.proofs.Architectures as architecture
 use Rattle.syndex_program.proofs.Dated.{behind_architecture}
@@ -22,7 +22,7 @@ pub find_schedule-requires : goal.find_schedule-requires
 find_schedule-requires g c =
     let given = c.in_ok-compilation.compilation in
     let is = c.in_ok-compilation.ensures.reads.2 in
-    subst (λ (f : Graph). durations_of f (described given.text) ≡ Ok given.durations) (sym is.flattens) is.lasts
+    subst (λ (f : Graph). durations_of f (described_by given.text) ≡ Ok given.durations) (sym is.flattens) is.lasts
 
 pub returns-in_err-compilation-clause-makes : goal.returns-in_err-compilation-clause-makes
 returns-in_err-compilation-clause-makes g c =

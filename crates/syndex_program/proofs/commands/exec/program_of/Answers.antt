@@ -1,8 +1,8 @@
 use Rattle.std.proofs.Common.{subst, sym}
 use Rattle.std.specs.Prelude.{Err}
-use Rattle.command_plan.specs.Run.{Makes}
-use Rattle.command_status.specs.Status.{ending_of}
-use Rattle.command_status.specs.declared.status.Status.{Status}
+use Rattle.top_plans.specs.Run.{Makes}
+use Rattle.top_plans.specs.Status.{ending_of}
+use Rattle.top_plans.specs.declared.Status.{Status}
 use Rattle.top_plans.specs.Plans.{code_in}
 use Rattle.syndex_program.proofs.Coded.{check_refused, code_refused, is_program}
 use Rattle.syndex_program.proofs.commands.exec.program_of.Goals as goal

@@ -2,16 +2,16 @@ use Rattle.std.proofs.Common.{subst}
 use Rattle.std.specs.Prelude.{Ok, Err}
 use Rattle.std.proofs.lemmas.Result.{err_from_is_err_and}
 use Rattle.syn_base.specs.Bytes.{Bytes}
-use Rattle.outside.specs.declared.file.File.TheVariants.{Architecture, Code}
 use Rattle.algo_text.specs.declared.definition.Defs.{Defs}
 use Rattle.algo_tree.specs.Tree.{Vertex}
-use Rattle.archi_defs.specs.Text.{Described}
 use Rattle.csv.specs.Reading.{default_config, records, strip_bom}
-use Rattle.executive_program.specs.declared.program.Program.{Program}
-use Rattle.flat_graph.specs.Graph.{Graph}
-use Rattle.flat_laws.specs.FlatOf.{flat_of}
 use Rattle.syn_base.specs.Rows.{Reactions}
-use Rattle.command_plan.proofs.Makes.{memory}
+use Rattle.self_timed.specs.Text.{Described}
+use Rattle.self_timed.specs.declared.Program.{Program}
+use Rattle.self_timed.specs.Graph.{Graph}
+use Rattle.top_plans.specs.declared.File.TheVariants.{Architecture, Code}
+use Rattle.top_plans.specs.FlatOf.{flat_of}
+use Rattle.top_plans.proofs.Makes.{memory}
 use Rattle.top_plans.specs.Given.{Given, Execution}
 use Rattle.top_plans.specs.Plans.{Made, code_in, described_in, execution, execution_plan, read_file, table_plan}
 use Rattle.syndex_program.specs.Executes.{made_of}

@@ -1,8 +1,8 @@
 use Rattle.std.proofs.Common.{◌≤◌, length, subst, sym}
 use Rattle.std.proofs.lemmas.Result.{err_from_is_err_and}
 use Rattle.syn_base.specs.Bytes.{Bytes}
-use Rattle.outside.specs.Shelf.{file_bound}
-use Rattle.command_plan.specs.Run.{not_read}
+use Rattle.top_plans.specs.Shelf.{file_bound}
+use Rattle.top_plans.specs.Run.{not_read}
 use Rattle.syndex_program.specs.Foreign.{MakesProgram}
 use Rattle.syndex_program.proofs.Coded.{program_read}
 use Rattle.compiler.proofs.Sizes.{few_lines}

@@ -4,11 +4,11 @@ use Rattle.std.proofs.lemmas.Result.{err_from_is_err_and}
 use Rattle.syn_base.specs.Bytes.{Bytes}
 use Rattle.algo_text.specs.declared.definition.Defs.{Defs}
 use Rattle.algo_tree.specs.Tree.{Vertex}
-use Rattle.command_plan.specs.Plan.{give}
-use Rattle.command_plan.proofs.Makes.{gave, memory}
-use Rattle.flat_laws.specs.FlatOf.{flat_of}
 use Rattle.flat_text.specs.Listing.{listing}
 use Rattle.compiler.proofs.Steps.{went_on}
+use Rattle.top_plans.specs.Plan.{give}
+use Rattle.top_plans.proofs.Makes.{gave, memory}
+use Rattle.top_plans.specs.FlatOf.{flat_of}
 use Rattle.top_plans.specs.Given.{written}
 use Rattle.syndex_program.proofs.commands.flat.listing_text.Goals as goal
 

@@ -3,14 +3,14 @@ use Rattle.std.specs.List.{flat_map}
 use Rattle.std.proofs.Math.Facts.{to_z-of_z}
 use Rattle.std.proofs.lemmas.List.{drop-drop, take_min}
 use Rattle.std.proofs.lemmas.List.FromFn.{length-map-range_with_len}
-use Rattle.level_meaning.specs.Level.{Values, all_joined}
-use Rattle.body_lang.specs.Expr.{total}
-use Rattle.flat_graph.specs.Meaning.{flat_act_row}
-use Rattle.phase_laws.specs.Ended.{all_acts}
-use Rattle.phase_laws.specs.Windows.{window}
+use Rattle.algo_tree.specs.Level.{all_joined}
+use Rattle.algo_text.specs.Expr.{total}
+use Rattle.word_rule.specs.Ended.{all_acts}
+use Rattle.word_rule.specs.Windows.{window}
+use Rattle.word_rule.specs.Job.{JobData, reactions}
+use Rattle.self_timed.specs.Meaning.{flat_act_row}
+use Rattle.self_timed.specs.FlatLaws.{actuator_lens}
 use Rattle.run_laws.specs.Windows.{window_bound, reactions_from}
-use Rattle.semaphore_core.specs.Job.{JobData, reactions}
-use Rattle.operation_desks.specs.RowLens.{actuator_lens}
 use Rattle.syn_base.specs.Arithmetic.{wrapped}
 use Rattle.syn_base.specs.Rows.{Reactions}
 use Rattle.job_windows.specs.Windowed.{WindowsData, first_of}
@@ -19,6 +19,7 @@ use Rattle.syndex_program.proofs.Going.{fewer, jobs_after, jobs_some}
 use Rattle.syndex_program.proofs.Leaving.{after_next}
 use Rattle.syndex_program.proofs.Summing.{one_part, rows_end}
 use Rattle.syndex_program.proofs.commands.load.sum_of.Goals as goal
+use Rattle.syn_base.specs.Vectors.{Values}
 
 -- the rows of a window are as few as all rows
 few_behind : (most s : ℕ) (xs : List Values) → AreFew most xs → AreFew most (drop s xs)

@@ -1,7 +1,7 @@
 use Rattle.std.proofs.Common.{◌≡◌, ◌+ℤ◌, length}
-use Rattle.command_plan.specs.Stage.{after_jobs, RunsSome}
 use Rattle.syn_base.specs.Arithmetic.{wrapped}
 use Rattle.word_rule.specs.Driven.{Driven, driven_by}
+use Rattle.top_plans.specs.Stage.{after_jobs, RunsSome}
 use Rattle.syndex_program.specs.Left.{jobs_left}
 use Rattle.syndex_program.specs.Sums.{total_left}
 use Rattle.syndex_program.proofs.commands.load.sum_of.Given as goal

@@ -6,17 +6,15 @@ use Rattle.std.proofs.lemmas.Int.{int_wrap_fits}
 use Rattle.std.proofs.lemmas.List.{take_all}
 use Rattle.std.proofs.lemmas.Result.{err_from_is_err_and}
 use Rattle.syn_base.specs.Bytes.{Bytes}
-use Rattle.accepted_laws.specs.Flat.{HasFlat}
 use Rattle.algo_tree.specs.Ends.{actuator_lengths}
-use Rattle.level_meaning.specs.Level.{Values}
-use Rattle.command_plan.specs.Stage.{after_jobs, RunsSome}
-use Rattle.phase_laws.specs.Ended.{all_acts}
 use Rattle.run_laws.specs.Windows.{window_jobs}
-use Rattle.semaphore_core.specs.Job.{JobData}
-use Rattle.operation_desks.specs.RowLens.{actuator_lens}
 use Rattle.syn_base.specs.Arithmetic.{wrapped}
+use Rattle.word_rule.specs.Ended.{all_acts}
+use Rattle.word_rule.specs.Job.{JobData}
 use Rattle.word_rule.specs.Driven.{Driven, driven_by}
 use Rattle.job_windows.specs.Windowed.{WindowsData}
+use Rattle.top_plans.specs.Flat.{HasFlat}
+use Rattle.top_plans.specs.Stage.{after_jobs, RunsSome}
 use Rattle.top_plans.specs.Given.{Execution, acts_of, one_job}
 use Rattle.top_plans.specs.Plans.{sum_of, summary, summary_with}
 use Rattle.syndex_program.specs.Executes.{executed}
@@ -24,6 +22,8 @@ use Rattle.syndex_program.specs.Left.{jobs_left}
 use Rattle.syndex_program.specs.Sums.{AreFew, total_left, total_of}
 use Rattle.syndex_program.proofs.Leaving.{all_jobs, few_acts, same_acts}
 use Rattle.syndex_program.proofs.commands.load.summary_text.Goals as goal
+use Rattle.syn_base.specs.Vectors.{Values}
+use Rattle.self_timed.specs.FlatLaws.{actuator_lens}
 
 few_job : (e : Execution) → HasFlat e.main → AreFew (length (actuator_lens (one_job e).graph (one_job e).graph.vertices)) (all_acts (one_job e))
 few_job e has =

@@ -4,14 +4,14 @@ use Rattle.std.specs.Fmt.{decimal, signed_decimal}
 use Rattle.std.proofs.Math.Facts.{to_z-of_z}
 use Rattle.std.proofs.lemmas.List.{length-map}
 use Rattle.syn_base.specs.Bytes.{Bytes}
-use Rattle.archi_graph.specs.Sequences.{sequences}
-use Rattle.archi_graph.specs.Archi.{Architecture}
-use Rattle.executive_program.specs.declared.program.SeqCode.{SeqCode}
-use Rattle.executive_program.specs.WellFormed.{IsWellFormed}
-use Rattle.executive_program.specs.declared.program.Program.{Program}
-use Rattle.flat_graph.specs.Graph.{Graph}
-use Rattle.flat_laws.specs.FlatOf.{flat_of}
-use Rattle.semaphore_core.specs.Job.{total_steps}
+use Rattle.word_rule.specs.Job.{total_steps}
+use Rattle.self_timed.specs.Sequences.{sequences}
+use Rattle.self_timed.specs.Archi.{Architecture}
+use Rattle.self_timed.specs.declared.SeqCode.{SeqCode}
+use Rattle.self_timed.specs.WellFormed.{IsWellFormed}
+use Rattle.self_timed.specs.declared.Program.{Program}
+use Rattle.self_timed.specs.Graph.{Graph}
+use Rattle.top_plans.specs.FlatOf.{flat_of}
 use Rattle.syndex_program.proofs.commands.load.summary_with.Goals as goal
 
 -- nine pieces, one after another

@@ -1,9 +1,9 @@
 use Rattle.std.proofs.Common.{rules, ◌≡◌, [], ◌∙◌, ◌+◌, ◌+ℤ◌, ◌≤◌, ap, sym, length, arith, ℤ, List, drop, to_z, of_z, w64}
 use Rattle.std.specs.Prelude.{slice_index_or}
 use Rattle.std.proofs.Math.Facts.{to_z-of_z}
-use Rattle.level_meaning.specs.Level.{all_joined}
-use Rattle.body_lang.specs.Expr.{total}
 use Rattle.syn_base.specs.Arithmetic.{wrapped}
+use Rattle.algo_tree.specs.Level.{all_joined}
+use Rattle.algo_text.specs.Expr.{total}
 use Rattle.syndex_program.proofs.Summing.{one_vector, row_ends}
 use Rattle.syndex_program.proofs.commands.load.with_row.Goals as goal
 

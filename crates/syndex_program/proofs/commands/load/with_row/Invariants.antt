@@ -1,8 +1,8 @@
 use Rattle.std.proofs.Common.{◌≡◌, ◌+ℤ◌, drop, []}
 use Rattle.std.specs.Prelude.{slice_index_or}
-use Rattle.level_meaning.specs.Level.{all_joined}
 use Rattle.syn_base.specs.Arithmetic.{wrapped}
-use Rattle.body_lang.specs.Expr.{total}
+use Rattle.algo_tree.specs.Level.{all_joined}
+use Rattle.algo_text.specs.Expr.{total}
 use Rattle.syndex_program.proofs.commands.load.with_row.Given as goal
 
 abbrev pub invariant-loop-actuator : goal.invariant-loop-actuator

@@ -1,5 +1,5 @@
 use Rattle.std.proofs.Common.{rules, pos, get_or, ◌∙◌, w64, FitsSigned}
-use Rattle.body_lang.proofs.Sums.{sum_on}
+use Rattle.algo_text.proofs.Sums.{sum_on}
 use Rattle.syndex_program.proofs.commands.load.with_vector.Goals as goal
 
 pub loop-element-preserved : goal.loop-element-preserved

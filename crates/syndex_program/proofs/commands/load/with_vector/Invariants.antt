@@ -1,6 +1,6 @@
 use Rattle.std.proofs.Common.{◌≡◌, ◌+ℤ◌, drop}
 use Rattle.syn_base.specs.Arithmetic.{wrapped}
-use Rattle.body_lang.specs.Expr.{total}
+use Rattle.algo_text.specs.Expr.{total}
 use Rattle.syndex_program.proofs.commands.load.with_vector.Given as goal
 
 abbrev pub invariant-loop-element : goal.invariant-loop-element

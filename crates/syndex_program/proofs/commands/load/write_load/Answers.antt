@@ -2,14 +2,14 @@ use Rattle.std.proofs.Common.{◌≡◌, ◌∙◌, List, [], ◌∷◌, length,
 use Rattle.std.specs.Prelude.{false}
 use Rattle.std.proofs.lemmas.List.{take_all}
 use Rattle.syn_base.specs.Bytes.{Bytes}
-use Rattle.outside.specs.Sink.{Sunk, Appends, Wrote}
-use Rattle.command_plan.specs.Ending.{Ending, done, refused, unread, unwritten, no_memory}
-use Rattle.command_plan.specs.Run.{Performs}
-use Rattle.command_plan.specs.Stage.{after_jobs}
-use Rattle.command_status.specs.Status.{Refusal, ending_of}
-use Rattle.semaphore_core.specs.Job.{JobData}
 use Rattle.run_laws.specs.Windows.{window_jobs}
+use Rattle.word_rule.specs.Job.{JobData}
 use Rattle.word_rule.specs.Driven.{Driven, driven_by}
+use Rattle.top_plans.specs.Sink.{Sunk, Appends, Wrote}
+use Rattle.top_plans.specs.Ending.{Ending, done, refused, unread, unwritten, no_memory}
+use Rattle.top_plans.specs.Run.{Performs}
+use Rattle.top_plans.specs.Stage.{after_jobs}
+use Rattle.top_plans.specs.Status.{Refusal, ending_of}
 use Rattle.top_plans.specs.Given.{one_job}
 use Rattle.top_plans.specs.Plans.{summary}
 use Rattle.syndex_program.specs.Executes.{executed}

@@ -1,10 +1,10 @@
 use Rattle.std.proofs.Common.{◌∙◌, List, ap, inr, subst, true}
 use Rattle.std.specs.Prelude.{not}
-use Rattle.command_plan.specs.Run.{Performs}
-use Rattle.command_plan.specs.Stage.{Stage}
-use Rattle.command_status.specs.Status.{Refusal}
-use Rattle.semaphore_core.specs.Job.{JobData}
+use Rattle.word_rule.specs.Job.{JobData}
 use Rattle.word_rule.specs.Driven.{driven_by}
+use Rattle.top_plans.specs.Run.{Performs}
+use Rattle.top_plans.specs.Stage.{Stage}
+use Rattle.top_plans.specs.Status.{Refusal}
 use Rattle.top_plans.specs.Plans.{head}
 use Rattle.syndex_program.specs.Executes.{executed}
 use Rattle.syndex_program.specs.Stopped as windows

@@ -2,7 +2,7 @@ use Rattle.std.specs.Prelude.{Err}
 use Rattle.std.proofs.lemmas.Result.{err_from_is_err_and}
 use Rattle.algo_text.specs.declared.definition.Defs.{Defs}
 use Rattle.algo_tree.specs.Tree.{Vertex}
-use Rattle.command_status.specs.Status.{ending_of}
+use Rattle.top_plans.specs.Status.{ending_of}
 use Rattle.top_plans.specs.Plans.{rows_plan, table_plan}
 use Rattle.compiler.specs.Reads.{text_in}
 use Rattle.compiler.proofs.Steps.{rows_went_on, went_on}

@@ -3,8 +3,8 @@ use Rattle.std.specs.Prelude.{Ok, Some, None}
 use Rattle.std.proofs.lemmas.Result.{err_from_is_err_and}
 use Rattle.syn_base.specs.Bytes.{Bytes}
 use Rattle.algo_tree.specs.Ends.{actuator_lengths}
-use Rattle.command_plan.specs.Plan.{give}
-use Rattle.command_plan.proofs.Makes.{gave, memory}
+use Rattle.top_plans.specs.Plan.{give}
+use Rattle.top_plans.proofs.Makes.{gave, memory}
 use Rattle.top_plans.specs.Given.{output_of, written}
 use Rattle.top_plans.specs.Plans.{excess, rows_plan}
 use Rattle.compiler.proofs.Steps.{is_above, is_within}

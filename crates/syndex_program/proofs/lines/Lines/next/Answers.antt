@@ -1,11 +1,11 @@
 use Rattle.std.proofs.Common.{◌∙◌, ap}
 use Rattle.std.proofs.lemmas.Result.{err_from_is_err_and}
 use Rattle.syn_base.specs.Rows.{Reactions}
-use Rattle.act_text.specs.Names.{actuator_names}
-use Rattle.act_text.specs.Text.{text_from}
-use Rattle.phase_laws.specs.Ended.{all_acts}
-use Rattle.semaphore_core.specs.Job.{reactions}
+use Rattle.word_rule.specs.Ended.{all_acts}
+use Rattle.word_rule.specs.Job.{reactions}
 use Rattle.job_windows.specs.Windowed.{first_of}
+use Rattle.top_plans.specs.ActNames.{actuator_names}
+use Rattle.top_plans.specs.ActText.{text_from}
 use Rattle.syndex_program.proofs.Going.{few_numbers, goes, wants_before, wants_behind}
 use Rattle.syndex_program.proofs.Leaving.{lines_of, no_more}
 use Rattle.syndex_program.specs.Left.{stage_from}

@@ -1,5 +1,5 @@
 use Rattle.std.proofs.Common.{List, ap, sym, ◌∙◌}
-use Rattle.algo_text.specs.declared.definition.Def.{Def}
+use Rattle.algo_rules.specs.declared.Def.{Def}
 use Rattle.algo_rules.specs.Links.{definition}
 use Rattle.text_lint.proofs.Placed.{at_place, at_none}
 use Rattle.text_lint.proofs.known.Known.definition.Goals as goal

@@ -1,8 +1,8 @@
 use Rattle.std.proofs.Common.{List, Option, ℕ, ap, ◌∙◌}
 use Rattle.std.specs.Prelude.{is_some}
 use Rattle.std.specs.Str.{bytes_eq}
-use Rattle.algo_text.specs.Among.{is_among}
-use Rattle.algo_text.specs.declared.definition.Def.{Def}
+use Rattle.algo_rules.specs.Among.{is_among}
+use Rattle.algo_rules.specs.declared.Def.{Def}
 use Rattle.archi_reader.proofs.Places.{some_place}
 use Rattle.text_lint.specs.Named.{named_in}
 use Rattle.text_lint.proofs.known.Known.is_used.Goals as goal

@@ -1,7 +1,7 @@
 use Rattle.std.proofs.Common.{◌≡◌, ◌+◌, ◌∙◌, length, ap, sym, subst, arith}
 use Rattle.std.specs.Mem.Slots.{slots_items}
-use Rattle.semaphore_core.specs.Core.{AreReached}
-use Rattle.semaphore_core.specs.Told.{told}
+use Rattle.phase_laws.specs.Core.{AreReached}
+use Rattle.phase_laws.specs.Told.{told}
 use Rattle.word_rule.specs.Steps.{HoldsCounts}
 use Rattle.word_rule.specs.Table.{TableData}
 use Rattle.word_rule.specs.Words.{words_of, table_len}

@@ -1,7 +1,7 @@
 use Rattle.std.proofs.Common.{ap, sym, subst, ◌∙◌, arith}
 use Rattle.executive_program.specs.declared.program.Program.{Program}
 use Rattle.executive_program.specs.Instructions.{HasPlaces}
-use Rattle.semaphore_core.specs.Core.{home_of, slot_of}
+use Rattle.word_rule.specs.Core.{home_of, slot_of}
 use Rattle.word_rule.proofs.Allowed.{element_inside}
 use Rattle.word_table.proofs.Starts.{start_is}
 use Rattle.word_table.proofs.fabric_parts.FabricParts.element_word.Goals as goal

@@ -2,8 +2,8 @@ use Rattle.std.proofs.Common.{ap, refl, rules, subst, ◌∙◌, w64, to_z, of_z
 use Rattle.std.proofs.lemmas.Int.{to_z-of_z}
 use mir.Val.{SFits}
 use Rattle.executive_program.specs.declared.steps.MicroStep.{MicroStep}
-use Rattle.semaphore_core.specs.Held.{NeedsReaction}
-use Rattle.semaphore_core.specs.Job.{reactions}
+use Rattle.word_rule.specs.Held.{NeedsReaction}
+use Rattle.word_rule.specs.Job.{reactions}
 use Rattle.word_table.proofs.Drivers.{can_count, loads_freely, free_steps}
 use Rattle.word_table.proofs.Making.{can_step, needs, room, has_room, load_laid, finds_told, loaded_driver}
 use Rattle.word_table.proofs.fabric_parts.FabricParts.load_into.Goals as goal

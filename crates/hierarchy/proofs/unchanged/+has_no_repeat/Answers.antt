@@ -2,7 +2,7 @@ use Rattle.std.proofs.Common.{List, drop, refl, subst, sym}
 use Rattle.std.proofs.lemmas.List.{at_drop_all}
 use Rattle.algo_tree.specs.declared.vertex.Vertex.{Vertex}
 use Rattle.hierarchy.proofs.Staying.{StayUnrolled, vertex_unrolled}
-use Rattle.hierarchy.proofs.unchanged.+is_unrolled.Goals as goal
+use Rattle.hierarchy.proofs.unchanged.+has_no_repeat.Goals as goal
 
 pub returns : goal.returns
 returns t c = λ _.

@@ -3,23 +3,24 @@ use Rattle.std.proofs.Common.{◌≡◌, ℕ, ◌+◌, not, ◌||◌, ◌==◌, 
 use Rattle.std.proofs.lemmas.List.{map-append, length-append, length-map}
 use Rattle.std.proofs.lemmas.List.Elements.{All-nil, All-push}
 use Rattle.text_lines.specs.Text.{words_of}
-use Rattle.body_lang.specs.declared.expression.Port.{Port}
-use Rattle.body_lang.specs.Expr.{Expr, PortsBelow}
 use Rattle.body_text.proofs.CanonicalPorts.{known, numbers_below}
-use Rattle.algo_tree.specs.Typed.{IsLength}
-use Rattle.algo_tree.specs.Well.{IsNewName, AreDistinctNames}
-use Rattle.algo_text.specs.declared.definition.Output.{Output}
 use Rattle.syn_base.specs.Bytes.{Bytes}
-use Rattle.algo_text.specs.Formulas.{formula_of}
-use Rattle.algo_text.specs.Outer.{all_outer}
-use Rattle.algo_text.specs.Blocks.{Block, and_then, is_taken, in_line, with_in, out_line, with_out, is_equals, result_words, result_at, result_line, with_result}
-use Rattle.algo_text.proofs.Checks.{neither, never, not_false, passed, read, same_ok}
-use Rattle.algo_text.specs.declared.part.Part.TheVariants.{Inputs, Outputs}
-use Rattle.algo_text.specs.Parts.{admits}
+use Rattle.text_lines.specs.Refusals.{and_then}
 use Rattle.syn_base.specs.declared.limits.LimitKind.TheVariants.{Ports}
 use Rattle.syn_base.specs.Limits.{bound_of}
-use Rattle.algo_text.specs.Grammatical.{IsFormula}
-use Rattle.algo_text.proofs.Judged.{formula_law}
+use Rattle.algo_rules.specs.declared.Port.{Port}
+use Rattle.algo_rules.specs.Expr.{Expr, PortsBelow}
+use Rattle.algo_rules.specs.Typed.{IsLength}
+use Rattle.algo_rules.specs.Well.{IsNewName, AreDistinctNames}
+use Rattle.algo_rules.specs.declared.Output.{Output}
+use Rattle.algo_rules.specs.Formulas.{formula_of}
+use Rattle.algo_rules.specs.Outer.{all_outer}
+use Rattle.algo_rules.specs.Blocks.{Block, is_taken, in_line, with_in, out_line, with_out, is_equals, result_words, result_at, result_line, with_result}
+use Rattle.algo_rules.proofs.Checks.{neither, never, not_false, passed, read, same_ok}
+use Rattle.algo_rules.specs.declared.Part.TheVariants.{Inputs, Outputs}
+use Rattle.algo_rules.specs.Parts.{admits}
+use Rattle.algo_rules.specs.Grammatical.{IsFormula}
+use Rattle.algo_rules.proofs.Judged.{formula_law}
 use Rattle.algo_rules.specs.WellRead.{IsName, port_names, ArePorts, ports_in}
 use Rattle.algo_laws.proofs.Checks.{port_read}
 use Rattle.algo_laws.proofs.GivenOnce.{new_beside, new_first, new_second, new_both, distinct_with}
