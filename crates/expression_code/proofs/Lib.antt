@@ -1,0 +1,4 @@
+pub mod Runs
+pub mod Arms
+pub mod Shifts
+pub mod Worked
