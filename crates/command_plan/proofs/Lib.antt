@@ -1,5 +1,6 @@
 pub mod Makes
 pub mod Made
+pub mod Mapped
 pub mod Stages
 pub mod Meaning
 pub mod Refusals

@@ -17,76 +17,92 @@ use Rattle.top_plans.specs.SensorAnswers as table
 use Rattle.top_plans.specs.SensorTable.{rows_of}
 use Rattle.top_plans.specs.declared.SensorError.{SensorError}
 use Rattle.top_plans.specs.declared.SensorError.TheVariants as sensors
-use Rattle.top_plans.specs.Plan.{after}
+use Rattle.top_plans.specs.Plan.{Plan, after}
 use Rattle.top_plans.specs.Ending.{Ending, refused}
-use Rattle.top_plans.specs.Run.{Makes, refuses, was_read}
+use Rattle.top_plans.specs.Run.{Makes, not_read, refuses, was_read}
 use Rattle.top_plans.proofs.Makes.{after_err, after_ok, memory}
 use Rattle.top_plans.specs.Status.{Refusal, above, ending_of, of_algorithm, of_sensors, status_of_algorithm, status_of_sensors}
-use Rattle.top_plans.specs.Given.{Given}
-use Rattle.top_plans.specs.Plans.{Made, algorithm_plan, table_in, table_plan, unless}
+use Rattle.top_plans.specs.declared.Status.{Status}
+use Rattle.top_plans.specs.Plans.{algorithm_in, algorithm_plan, table_in, table_plan, unless}
 use Rattle.compiler.specs.Compiles.{IsAlgorithm, IsRefused, MakesAlgorithm, makes_large, resolves_none, says_none}
 use Rattle.compiler.specs.Reads.{ReadsAlgorithm, ReadsTable}
 use Rattle.compiler.specs.declared.stages.Algorithm.{Algorithm}
 
-module _ {X : Type 0} (held : Held) (answer : Result X AlgoError) (next : X → Made) where
-  -- an algorithm's text or its definitions are refused
-  by_error : (e : AlgoError) → answer ≡ Err e → Makes held held (after of_algorithm answer next) (Err (ending_of (status_of_algorithm e)))
-  by_error (error.Refused fault) is = after_err held of_algorithm answer next (error.Refused fault) is
-  by_error (error.Limit fault) is = after_err held of_algorithm answer next (error.Limit fault) is
-  by_error error.TooLarge is = memory held (after of_algorithm answer next)
-  by_error error.OutOfMemory is = memory held (after of_algorithm answer next)
+module _ {A : Type 0} where
+  module _ {X : Type 0} (held : Held) (answer : Result X AlgoError) (next : X → Plan Refusal A) where
+    -- an algorithm's text or its definitions are refused
+    by_error : (e : AlgoError) → answer ≡ Err e → Makes held held (after of_algorithm answer next) (Err (ending_of (status_of_algorithm e)))
+    by_error (error.Refused fault) is = after_err held of_algorithm answer next (error.Refused fault) is
+    by_error (error.Limit fault) is = after_err held of_algorithm answer next (error.Limit fault) is
+    by_error error.TooLarge is = memory held (after of_algorithm answer next)
+    by_error error.OutOfMemory is = memory held (after of_algorithm answer next)
 
-module _ (text : Bytes) (next : Defs → Vertex → Made) where
-  abbrev behind : Made
-  behind = after of_algorithm (definitions_of text) (λ defs. after of_algorithm (elaboration_of defs) (next defs))
+  module _ (text : Bytes) (next : Defs → Vertex → Plan Refusal A) where
+    abbrev behind : Plan Refusal A
+    behind = after of_algorithm (definitions_of text) (λ defs. after of_algorithm (elaboration_of defs) (next defs))
 
-  is_refused : (held : Held) (e : AlgoError) → IsRefused text e → Makes held held behind (Err (ending_of (status_of_algorithm e)))
-  is_refused held e (says_none is) = by_error held (definitions_of text) (λ defs. after of_algorithm (elaboration_of defs) (next defs)) e is
-  is_refused held e (resolves_none defs says is) =
-      after_ok held held of_algorithm (definitions_of text) (λ ds. after of_algorithm (elaboration_of ds) (next ds)) (Err (ending_of (status_of_algorithm e))) defs says
-      (by_error held (elaboration_of defs) (next defs) e is)
+    is_refused : (held : Held) (e : AlgoError) → IsRefused text e → Makes held held behind (Err (ending_of (status_of_algorithm e)))
+    is_refused held e (says_none is) = by_error held (definitions_of text) (λ defs. after of_algorithm (elaboration_of defs) (next defs)) e is
+    is_refused held e (resolves_none defs says is) =
+        after_ok held held of_algorithm (definitions_of text) (λ ds. after of_algorithm (elaboration_of ds) (next ds)) (Err (ending_of (status_of_algorithm e))) defs says
+        (by_error held (elaboration_of defs) (next defs) e is)
 
-  pub refused_so : (held : Held) (e : AlgoError) → MakesAlgorithm text (Err e) → Makes held held behind (Err (ending_of (status_of_algorithm e)))
-  refused_so held (error.Refused fault) h = is_refused held (error.Refused fault) h
-  refused_so held (error.Limit fault) h = is_refused held (error.Limit fault) h
-  refused_so held error.TooLarge h = memory held behind
-  refused_so held error.OutOfMemory h = memory held behind
+    pub refused_so : (held : Held) (e : AlgoError) → MakesAlgorithm text (Err e) → Makes held held behind (Err (ending_of (status_of_algorithm e)))
+    refused_so held (error.Refused fault) h = is_refused held (error.Refused fault) h
+    refused_so held (error.Limit fault) h = is_refused held (error.Limit fault) h
+    refused_so held error.TooLarge h = memory held behind
+    refused_so held error.OutOfMemory h = memory held behind
 
-  pub resolved_so : (old new : Held) (algorithm : Algorithm) (made : Result Given (Ending Refusal)) → IsAlgorithm text algorithm → Makes old new (next algorithm.defs algorithm.tree) made → Makes old new behind made
-  resolved_so old new algorithm made is m =
-      after_ok old new of_algorithm (definitions_of text) (λ ds. after of_algorithm (elaboration_of ds) (next ds)) made algorithm.defs is.says
-      (after_ok old new of_algorithm (elaboration_of algorithm.defs) (next algorithm.defs) made algorithm.tree is.resolves m)
+    pub resolved_so : (old new : Held) (algorithm : Algorithm) (made : Result A (Ending Refusal)) → IsAlgorithm text algorithm → Makes old new (next algorithm.defs algorithm.tree) made → Makes old new behind made
+    resolved_so old new algorithm made is m =
+        after_ok old new of_algorithm (definitions_of text) (λ ds. after of_algorithm (elaboration_of ds) (next ds)) made algorithm.defs is.says
+        (after_ok old new of_algorithm (elaboration_of algorithm.defs) (next algorithm.defs) made algorithm.tree is.resolves m)
 
--- an algorithm was read, and then the plan went on with it
-pub went_on : (name : Bytes) (a b c : Held) (algorithm : Algorithm) (next : Defs → Vertex → Made) (made : Result Given (Ending Refusal))
-    → ReadsAlgorithm name a b (Ok algorithm) → Makes b c (next algorithm.defs algorithm.tree) made → Makes a c (algorithm_plan name next) made
-went_on name a b c algorithm next made (text, read, is) m = was_read b text read (resolved_so text next b c algorithm made is m)
+  -- an algorithm was read, and then the plan went on with it
+  pub went_on : (name : Bytes) (a b c : Held) (algorithm : Algorithm) (next : Defs → Vertex → Plan Refusal A) (made : Result A (Ending Refusal))
+      → ReadsAlgorithm name a b (Ok algorithm) → Makes b c (next algorithm.defs algorithm.tree) made → Makes a c (algorithm_plan name next) made
+  went_on name a b c algorithm next made (text, read, is) m = was_read b text read (resolved_so text next b c algorithm made is m)
 
--- a table is refused, or memory ran out
-pub table_refused : {X : Type 0} (held : Held) (answer : Result X SensorError) (next : X → Made) (e : SensorError) → table.Fails e answer
-    → Makes held held (after of_sensors answer next) (Err (ending_of (status_of_sensors e)))
-table_refused held answer next (sensors.Refused fault) (inl is) = after_err held of_sensors answer next (sensors.Refused fault) is
-table_refused held answer next (sensors.Limit fault) (inl is) = after_err held of_sensors answer next (sensors.Limit fault) is
-table_refused held answer next sensors.OutOfMemory h = memory held (after of_sensors answer next)
-table_refused held answer next (sensors.Refused fault) (inr wants) = cc
-table_refused held answer next (sensors.Limit fault) (inr wants) = cc
+  -- a file without an algorithm stops the plan
+  pub algorithm_stops : (name : Bytes) (old new : Held) (status : Status) (next : Defs → Vertex → Plan Refusal A) → ReadsAlgorithm name old new (Err status)
+      → Makes old new (algorithm_plan name next) (Err (ending_of status))
+  algorithm_stops name old new status next (inl failed) = not_read failed
+  algorithm_stops name old new status next (inr (text, read, (e, made, is))) =
+      was_read new text read (subst (λ (x : Status). Makes new new (algorithm_in text next) (Err (ending_of x))) (sym is) (refused_so text next new e made))
 
--- the rows of a table, and then the plan went on with them
-pub rows_so : (main : Vertex) (table : Bytes) (a b : Held) (rows : Reactions) (next : Reactions → Made) (made : Result Given (Ending Refusal))
-    → rows_of main (records default_config (strip_bom table)) ≡ Ok rows → Makes a b (next rows) made → Makes a b (table_in main table next) made
-rows_so main table a b rows next made tells m = after_ok a b of_sensors (rows_of main (records default_config (strip_bom table))) next made rows tells m
+  -- a table is refused, or memory ran out
+  pub table_refused : {X : Type 0} (held : Held) (answer : Result X SensorError) (next : X → Plan Refusal A) (e : SensorError) → table.Fails e answer
+      → Makes held held (after of_sensors answer next) (Err (ending_of (status_of_sensors e)))
+  table_refused held answer next (sensors.Refused fault) (inl is) = after_err held of_sensors answer next (sensors.Refused fault) is
+  table_refused held answer next (sensors.Limit fault) (inl is) = after_err held of_sensors answer next (sensors.Limit fault) is
+  table_refused held answer next sensors.OutOfMemory h = memory held (after of_sensors answer next)
+  table_refused held answer next (sensors.Refused fault) (inr wants) = cc
+  table_refused held answer next (sensors.Limit fault) (inr wants) = cc
 
--- a table was read, and then the plan went on with its rows
-pub rows_went_on : (main : Vertex) (name : Bytes) (a b c : Held) (rows : Reactions) (next : Reactions → Made) (made : Result Given (Ending Refusal))
-    → ReadsTable main name a b (Ok rows) → Makes b c (next rows) made → Makes a c (table_plan main name next) made
-rows_went_on main name a b c rows next made (table, read, is) m = was_read b table read (rows_so main table b c rows next made is.0 m)
+  -- the rows of a table, and then the plan went on with them
+  pub rows_so : (main : Vertex) (table : Bytes) (a b : Held) (rows : Reactions) (next : Reactions → Plan Refusal A) (made : Result A (Ending Refusal))
+      → rows_of main (records default_config (strip_bom table)) ≡ Ok rows → Makes a b (next rows) made → Makes a b (table_in main table next) made
+  rows_so main table a b rows next made tells m = after_ok a b of_sensors (rows_of main (records default_config (strip_bom table))) next made rows tells m
 
--- more than there may be
-pub is_above : (held : Held) (o : Option LimitFault) (fault : LimitFault) (next : Made) → o ≡ Some fault → Makes held held (unless o next) (Err (refused (above fault)))
-is_above held o fault next is = subst (λ (x : Option LimitFault). Makes held held (unless x next) (Err (refused (above fault)))) (sym is) (refuses (inl refl, λ file name. refl))
+  -- a table was read, and then the plan went on with its rows
+  pub rows_went_on : (main : Vertex) (name : Bytes) (a b c : Held) (rows : Reactions) (next : Reactions → Plan Refusal A) (made : Result A (Ending Refusal))
+      → ReadsTable main name a b (Ok rows) → Makes b c (next rows) made → Makes a c (table_plan main name next) made
+  rows_went_on main name a b c rows next made (table, read, is) m = was_read b table read (rows_so main table b c rows next made is.0 m)
 
-pub is_within : (old new : Held) (o : Option LimitFault) (next : Made) (made : Result Given (Ending Refusal)) → o ≡ None → Makes old new next made → Makes old new (unless o next) made
-is_within old new o next made is m = subst (λ (x : Option LimitFault). Makes old new (unless x next) made) (sym is) m
+  -- a file without a table for these sensors stops the plan
+  pub table_stops : (main : Vertex) (name : Bytes) (old new : Held) (status : Status) (next : Reactions → Plan Refusal A) → ReadsTable main name old new (Err status)
+      → Makes old new (table_plan main name next) (Err (ending_of status))
+  table_stops main name old new status next (inl failed) = not_read failed
+  table_stops main name old new status next (inr (table, read, (e, made, is))) =
+      was_read new table read (subst (λ (x : Status). Makes new new (table_in main table next) (Err (ending_of x))) (sym is)
+      (table_refused new (rows_of main (records default_config (strip_bom table))) next e made))
+
+  -- more than there may be
+  pub is_above : (held : Held) (o : Option LimitFault) (fault : LimitFault) (next : Plan Refusal A) → o ≡ Some fault → Makes held held (unless o next) (Err (refused (above fault)))
+  is_above held o fault next is = subst (λ (x : Option LimitFault). Makes held held (unless x next) (Err (refused (above fault)))) (sym is) (refuses (inl refl, λ file name. refl))
+
+  pub is_within : (old new : Held) (o : Option LimitFault) (next : Plan Refusal A) (made : Result A (Ending Refusal)) → o ≡ None → Makes old new next made → Makes old new (unless o next) made
+  is_within old new o next made is m = subst (λ (x : Option LimitFault). Makes old new (unless x next) made) (sym is) m
 
 -- the definitions of a text are refused
 pub by_definitions : (text : Bytes) (defs : Defs) (e : AlgoError) → definitions_of text ≡ Ok defs → Gives {A = Vertex} (Err e) (bounded_elaboration defs) → MakesAlgorithm text (Err e)

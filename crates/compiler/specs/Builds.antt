@@ -1,22 +1,22 @@
--- What building the program of an accepted architecture answers.
-use Rattle.std.specs.Prelude.{◌≡◌, length, None, Result, Ok, Err}
+-- What building the program of a schedule answers.
+use Rattle.std.specs.Prelude.{◌≡◌, ◌⊎◌, length, Some, None, Result, Ok, Err}
+use Rattle.syn_base.specs.declared.limits.LimitFault.{LimitFault}
 use Rattle.sequence_build_laws.specs.Archi.{Architecture as Archi}
-use Rattle.sequence_build_laws.specs.Table.{Table}
+use Rattle.sequence_build_laws.specs.Built.{program_of}
 use Rattle.sequence_build_laws.specs.Graph.{Graph}
 use Rattle.sequence_build_laws.specs.Sequences.{sequences}
 use Rattle.sequence_build_laws.specs.declared.Program.{Program}
+use Rattle.sequence_build_laws.specs.declared.Schedule.{Schedule}
 use Rattle.sequence_build_laws.specs.WellFormed.{IsWellFormed}
-use Rattle.top_plans.specs.Shelf.{Held}
 use Rattle.top_plans.specs.Limit.{program_limit}
-use Rattle.top_plans.specs.Run.{Makes}
-use Rattle.top_plans.specs.Status.{ending_of}
 use Rattle.top_plans.specs.declared.Status.{Status}
-use Rattle.top_plans.specs.Plans.{Made, program_by, program_plan}
+use Rattle.top_plans.specs.declared.Status.TheVariants.{Limit, OutOfMemory}
 
--- the program of the pressure run, within its limits and well formed; or carrying on from it ends so, whatever follows
-abbrev pub BuildsProgram : Graph → Archi → Table → Result Program Status → Type 0
-BuildsProgram g a t (Ok p) =
-    (p ≡ program_by g a t) × (program_limit (program_by g a t) (length a.media) ≡ None) ×
+-- the program of a schedule, within its limits and well formed; or the first limit that it is above; or want of memory
+abbrev pub BuildsProgram : Graph → Archi → Schedule → Result Program Status → Type 0
+BuildsProgram g a s (Ok p) =
+    (p ≡ program_of g a s) × (program_limit (program_of g a s) (length a.media) ≡ None) ×
     IsWellFormed p g (sequences a) (length a.media)
-BuildsProgram g a t (Err status) =
-    (held : Held) (next : Program → Made) → Makes held held (program_plan g a t next) (Err (ending_of status))
+BuildsProgram g a s (Err status) =
+    (status ≡ OutOfMemory) ⊎
+    ((fault : LimitFault) × (program_limit (program_of g a s) (length a.media) ≡ Some fault) × (status ≡ Limit fault))

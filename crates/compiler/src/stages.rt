@@ -19,7 +19,6 @@ ghost use Rattle.sequence_build_laws.specs.Text.{description_of};
 ghost use Rattle.sequence_build_laws.specs.DurationLines.{AreDurations};
 ghost use Rattle.sequence_build_laws.specs.Table.{entry_in};
 ghost use Rattle.sequence_build_laws.specs.ScheduleValid.{is_valid};
-ghost use Rattle.sequence_build_laws.specs.Built.{program_of};
 ghost use Rattle.compiler.specs.Builds.{BuildsProgram};
 ghost use Rattle.compiler.specs.Compiles.{FindsDurations, HasDurations, MakesAlgorithm, MakesCompilation};
 ghost use Rattle.top_plans.specs.FlatOf.{flat_of};
@@ -177,20 +176,15 @@ pub fn find_schedule(alloc: Global, compilation: &Compilation) -> Result<Schedul
     adequation(alloc, flat, archi, &compilation.durations)
 }
 
-/// Stage 6: the program of the schedule of the pressure run, or the first limit that refuses it.
+/// Stage 6: the program of a valid schedule, or the first limit that refuses it.
 pub fn build_program(
     alloc: Global,
     compilation: &Compilation,
     schedule: &Schedule,
 ) -> Result<Program, Status>
-    requires run { schedule.now ≡ schedule_of compilation.now.flat
-        compilation.now.text.archi compilation.now.durations }
-    requires valid { IsTrue (is_valid compilation.now.flat compilation.now.text.archi
+    requires { IsTrue (is_valid compilation.now.flat compilation.now.text.archi
         (entry_in compilation.now.durations) schedule.now) }
-    ensures builds { BuildsProgram compilation.now.flat compilation.now.text.archi
-        compilation.now.durations result }
-    ensures program { IfOk result (λ p. p ≡
-        program_of compilation.now.flat compilation.now.text.archi schedule.now) }
+    ensures { BuildsProgram compilation.now.flat compilation.now.text.archi schedule.now result }
 {
     match build(alloc, &compilation.flat, &compilation.text.archi, schedule) {
         Ok(program) => Ok(program),
@@ -203,7 +197,7 @@ pub fn build_program(
 pub fn compile_to_program(alloc: Global, compilation: &Compilation) -> Result<Program, Status>
     requires { HasDurations compilation.now }
     ensures { BuildsProgram compilation.now.flat compilation.now.text.archi
-        compilation.now.durations result }
+        (schedule_of compilation.now.flat compilation.now.text.archi compilation.now.durations) result }
 {
     let schedule = find_schedule(alloc, compilation)?;
     build_program(alloc, compilation, &schedule)

@@ -5,36 +5,33 @@ use Rattle.syn_base.specs.Bytes.{Bytes}
 use Rattle.syn_base.specs.Rows.{Reactions}
 use Rattle.text_lines.specs.Refusals.{Refused, Limit, Fails}
 use Rattle.text_lines.specs.declared.fault.TextError.TheVariants as error
-use Rattle.csv.specs.Reading.{default_config, records, strip_bom}
 use Rattle.algo_laws.specs.declared.Defs.{Defs}
-use Rattle.algo_laws.specs.Text.{definitions_of}
 use Rattle.algo_laws.specs.Tree.{Vertex}
-use Rattle.self_timed.specs.Text.{Described, description_of, described_by}
+use Rattle.self_timed.specs.Text.{Described, described_by}
 use Rattle.self_timed.specs.declared.ArchiText.{ArchiText}
 use Rattle.self_timed.specs.Archi.{Architecture as Archi}
 use Rattle.self_timed.specs.Graph.{Graph}
-use Rattle.self_timed.specs.Table.{Table, durations_of}
+use Rattle.self_timed.specs.Table.{Table}
 use Rattle.self_timed.specs.declared.Schedule.{Schedule}
 use Rattle.top_plans.specs.Shelf.{Held}
 use Rattle.top_plans.specs.Sink.{Sunk}
 use Rattle.top_plans.specs.declared.File.{File}
 use Rattle.top_plans.specs.declared.File.TheVariants.{Architecture, Durations}
-use Rattle.top_plans.specs.Elaborated.{elaboration_of}
 use Rattle.top_plans.specs.ReadText.{program_in}
 use Rattle.top_plans.specs.CodeRefusals.{CodeError}
-use Rattle.top_plans.specs.FlatOf.{flat_of}
-use Rattle.top_plans.specs.SensorTable.{rows_of}
-use Rattle.top_plans.specs.Plan.{after, give}
+use Rattle.top_plans.specs.Plan.{give}
 use Rattle.top_plans.specs.Ending.{Ending, no_memory, refused}
 use Rattle.top_plans.specs.Run.{Makes, WasRead, was_read}
-use Rattle.top_plans.proofs.Makes.{after_err, after_ok, gave, memory}
-use Rattle.top_plans.specs.Status.{Refusal, ending_of, of_algorithm, of_architecture, of_code, of_sensors, status_of_code}
+use Rattle.top_plans.proofs.Makes.{after_err, gave, memory}
+use Rattle.top_plans.specs.Status.{Refusal, ending_of, of_code, status_of_code}
 use Rattle.top_plans.specs.declared.Status.{Status}
 use Rattle.top_plans.specs.Plans.{algorithm_plan, architecture_in, architecture_plan, described_in, read_file, table_plan}
 use Rattle.compiler.specs.Compiles.{IsCompilation}
 use Rattle.compiler.specs.Reads.{ReadsAlgorithm, ReadsCompilation, ReadsDescription, ReadsTable}
 use Rattle.compiler.specs.declared.stages.Algorithm.{Algorithm}
 use Rattle.compiler.specs.declared.stages.Compilation.{Compilation}
+use Rattle.compiler.proofs.Architectures as architectures
+use Rattle.compiler.proofs.Steps as steps
 use Rattle.lab_words.specs.Command.{Command, Effort, Form}
 use Rattle.lab_plans.specs.Asked.{Asked, of_dates}
 use Rattle.lab_plans.specs.Answers.{answer}
@@ -60,40 +57,22 @@ found_so asked held result (inr h) = (Ok asked, gave held asked (Ok asked) refl,
 -- an algorithm was read, and then the plan went on with it
 pub went_on : {A : Type 0} (name : Bytes) (a b c : Held) (algorithm : Algorithm) (next : Defs → Vertex → Asks) (result : Result (Vec ℕ A) Status)
     → ReadsAlgorithm name a b (Ok algorithm) → Carries (next algorithm.defs algorithm.tree) b c result → Carries (algorithm_plan name next) a c result
-went_on name a b c algorithm next result (text, read, is) (made, m, h) = (
-  made,
-  was_read b text read (after_ok b c of_algorithm (definitions_of text) (λ defs. after of_algorithm (elaboration_of defs) (next defs)) made algorithm.defs is.says
-      (after_ok b c of_algorithm (elaboration_of algorithm.defs) (next algorithm.defs) made algorithm.tree is.resolves m)),
-  h,
-)
+went_on name a b c algorithm next result reads (made, m, h) = (made, steps.went_on name a b c algorithm next made reads m, h)
 
 -- a compilation was made of a text, and then the plan went on with it
 pub compiled_in : {A : Type 0} (main : Vertex) (text : Bytes) (held : Held) (compilation : Compilation) (next : Described → Table → Asks) (result : Result (Vec ℕ A) Status)
     → IsCompilation main text compilation → Carries (next (described_by compilation.text) compilation.durations) held held result → Carries (architecture_in text main next) held held result
-compiled_in main text held compilation next result is (made, m, h) =
-    let d = described_by compilation.text in (
-      made,
-      after_ok held held of_architecture (description_of text) (λ d. after of_architecture (durations_of (flat_of main) d) (next d)) made d is.says
-          (after_ok held held of_architecture (durations_of (flat_of main) d) (next d) made compilation.durations is.lasts m),
-      h,
-    )
+compiled_in main text held compilation next result is (made, m, h) = (made, architectures.described_so main text next held held compilation made is m, h)
 
 -- a compilation was made from a file, and then the plan went on with it
 pub compiled_on : {A : Type 0} (main : Vertex) (name : Bytes) (a b c : Held) (compilation : Compilation) (next : Described → Table → Asks) (result : Result (Vec ℕ A) Status)
     → ReadsCompilation main name a b (Ok compilation) → Carries (next (described_by compilation.text) compilation.durations) b c result → Carries (architecture_plan name main next) a c result
-compiled_on main name a b c compilation next result (text, read, is) (made, m, h) =
-    let d = described_by compilation.text in (
-      made,
-      was_read b text read (after_ok b c of_architecture (description_of text) (λ d. after of_architecture (durations_of (flat_of main) d) (next d)) made d is.says
-          (after_ok b c of_architecture (durations_of (flat_of main) d) (next d) made compilation.durations is.lasts m)),
-      h,
-    )
+compiled_on main name a b c compilation next result reads (made, m, h) = (made, architectures.went_on main name a b c compilation next made reads m, h)
 
 -- a description was read, and then the plan went on with it
 pub described_on : {A : Type 0} (name : Bytes) (a b c : Held) (text : ArchiText) (next : Described → Asks) (result : Result (Vec ℕ A) Status)
     → ReadsDescription name a b (Ok text) → Carries (next (described_by text)) b c result → Carries (read_file Architecture name (λ bytes. described_in bytes next)) a c result
-described_on name a b c text next result (bytes, read, is) (made, m, h) =
-    (made, was_read b bytes read (after_ok b c of_architecture (description_of bytes) next made (described_by text) is m), h)
+described_on name a b c text next result reads (made, m, h) = (made, architectures.text_went_on name a b c text next made reads m, h)
 
 -- macro-code was refused, or memory ran out
 pub code_refused : {A : Type 0} (g : Graph) (a : Archi) (text : Bytes) (held : Held) (e : CodeError) → Fails e (program_in text g a) → Carries {A = A} (why_of_code g a text) held held (Err (status_of_code e))
@@ -104,11 +83,7 @@ code_refused g a text held error.OutOfMemory is = wanted (why_of_code g a text) 
 -- a table was read, and then the plan went on with its rows
 pub rows_on : {A : Type 0} (main : Vertex) (name : Bytes) (a b c : Held) (rows : Reactions) (next : Reactions → Asks) (result : Result (Vec ℕ A) Status)
     → ReadsTable main name a b (Ok rows) → Carries (next rows) b c result → Carries (table_plan main name next) a c result
-rows_on main name a b c rows next result (table, read, is) (made, m, h) = (
-  made,
-  was_read b table read (after_ok b c of_sensors (rows_of main (records default_config (strip_bom table))) next made rows is.0 m),
-  h,
-)
+rows_on main name a b c rows next result reads (made, m, h) = (made, steps.rows_went_on main name a b c rows next made reads m, h)
 
 -- the text was made, and then it was written
 ends_so : {A : Type 0} (answered : Result Bytes Refusal) (result : Result (Vec ℕ A) Status) (sunk sunk' : Sunk) (ending : Ending Refusal) → Is answered result → Written result sunk sunk' ending → Ends answered sunk sunk' ending

@@ -1,4 +1,3 @@
-pub mod Stops
 pub mod Carried
 pub mod Counts
 pub mod Schedules

@@ -12,18 +12,18 @@ use Rattle.top_plans.specs.declared.Status.{Status}
 use Rattle.lab_words.specs.Command.{Form}
 use Rattle.lab_plans.specs.Asked.{Asked, IsFoundFor, Problem}
 use Rattle.lab_plans.specs.Answers.{answer, dates_by, form_text, limit, within}
-use Rattle.lab_program.specs.Found.{Builds}
+use Rattle.compiler.specs.Builds.{BuildsProgram}
 use Rattle.lab_program.specs.Texts.{Gives, GivesOfFound, Is}
 
 module _ (A : Type 0) where
   -- the program of a schedule was refused, or memory ran out
-  pub not_built : (p : Problem) (s : Schedule) (text : Bytes) (status : Status) → Builds p s (Err status) → Gives {A = A} (within (limit p s) text) (Err status)
+  pub not_built : (p : Problem) (s : Schedule) (text : Bytes) (status : Status) → BuildsProgram p.graph p.archi s (Err status) → Gives {A = A} (within (limit p s) text) (Err status)
   not_built p s text status (inl is) = inl (ap ending_of is)
   not_built p s text status (inr (fault, over, is)) =
       inr (subst (λ (o : Option LimitFault). Is {A = A} (within o text) (Err status)) (sym over) (ap ending_of is))
 
   -- so there are no dates
-  pub undated : (form : Form) (p : Problem) (n : ℕ) (s : Schedule) (r : Result (List ℕ) ActualError) (ticks : List ℕ) (status : Status) → r ≡ Ok ticks → Builds p s (Err status)
+  pub undated : (form : Form) (p : Problem) (n : ℕ) (s : Schedule) (r : Result (List ℕ) ActualError) (ticks : List ℕ) (status : Status) → r ≡ Ok ticks → BuildsProgram p.graph p.archi s (Err status)
       → Gives {A = A} (dates_by form p n s r) (Err status)
   undated form p n s r ticks status is failed =
       subst (λ (x : Result (List ℕ) ActualError). Gives {A = A} (dates_by form p n s x) (Err status)) (sym is)

@@ -1,21 +1,18 @@
-//! What the commands make of a compilation: a schedule that is searched, and its program.
-ghost use Rattle.std.specs.Prelude.{◌≡◌, IfOk, IsTrue};
+//! What the commands make of a compilation: a schedule that is searched.
+ghost use Rattle.std.specs.Prelude.{◌≡◌, IfOk};
 ghost use Rattle.compiler.specs.Compiles.{HasDurations};
-ghost use Rattle.self_timed.specs.Table.{entry_in};
-ghost use Rattle.self_timed.specs.ScheduleValid.{is_valid};
 ghost use Rattle.lab_plans.specs.Asked.{IsFound};
-ghost use Rattle.lab_words.specs.Command.{Effort as Tried, for_length, for_period};
+ghost use Rattle.lab_words.specs.Command.{for_length, for_period};
 ghost use Rattle.lab_words.specs.View.{effort_view, goal_view};
 ghost use Rattle.plan_costs.specs.declared.site.Goal.TheVariants.{Length, Period};
-ghost use Rattle.lab_program.specs.Found.{Builds, problem_of};
+ghost use Rattle.lab_program.specs.Found.{problem_of};
 
 use compiler::Compilation;
 use lab_words::{Effort, Goal};
 use schedule_search::{Goal as Sought, search};
-use self_timed::{Program, Schedule, durations_fit};
+use self_timed::{Schedule, durations_fit};
 use std::alloc::Global;
 use syn_base::OutOfMemory;
-use top_plans::{BuildError, Status, build};
 
 /// A schedule of what was compiled, by a search of this effort.
 pub fn find_schedule(
@@ -47,22 +44,5 @@ fn goal_of(goal: Goal) -> Sought
     match goal {
         Goal::Length => Sought::Length,
         Goal::Period => Sought::Period,
-    }
-}
-
-/// The program of a schedule, or the first limit that refuses it.
-pub fn build_program(
-    alloc: Global,
-    compilation: &Compilation,
-    schedule: &Schedule,
-) -> Result<Program, Status>
-    requires { IsTrue (is_valid compilation.now.flat compilation.now.text.archi
-        (entry_in compilation.now.durations) schedule.now) }
-    ensures { (effort : Tried) → Builds (problem_of compilation.now effort) schedule.now result }
-{
-    match build(alloc, &compilation.flat, &compilation.text.archi, schedule) {
-        Ok(program) => Ok(program),
-        Err(BuildError::Limit(limit)) => Err(Status::Limit(limit)),
-        Err(BuildError::OutOfMemory) => Err(Status::OutOfMemory),
     }
 }

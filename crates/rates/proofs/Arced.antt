@@ -8,7 +8,8 @@ use Rattle.self_timed.specs.Acts.{Act}
 use Rattle.self_timed.specs.Tight.{same_line, reads_from}
 use Rattle.self_timed.specs.Serial.{numbers_where}
 use Rattle.self_timed.specs.Dates.{Event, event, last_where, latest_of, ago, has_reader, needs}
-use Rattle.rates.specs.Arcs.{Arc, arc, latest_arc, arcs, back_from}
+use Rattle.rates.specs.declared.table.Arc.{Arc}
+use Rattle.rates.specs.Arcs.{arc, latest_arc, arcs, back_from}
 
 back-append : (k : ℕ) (xs ys : List Arc) → back_from k (xs ++ ys) ≡ back_from k xs ++ back_from k ys
 back-append k [] ys = refl

@@ -16,7 +16,8 @@ use Rattle.self_timed.specs.Dates.{event, with_act}
 use Rattle.self_timed.specs.Entries.{stated}
 use Rattle.self_timed.proofs.Needs.{needs_are}
 use Rattle.self_timed.proofs.Bounds.{ended_before}
-use Rattle.rates.specs.Arcs.{Arc, arcs}
+use Rattle.rates.specs.declared.table.Arc.{Arc}
+use Rattle.rates.specs.Arcs.{arcs}
 use Rattle.rates.specs.Rates.{stated_at, Sustains}
 use Rattle.rates.proofs.Arced.{to_need}
 

@@ -9,7 +9,7 @@ use Rattle.self_timed.specs.Acts.{Act}
 use Rattle.self_timed.specs.Dates.{event, needs}
 use Rattle.self_timed.proofs.Needs.{needs_are}
 use Rattle.self_timed.proofs.Lined.{greatest_above}
-use Rattle.rates.specs.Arcs.{Arc}
+use Rattle.rates.specs.declared.table.Arc.{Arc}
 use Rattle.rates.specs.Rates.{NoneShorterThan, KeepsOrder, Sustains, Precedes, begin_or, IsWayTo, IsCycle, IsCriticalCycle, lags, length_over}
 use Rattle.rates.proofs.Arced.{to_need}
 

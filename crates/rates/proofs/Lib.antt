@@ -5,6 +5,11 @@ pub mod Charted
 pub mod Tested
 pub mod Walked
 pub mod Clocked
+pub mod Tabled
+pub mod Searching
+pub mod Exceeded
+pub mod Exact
+pub mod Single
 pub mod Whole
 pub mod WorkedArcs
 pub mod WorkedRates

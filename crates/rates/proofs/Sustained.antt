@@ -9,7 +9,8 @@ use Rattle.self_timed.specs.Dates.{Event, event, needs, AreDates}
 use Rattle.syn_base.specs.Numbers.{greatest}
 use Rattle.self_timed.proofs.Needs.{needs_are}
 use Rattle.self_timed.proofs.Ranks.{by_reaction}
-use Rattle.rates.specs.Arcs.{Arc, arcs}
+use Rattle.rates.specs.declared.table.Arc.{Arc}
+use Rattle.rates.specs.Arcs.{arcs}
 use Rattle.rates.specs.Rates.{NoneLongerThan, Sustains}
 use Rattle.rates.proofs.Arced.{to_need, of_need}
 

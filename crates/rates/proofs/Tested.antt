@@ -7,13 +7,14 @@ use Rattle.std.proofs.lemmas.Option.{same_Some}
 use Rattle.self_timed.specs.declared.Vertex.{Vertex}
 use Rattle.self_timed.specs.Acts.{Act}
 use Rattle.self_timed.proofs.Lists.{all_at}
-use Rattle.rates.specs.Arcs.{Arc, arcs}
+use Rattle.rates.specs.declared.table.Arc.{Arc}
+use Rattle.rates.specs.Arcs.{arcs}
 use Rattle.rates.specs.Rates.{Sustains, is_sustained, is_sustained_from}
 
 pub both : (a b : Bool) → a ≡ true → b ≡ true → (a && b) ≡ true
 both a b e f = ap (λ (c : Bool). c && b) e ∙ f
 
-all_pass : {A : Type 0} (p : A → Bool) (xs : List A) → ((r : ℕ) (x : A) → slice_get xs r ≡ Some x → p x ≡ true) → list_all p xs ≡ true
+pub all_pass : {A : Type 0} (p : A → Bool) (xs : List A) → ((r : ℕ) (x : A) → slice_get xs r ≡ Some x → p x ≡ true) → list_all p xs ≡ true
 all_pass p [] h = refl
 all_pass p (x ∷ xs) h = both (p x) (list_all p xs) (h 0 x refl) (all_pass p xs (λ r y e. h (suc r) y e))
 

@@ -5,7 +5,8 @@ use Rattle.std.proofs.lemmas.Bool.{false≢true, and_parts, eqb-true, leb-true, 
 use Rattle.self_timed.specs.declared.Vertex.{Vertex}
 use Rattle.self_timed.specs.Acts.{Act}
 use Rattle.self_timed.proofs.Reading.{any_of, any_at}
-use Rattle.rates.specs.Arcs.{Arc, arcs}
+use Rattle.rates.specs.declared.table.Arc.{Arc}
+use Rattle.rates.specs.Arcs.{arcs}
 use Rattle.rates.specs.Rates.{Precedes, IsWayTo, IsCycle, IsCriticalCycle, begin_or, lags, length_over, same_arc, has_arc, is_way_to, is_cycle, is_critical_cycle}
 use Rattle.rates.proofs.Tested.{both}
 

@@ -1,17 +1,21 @@
 -- The laws of rates, each as its contract states it.
-use Rattle.std.proofs.Common.{◌≡◌, ℕ, ◌<◌, List, [], ◌∷◌, Some, arith}
+use Rattle.std.proofs.Common.{◌≡◌, ℕ, ◌<◌, List, [], ◌∷◌, Some, inl, inr, arith}
 use Rattle.std.specs.Prelude.{slice_get}
 use Rattle.self_timed.specs.declared.Vertex.{Vertex}
 use Rattle.self_timed.specs.Acts.{Act}
-use Rattle.rates.specs.Arcs.{Arc}
+use Rattle.rates.specs.declared.table.Arc.{Arc}
 use Rattle.rates.specs.Rates.{lags, IsWayTo}
-use Rattle.rates.specs.Laws.{ArcsAreNeeds, SustainsIsOfNeeds, RatesAreSustained, ChartIsSustained, NoExecutiveIsFaster, NoRateIsBelowACycle, CriticalCyclesAreExact, CyclesTakeReactions, SustainedIsTested, CycleIsTested, ClockKeepsOrder}
+use Rattle.rates.specs.Laws.{ArcsAreNeeds, SustainsIsOfNeeds, RatesAreSustained, ChartIsSustained, NoExecutiveIsFaster, NoRateIsBelowACycle, CriticalCyclesAreExact, CyclesTakeReactions, SustainedIsTested, CycleIsTested, EveryRateIsSustainedOrExceeded, ExactRatesAreOne, SomeRateIsExact, TablesAreTested, ClockKeepsOrder}
 use Rattle.rates.proofs.Arced.{arcs_are_needs as are_needs}
 use Rattle.rates.proofs.Sustained.{of_events, from_events, sustained}
 use Rattle.rates.proofs.Cycles.{turns, no_faster, exact_below, takes_reactions}
 use Rattle.rates.proofs.Tested.{tested, passes}
 use Rattle.rates.proofs.Walked.{cycle, cycled, critical, is_tested}
+use Rattle.rates.proofs.Tabled.{rows_tested, critical_tested}
 use Rattle.rates.proofs.Clocked.{keeps}
+use Rattle.rates.proofs.Exceeded.{found}
+use Rattle.rates.proofs.Exact.{exact}
+use Rattle.rates.proofs.Single.{one_rate}
 use Rattle.rates.proofs.Charted.{chart_is_sustained as charted}
 
 pub arcs_are_needs : ArcsAreNeeds
@@ -60,6 +64,24 @@ pub cycle_is_tested : CycleIsTested
 cycle_is_tested depth vertices xs i way = (
   (cycle depth vertices xs i way, cycled depth vertices xs i way),
   λ long ticks reactions. (critical depth vertices xs i way long ticks reactions, is_tested depth vertices xs i way long ticks reactions),
+)
+
+pub every_rate_is_sustained_or_exceeded : EveryRateIsSustainedOrExceeded
+every_rate_is_sustained_or_exceeded depth vertices xs deep long ticks reactions = elim (found depth deep vertices xs long ticks reactions) [
+  | inl f ↦ inl f
+  | inr c ↦ inr (c.0, c.1, c.2, c.3)
+]
+
+pub some_rate_is_exact : SomeRateIsExact
+some_rate_is_exact depth vertices xs deep long = exact depth deep vertices xs long
+
+pub exact_rates_are_one : ExactRatesAreOne
+exact_rates_are_one = one_rate
+
+pub tables_are_tested : TablesAreTested
+tables_are_tested depth vertices xs table is long ticks reactions = (
+  rows_tested depth vertices xs table is long ticks reactions,
+  critical_tested depth vertices xs table is long ticks reactions,
 )
 
 pub clock_keeps_order : ClockKeepsOrder

@@ -6,7 +6,8 @@ use Rattle.self_timed.specs.declared.Schedule.{Schedule}
 use Rattle.self_timed.specs.Acts.{Act, acts}
 use Rattle.self_timed.proofs.Examples.{carried, operation, placed, schedule, source, plain_graph, plain_schedule, bus_graph, bus_schedule, multi_graph}
 use Rattle.self_timed.specs.Dates.{event}
-use Rattle.rates.specs.Arcs.{Arc, arc, arcs, back_from}
+use Rattle.rates.specs.declared.table.Arc.{Arc}
+use Rattle.rates.specs.Arcs.{arc, arcs, back_from}
 
 abbrev arcs_from : ℕ → Graph → Schedule → ℕ → List Act → List (List Arc)
 arcs_from depth g s i [] = []

@@ -11,8 +11,10 @@ use Rattle.self_timed.proofs.Examples.{archi, carried, placed, schedule, bus_gra
 use Rattle.self_timed.specs.Dates.{with_act}
 use Rattle.self_timed.specs.Entries.{stated}
 use Rattle.self_timed.specs.Laws.{NoLaterThanStated}
-use Rattle.rates.specs.Arcs.{Arc, arc}
+use Rattle.rates.specs.declared.table.Arc.{Arc}
+use Rattle.rates.specs.Arcs.{arc}
 use Rattle.rates.specs.Rates.{stated_at, Sustains, is_sustained, is_cycle, is_critical_cycle}
+use Rattle.rates.specs.Tables.{at, is_critical_in, rows_fit}
 use Rattle.rates.proofs.WorkedArcs.{chain_schedule, delay_graph, delay_schedule, lone_schedule}
 use Rattle.rates.proofs.Whole.{rates_are_sustained, chart_is_sustained, no_rate_is_below_a_cycle, cycle_is_tested}
 
@@ -41,6 +43,17 @@ chain_sustains = (refl, refl, refl, refl)
 chain_cycle : (critical 1 plain_graph chain_schedule 10 1 1 (arc 0 1 ∷ arc 1 2 ∷ []) ≡ true) × (critical 2 plain_graph chain_schedule 7 1 2 (arc 1 2 ∷ []) ≡ true)
     × (critical 2 plain_graph chain_schedule 10 1 1 (arc 0 1 ∷ arc 1 2 ∷ []) ≡ false) × (critical 2 plain_graph chain_schedule 5 1 1 (arc 0 1 ∷ arc 2 2 ∷ []) ≡ true)
 chain_cycle = (refl, refl, refl, refl)
+
+-- over a table, with the rows of the chain in another order
+abbrev chain_table : List (List Arc)
+chain_table = (arc 1 1 ∷ arc 1 0 ∷ []) ∷ (arc 1 2 ∷ arc 0 0 ∷ arc 1 1 ∷ []) ∷ (arc 0 1 ∷ arc 1 2 ∷ []) ∷ []
+
+abbrev chain_long : ℕ → ℕ
+chain_long i = at (2 ∷ 3 ∷ 7 ∷ []) i
+
+chain_fits : (rows_fit chain_long 10 1 (at (2 ∷ 5 ∷ 12 ∷ [])) chain_table ≡ true) × (rows_fit chain_long 9 1 (at (2 ∷ 5 ∷ 12 ∷ [])) chain_table ≡ false)
+    × (is_critical_in chain_table chain_long 10 1 1 (arc 0 1 ∷ arc 1 2 ∷ []) ≡ true) × (is_critical_in chain_table chain_long 10 1 2 (arc 0 1 ∷ arc 1 2 ∷ []) ≡ false)
+chain_fits = (refl, refl, refl, refl)
 
 -- A delay: with one place function and transfer take turns, 12 ticks, with two the first operator is never idle, 11 ticks. The chart's own
 -- ends do not fit: the get half has to wait for the set half of the reaction before, which ends at 13.

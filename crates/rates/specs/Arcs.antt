@@ -20,13 +20,9 @@ use Rattle.self_timed.specs.Acts.{Act}
 use Rattle.self_timed.specs.Tight.{same_line, reads_from}
 use Rattle.self_timed.specs.Serial.{numbers_where}
 use Rattle.self_timed.specs.Dates.{Event, event, last_where, has_reader}
+use Rattle.rates.specs.declared.table.Arc.{Arc}
 
--- An arc leads back to an act, by its number from 0, this many reactions before.
-pub record Arc : Type 0 where
-  pub act : ℕ
-  pub lag : ℕ
-
--- The arc to act i, this many reactions before.
+-- The arc to act i, by its number from 0, this many reactions before.
 abbrev pub arc : ℕ → ℕ → Arc
 arc lag i = record { act = i; lag = lag }
 

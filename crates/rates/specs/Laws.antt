@@ -3,6 +3,7 @@
 use Rattle.std.specs.Prelude.{
   ◌≡◌,
   ◌↔◌,
+  ◌⊎◌,
   ◌≤◌,
   ◌<◌,
   ◌+◌,
@@ -24,7 +25,8 @@ use Rattle.self_timed.specs.declared.Schedule.{Schedule}
 use Rattle.self_timed.specs.Acts.{Act, acts, end_of, length_of}
 use Rattle.self_timed.specs.ScheduleValid.{is_valid}
 use Rattle.self_timed.specs.Dates.{Event, needs, with_act, AreDates}
-use Rattle.rates.specs.Arcs.{Arc, arcs, back_from}
+use Rattle.rates.specs.declared.table.Arc.{Arc}
+use Rattle.rates.specs.Arcs.{arcs, back_from}
 use Rattle.rates.specs.Rates.{
   stated_at,
   NoneLongerThan,
@@ -40,6 +42,7 @@ use Rattle.rates.specs.Rates.{
   lags,
   length_over,
 }
+use Rattle.rates.specs.Tables.{IsTableOf, rows_fit, is_critical_in}
 
 -- The acts to which the arcs of an act lead from a reaction are all that must precede it there.
 abbrev pub ArcsAreNeeds : Type 0
@@ -126,6 +129,46 @@ CycleIsTested = (depth : ℕ) (vertices : List Vertex) (xs : List Act) (i : ℕ)
     × ((long : ℕ → ℕ) (ticks reactions : ℕ)
     → IsTrue (is_critical_cycle depth vertices xs long ticks reactions i way)
     ↔ IsCriticalCycle depth vertices xs long ticks reactions i way)
+
+-- If buffers have a place, then every rate is sustained with some offsets, or the acts of a cycle
+-- last longer together than the rate has ticks for it.
+abbrev pub EveryRateIsSustainedOrExceeded : Type 0
+EveryRateIsSustainedOrExceeded = (depth : ℕ) (vertices : List Vertex) (xs : List Act) → 1 ≤ depth
+    → (long : ℕ → ℕ) (ticks reactions : ℕ)
+    → ((offset : ℕ → ℕ) × Sustains depth vertices xs long ticks reactions offset)
+    ⊎ ((i : ℕ) × (way : List Arc) × IsCycle depth vertices xs i way
+    × (ticks * lags way < reactions * length_over long way))
+
+-- If buffers have a place, then some rate is exact: it is sustained with some offsets, and it has
+-- no ticks or a critical cycle.
+abbrev pub SomeRateIsExact : Type 0
+SomeRateIsExact = (depth : ℕ) (vertices : List Vertex) (xs : List Act) → 1 ≤ depth
+    → (long : ℕ → ℕ) → (ticks : ℕ) × (reactions : ℕ) × (0 < reactions)
+    × ((offset : ℕ → ℕ) × Sustains depth vertices xs long ticks reactions offset)
+    × ((ticks ≡ 0) ⊎ ((i : ℕ) × (way : List Arc)
+    × IsCriticalCycle depth vertices xs long ticks reactions i way))
+
+-- Two exact rates of the same acts are the same, as ratios.
+abbrev pub ExactRatesAreOne : Type 0
+ExactRatesAreOne = (depth : ℕ) (vertices : List Vertex) (xs : List Act) (long : ℕ → ℕ)
+    → (ticks reactions more over : ℕ) → 0 < reactions → 0 < over
+    → ((offset : ℕ → ℕ) × Sustains depth vertices xs long ticks reactions offset)
+    → ((offset : ℕ → ℕ) × Sustains depth vertices xs long more over offset)
+    → (ticks ≡ 0) ⊎ ((i : ℕ) × (way : List Arc)
+    × IsCriticalCycle depth vertices xs long ticks reactions i way)
+    → (more ≡ 0) ⊎ ((i : ℕ) × (way : List Arc)
+    × IsCriticalCycle depth vertices xs long more over i way)
+    → ticks * over ≡ more * reactions
+
+-- Over a table of the acts the tests are those of the acts.
+abbrev pub TablesAreTested : Type 0
+TablesAreTested = (depth : ℕ) (vertices : List Vertex) (xs : List Act) (table : List (List Arc))
+    → IsTableOf depth vertices xs table
+    → (long : ℕ → ℕ) (ticks reactions : ℕ)
+    → ((offset : ℕ → ℕ) → rows_fit long ticks reactions offset table
+    ≡ is_sustained depth vertices xs long ticks reactions offset)
+    × ((i : ℕ) (way : List Arc) → is_critical_in table long ticks reactions i way
+    ≡ is_critical_cycle depth vertices xs long ticks reactions i way)
 
 -- If acts sustain a rate, then an executive by the clock keeps the order: act i of reaction k ends
 -- at k times the ticks and its offset, in parts of a tick, rounded down to a tick.

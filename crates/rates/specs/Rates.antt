@@ -28,7 +28,8 @@ use Rattle.self_timed.specs.declared.Vertex.{Vertex}
 use Rattle.self_timed.specs.Acts.{Act}
 use Rattle.self_timed.specs.Dates.{start_by, with_act}
 use Rattle.self_timed.specs.Entries.{stated}
-use Rattle.rates.specs.Arcs.{Arc, arcs}
+use Rattle.rates.specs.declared.table.Arc.{Arc}
+use Rattle.rates.specs.Arcs.{arcs}
 
 -- The number of reactions over which these arcs lead together.
 abbrev pub lags : List Arc → ℕ
@@ -50,6 +51,11 @@ same_arc a b = a.act == b.act && a.lag == b.lag
 -- How many ticks act i lasts as the schedule states it, and 0 if there is no act i.
 abbrev pub stated_at : List Act → ℕ → ℕ
 stated_at xs i = with_act (slice_get xs i) stated
+
+-- With its offset act i has room after the act to which the arc leads, at this rate.
+abbrev pub has_room : (ℕ → ℕ) → ℕ → ℕ → (ℕ → ℕ) → ℕ → Arc → Bool
+has_room long ticks reactions offset i a =
+    nat_le (offset a.act + reactions * long i) (offset i + a.lag * ticks)
 
 -- Durations in ticks: `lasts k i` is that of act i in reaction k, and `long i` a bound on it.
 module _ (xs : List Act) where
@@ -105,16 +111,13 @@ module _ (depth : ℕ) (vertices : List Vertex) (xs : List Act) where
 
   -- The test whether the acts sustain a rate with these offsets.
   module _ (long : ℕ → ℕ) (ticks reactions : ℕ) (offset : ℕ → ℕ) where
-    -- With its offset act i has room after the act to which the arc leads.
-    abbrev pub has_room : ℕ → Arc → Bool
-    has_room i a = nat_le (offset a.act + reactions * long i) (offset i + a.lag * ticks)
-
     -- Each of these acts, of which the first has number i, fits with its offset.
     abbrev pub is_sustained_from : ℕ → List Act → Bool
     is_sustained_from i [] = true
     is_sustained_from i (x ∷ more) =
         nat_le (reactions * long i) (offset i)
-        && (list_all (has_room i) (arcs depth vertices xs i x) && is_sustained_from (suc i) more)
+        && (list_all (has_room long ticks reactions offset i) (arcs depth vertices xs i x)
+        && is_sustained_from (suc i) more)
 
     -- Each act fits with its offset.
     abbrev pub is_sustained : Bool

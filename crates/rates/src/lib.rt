@@ -1,70 +1,23 @@
 //! The rates of self-timed executives: in how many ticks the acts of a schedule sustain how many
-//! reactions for ever, and the cycles of acts that no executive exceeds, as definitions with laws.
+//! reactions for ever, and the cycles of acts that no executive exceeds; as definitions with laws,
+//! and the checks of both.
 //!
 //! What must precede an act is an arc to another act, with the number of reactions between them.
 //! Offsets that fit each arc bound all dates of all reactions from above; a cycle of arcs bounds
 //! them from below. If both have the same rate, it is exact. The laws are contracts of functions
-//! that do nothing.
+//! that do nothing. `is_sustained` and `is_critical_cycle` check offsets and a cycle over a table
+//! of arcs.
 #![tactic(auto)]
 
-ghost use Rattle.rates.specs.Laws.{ArcsAreNeeds, ChartIsSustained, ClockKeepsOrder, CriticalCyclesAreExact, CycleIsTested, CyclesTakeReactions, NoExecutiveIsFaster, NoRateIsBelowACycle, RatesAreSustained, SustainedIsTested, SustainsIsOfNeeds};
+mod check;
+mod laws;
+mod table;
 
-/// The acts to which the arcs of an act lead from a reaction are all that must precede it there.
-pub fn arcs_are_needs()
-    ensures { ArcsAreNeeds }
-{}
-
-/// Offsets fit all arcs exactly if in each reaction they fit each act after all that must precede
-/// it.
-pub fn sustains_is_of_needs()
-    ensures { SustainsIsOfNeeds }
-{}
-
-/// If offsets fit and nothing lasts longer than they count with, so many reactions end in so many
-/// ticks, for ever: act i of reaction k no later than k times the ticks and its offset.
-pub fn rates_are_sustained()
-    ensures { RatesAreSustained }
-{}
-
-/// The chart, repeated, is such a rate: one reaction in each length of the schedule, with the end
-/// of each act as its offset.
-pub fn chart_is_sustained()
-    ensures { ChartIsSustained }
-{}
-
-/// In every executive that keeps the order, a turn of a cycle takes at least as long as all its
-/// acts together.
-pub fn no_executive_is_faster()
-    ensures { NoExecutiveIsFaster }
-{}
-
-/// No offsets fit a rate that is faster than a cycle.
-pub fn no_rate_is_below_a_cycle()
-    ensures { NoRateIsBelowACycle }
-{}
-
-/// If offsets fit the rate of a cycle, that rate is exact: in no reaction does the first act of the
-/// cycle end earlier or later than it says, but for the offset and less than one turn.
-pub fn critical_cycles_are_exact()
-    ensures { CriticalCyclesAreExact }
-{}
-
-/// Each cycle leads over at least one reaction.
-pub fn cycles_take_reactions()
-    ensures { CyclesTakeReactions }
-{}
-
-/// Whether offsets fit is a test of finitely many sums.
-pub fn sustained_is_tested()
-    ensures { SustainedIsTested }
-{}
-
-/// Whether acts are a cycle, and a critical one, is a test of the arcs of each.
-pub fn cycle_is_tested()
-    ensures { CycleIsTested }
-{}
-
-/// If offsets fit, an executive by the clock with these offsets keeps the order.
-pub fn clock_keeps_order()
-    ensures { ClockKeepsOrder }
-{}
+pub use check::{is_critical_cycle, is_sustained};
+pub use laws::{
+    arcs_are_needs, chart_is_sustained, clock_keeps_order, critical_cycles_are_exact,
+    cycle_is_tested, cycles_take_reactions, every_rate_is_sustained_or_exceeded,
+    exact_rates_are_one, no_executive_is_faster, no_rate_is_below_a_cycle, rates_are_sustained,
+    some_rate_is_exact, sustained_is_tested, sustains_is_of_needs, tables_are_tested,
+};
+pub use table::{Arc, Arcs, Rate};

@@ -3,13 +3,15 @@ use Rattle.std.proofs.Common.{◌≡◌, ◌∙◌, List, [], ◌∷◌, map, le
 use Rattle.std.specs.Prelude.{IsTrue}
 use Rattle.syn_base.specs.Bytes.{Bytes}
 use Rattle.text_lines.specs.declared.fault.TextError.TheVariants as error
-use Rattle.text_lines.specs.Refusals.{Refused, Limit, Fails}
+use Rattle.text_lines.specs.Refusals.{Refused, Limit}
 use Rattle.self_timed.specs.Archi.{Architecture as Archi, is_archi}
 use Rattle.self_timed.specs.Sequences.{sequences}
 use Rattle.self_timed.specs.Graph.{Graph}
 use Rattle.self_timed.specs.declared.Program.{Program}
 use Rattle.self_timed.specs.WellFormed.{IsWellFormed}
-use Rattle.compiler.specs.Checked.{IsLacking}
+use Rattle.compiler.specs.Checked.{GivesChecked}
+use Rattle.compiler.specs.declared.checked_error.CheckedError.{CheckedError}
+use Rattle.compiler.specs.declared.checked_error.CheckedError.TheVariants.{Text, Lacks}
 use Rattle.macro_check.specs.Awaiting.{place_of}
 use Rattle.macro_check.specs.Causes.{cause_of}
 use Rattle.word_rule.specs.Driven.{Driven, driven_by}
@@ -17,21 +19,21 @@ use Rattle.top_plans.specs.Shelf.{Held}
 use Rattle.top_plans.specs.Sink.{Sunk}
 use Rattle.top_plans.specs.declared.File.TheVariants.{Code}
 use Rattle.top_plans.specs.ReadText.{program_in}
-use Rattle.top_plans.specs.CodeRefusals.{CodeError}
 use Rattle.top_plans.specs.declared.CheckCause.{CheckCause}
 use Rattle.top_plans.specs.declared.CheckCause.TheVariants.{Sequences, Calls, Transfers, Buffers, Pairs, Prologue, Stuck}
 use Rattle.top_plans.specs.declared.Stop.{Stop}
+use Rattle.top_plans.specs.Plan.{Plan}
 use Rattle.top_plans.specs.Ending.{Ending, no_memory, refused}
-use Rattle.top_plans.specs.Run.{Makes, Ran, WasRead, refuses, was_read}
+use Rattle.top_plans.specs.Run.{Makes, Ran, WasRead, not_read, refuses, was_read}
 use Rattle.top_plans.proofs.Makes.{after_err, after_ok, memory, wanting}
-use Rattle.top_plans.specs.Status.{Refusal, ending_of, failed_check, of_code, status_of_code}
+use Rattle.top_plans.specs.Status.{Refusal, ending_of, failed_check, of_code}
 use Rattle.top_plans.specs.declared.Status.{Status}
 use Rattle.top_plans.specs.Checks.{lacking, stop_of, told}
 use Rattle.top_plans.proofs.Checks.{lacks, lacks_nothing}
 use Rattle.top_plans.specs.Given.{Given, stages}
 use Rattle.top_plans.specs.Plans.{Made, code_in, read_file, unless_lacking}
 use Rattle.syndex_program.specs.Executes.{EndsOrWants}
-use Rattle.syndex_program.specs.Foreign.{IsProgram, MakesProgram, ReadsProgram}
+use Rattle.syndex_program.specs.Foreign.{IsProgram, MakesProgram, ReadsProgram, status_of_checked}
 
 -- a cause is told as it is
 same_stops : (ys : List Stop) → map stop_of (map place_of ys) ≡ ys
@@ -52,25 +54,22 @@ module _ (g : Graph) (a : Archi) where
   pub is_program : (text : Bytes) (p : Program) → IsTrue (is_archi a.operators a.media) → program_in text g a ≡ Ok p → IsWellFormed p g (sequences a) (length a.media) → IsProgram g a text p
   is_program text p valid says formed = record { says = says; whole = lacks_nothing g a p valid formed; formed = formed }
 
-  module _ (text : Bytes) (next : Program → Made) where
-    abbrev checked : Program → Made
+  module _ {A : Type 0} (text : Bytes) (next : Program → Plan Refusal A) where
+    abbrev checked : Program → Plan Refusal A
     checked p = unless_lacking (lacking g a p) (next p)
 
-    -- a text is refused
-    pub code_refused : (held : Held) (e : CodeError) → Fails e (program_in text g a) → Makes held held (code_in text g a next) (Err (ending_of (status_of_code e)))
-    code_refused held (error.Refused fault) is = after_err held of_code (program_in text g a) checked (Refused fault) is
-    code_refused held (error.Limit fault) is = after_err held of_code (program_in text g a) checked (Limit fault) is
-    code_refused held error.OutOfMemory is = memory held (code_in text g a next)
-
-    -- its program fails the check
-    pub check_refused : (held : Held) (c : CheckCause) → IsLacking text g a c → Makes held held (code_in text g a next) (Err (refused (failed_check c)))
-    check_refused held c (p, says, wants) =
+    -- a text is refused, or its program fails the check
+    code_stops : (held : Held) (e : CheckedError) → GivesChecked text g a (Err e) → Makes held held (code_in text g a next) (Err (ending_of (status_of_checked e)))
+    code_stops held (Text (error.Refused fault)) is = after_err held of_code (program_in text g a) checked (Refused fault) is
+    code_stops held (Text (error.Limit fault)) is = after_err held of_code (program_in text g a) checked (Limit fault) is
+    code_stops held (Text error.OutOfMemory) is = memory held (code_in text g a next)
+    code_stops held (Lacks c) (p, says, wants) =
         let is : lacking g a p ≡ Some c = lacks g a p (cause_of c) wants ∙ ap Some (same_cause c) in
         after_ok held held of_code (program_in text g a) checked (Err (refused (failed_check c))) p says
         (subst (λ (o : Option CheckCause). Makes held held (unless_lacking o (next p)) (Err (refused (failed_check c)))) (sym is) (refuses (inl refl, λ file name. refl)))
 
     -- its program lacks nothing, and then the plan went on with it
-    program_so : (old new : Held) (p : Program) (made : Result Given (Ending Refusal)) → IsProgram g a text p → Makes old new (next p) made → Makes old new (code_in text g a next) made
+    program_so : (old new : Held) (p : Program) (made : Result A (Ending Refusal)) → IsProgram g a text p → Makes old new (next p) made → Makes old new (code_in text g a next) made
     program_so old new p made is m =
         after_ok old new of_code (program_in text g a) checked made p is.says
         (subst (λ (o : Option CheckCause). Makes old new (unless_lacking o (next p)) made) (sym is.whole) m)
@@ -78,11 +77,18 @@ module _ (g : Graph) (a : Archi) where
   -- a file was read, and its text gives a program or is refused
   pub program_read : (name : Bytes) (old new : Held) (text : Bytes) (r : Result Program Status) → WasRead Code name old new text → MakesProgram g a text r → ReadsProgram g a name old new r
   program_read name old new text (Ok p) read is = (text, read, is)
-  program_read name old new text (Err status) read h = λ next. was_read new text read (h new next)
+  program_read name old new text (Err status) read h = inr (text, read, h)
 
-  pub program_went_on : (name : Bytes) (old mid new : Held) (p : Program) (next : Program → Made) (made : Result Given (Ending Refusal))
-      → ReadsProgram g a name old mid (Ok p) → Makes mid new (next p) made → Makes old new (read_file Code name (λ text. code_in text g a next)) made
-  program_went_on name old mid new p next made (text, read, is) m = was_read mid text read (program_so text next mid new p made is m)
+  module _ {A : Type 0} (name : Bytes) (next : Program → Plan Refusal A) where
+    -- a file without a program stops the plan
+    pub program_stops : (old new : Held) (status : Status) → ReadsProgram g a name old new (Err status) → Makes old new (read_file Code name (λ text. code_in text g a next)) (Err (ending_of status))
+    program_stops old new status (inl failed) = not_read failed
+    program_stops old new status (inr (text, read, (e, made, is))) =
+        was_read new text read (subst (λ (x : Status). Makes new new (code_in text g a next) (Err (ending_of x))) (sym is) (code_stops text next new e made))
+
+    pub program_went_on : (old mid new : Held) (p : Program) (made : Result A (Ending Refusal)) → ReadsProgram g a name old mid (Ok p) → Makes mid new (next p) made
+        → Makes old new (read_file Code name (λ text. code_in text g a next)) made
+    program_went_on old mid new p made (text, read, is) m = was_read mid text read (program_so text next mid new p made is m)
 
 -- memory may run out before anything is performed
 pub ran_so : (plan : Made) (made : Result Given (Ending Refusal)) (held held' : Held) (sunk sunk' : Sunk) (d d' : Driven) (ending : Ending Refusal)

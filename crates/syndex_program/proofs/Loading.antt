@@ -13,10 +13,11 @@ use Rattle.top_plans.specs.Shelf.{Held}
 use Rattle.top_plans.specs.SensorTable.{rows_of}
 use Rattle.top_plans.specs.declared.SensorError.{SensorError}
 use Rattle.top_plans.specs.Ending.{Ending}
+use Rattle.top_plans.specs.Plan.{Plan}
 use Rattle.top_plans.specs.Run.{Makes}
 use Rattle.top_plans.specs.Status.{Refusal, ending_of, status_of_algorithm, status_of_architecture, status_of_sensors}
-use Rattle.top_plans.specs.Given.{Given, Execution}
-use Rattle.top_plans.specs.Plans.{Made, architecture_in, table_in}
+use Rattle.top_plans.specs.Given.{Execution}
+use Rattle.top_plans.specs.Plans.{architecture_in, table_in}
 use Rattle.syndex_program.specs.Executes.{rest_plan, texts_plan}
 use Rattle.compiler.specs.Compiles.{IsAlgorithm, IsCompilation, MakesAlgorithm, MakesCompilation}
 use Rattle.compiler.specs.Reads.{MakesTable}
@@ -25,36 +26,36 @@ use Rattle.compiler.specs.declared.stages.Compilation.{Compilation}
 use Rattle.compiler.proofs.Steps as steps
 use Rattle.compiler.proofs.Architectures as architectures
 
-module _ (next : Execution → Given) (held : Held) (a h s : Bytes) where
-  abbrev behind_table : Vertex → Described → Table → Made
-  behind_table main d t = table_in main s (λ rows. rest_plan next main d.archi t rows)
+module _ (held : Held) (a h s : Bytes) where
+  abbrev behind_table : Vertex → Described → Table → Plan Refusal Execution
+  behind_table main d t = table_in main s (λ rows. rest_plan main d.archi t rows)
 
-  abbrev behind_algorithm : Defs → Vertex → Made
+  abbrev behind_algorithm : Defs → Vertex → Plan Refusal Execution
   behind_algorithm defs main = architecture_in h main (behind_table main)
 
-  pub algorithm_refused : (e : AlgoError) → MakesAlgorithm a (Err e) → Makes held held (texts_plan next a h s) (Err (ending_of (status_of_algorithm e)))
+  pub algorithm_refused : (e : AlgoError) → MakesAlgorithm a (Err e) → Makes held held (texts_plan a h s) (Err (ending_of (status_of_algorithm e)))
   algorithm_refused e m = steps.refused_so a behind_algorithm held e m
 
   module _ (algorithm : Algorithm) (is : IsAlgorithm a algorithm) where
-    pub compilation_refused : (e : ArchiError) → MakesCompilation algorithm.tree h (Err e) → Makes held held (texts_plan next a h s) (Err (ending_of (status_of_architecture e)))
+    pub compilation_refused : (e : ArchiError) → MakesCompilation algorithm.tree h (Err e) → Makes held held (texts_plan a h s) (Err (ending_of (status_of_architecture e)))
     compilation_refused e m =
         steps.resolved_so a behind_algorithm held held algorithm (Err (ending_of (status_of_architecture e))) is
         (architectures.refused_so algorithm.tree h (behind_table algorithm.tree) held e m)
 
     module _ (compilation : Compilation) (says : IsCompilation algorithm.tree h compilation) where
       -- both texts were accepted, and then the plan went on with the table
-      both_so : (made : Result Given (Ending Refusal)) → Makes held held (behind_table algorithm.tree (described_by compilation.text) compilation.durations) made → Makes held held (texts_plan next a h s) made
+      both_so : (made : Result Execution (Ending Refusal)) → Makes held held (behind_table algorithm.tree (described_by compilation.text) compilation.durations) made → Makes held held (texts_plan a h s) made
       both_so made m =
           steps.resolved_so a behind_algorithm held held algorithm made is
           (architectures.described_so algorithm.tree h (behind_table algorithm.tree) held held compilation made says m)
 
-      pub table_refused : (e : SensorError) → MakesTable algorithm.tree s (Err e) → Makes held held (texts_plan next a h s) (Err (ending_of (status_of_sensors e)))
+      pub table_refused : (e : SensorError) → MakesTable algorithm.tree s (Err e) → Makes held held (texts_plan a h s) (Err (ending_of (status_of_sensors e)))
       table_refused e m =
           both_so (Err (ending_of (status_of_sensors e)))
-          (steps.table_refused held (rows_of algorithm.tree (records default_config (strip_bom s))) (λ (rows : Reactions). rest_plan next algorithm.tree compilation.text.archi compilation.durations rows) e m)
+          (steps.table_refused held (rows_of algorithm.tree (records default_config (strip_bom s))) (λ (rows : Reactions). rest_plan algorithm.tree compilation.text.archi compilation.durations rows) e m)
 
-      pub rows_so : (rows : Reactions) (made : Result Given (Ending Refusal)) → MakesTable algorithm.tree s (Ok rows)
-          → Makes held held (rest_plan next algorithm.tree compilation.text.archi compilation.durations rows) made → Makes held held (texts_plan next a h s) made
+      pub rows_so : (rows : Reactions) (made : Result Execution (Ending Refusal)) → MakesTable algorithm.tree s (Ok rows)
+          → Makes held held (rest_plan algorithm.tree compilation.text.archi compilation.durations rows) made → Makes held held (texts_plan a h s) made
       rows_so rows made m go =
           both_so made
-          (steps.rows_so algorithm.tree s held held rows (λ (rs : Reactions). rest_plan next algorithm.tree compilation.text.archi compilation.durations rs) made m.0 go)
+          (steps.rows_so algorithm.tree s held held rows (λ (rs : Reactions). rest_plan algorithm.tree compilation.text.archi compilation.durations rs) made m.0 go)

@@ -17,8 +17,8 @@ use Rattle.top_plans.specs.Run.{Ends}
 use Rattle.top_plans.specs.Status.{Refusal, ending_of}
 use Rattle.top_plans.specs.declared.Status.{Status}
 use Rattle.top_plans.specs.Given.{Given, Execution as Executed, one_job, stages}
+use Rattle.top_plans.specs.Plan.{Plan}
 use Rattle.top_plans.specs.Plans.{
-  Made,
   algorithm_in,
   algorithm_plan,
   architecture_in,
@@ -47,36 +47,40 @@ pub record IsExecuted (x : Execution) : Type 0 where
   pub limit : limit_of (one_job (executed x)) ≡ None
   pub steps : x.steps ≡ total_steps x.program (length x.rows.reactions)
 
--- The plan of a program that is executed, whatever is made of it: of one that is built, over a table's rows, over
--- files, and over texts; and of one that stands in a file of macro-code.
-module _ (next : Executed → Given) where
-  abbrev pub rest_plan : Vertex → Archi → Table → Reactions → Made
-  rest_plan main a t rows = program_plan (flat_of main) a t (λ p. execution_plan (execution main a p rows) next)
+-- The plan of what is executed: of a program that is built, over a table's rows, over files, and over texts; and of one
+-- that stands in a file of macro-code.
+abbrev pub rest_plan : Vertex → Archi → Table → Reactions → Plan Refusal Executed
+rest_plan main a t rows = program_plan (flat_of main) a t (λ p. execution_plan (execution main a p rows) (λ e. e))
 
-  abbrev pub files_plan : Bytes → Bytes → Bytes → Made
-  files_plan a h s =
-      algorithm_plan a (λ defs main.
-      architecture_plan h main (λ d t.
-      table_plan main s (λ rows. rest_plan main d.archi t rows)))
+abbrev pub files_plan : (a h s : Bytes) → Plan Refusal Executed
+files_plan a h s =
+    algorithm_plan a (λ defs main.
+    architecture_plan h main (λ d t.
+    table_plan main s (λ rows. rest_plan main d.archi t rows)))
 
-  abbrev pub texts_plan : Bytes → Bytes → Bytes → Made
-  texts_plan a h s =
-      algorithm_in a (λ defs main.
-      architecture_in h main (λ d t.
-      table_in main s (λ rows. rest_plan main d.archi t rows)))
+abbrev pub texts_plan : (a h s : Bytes) → Plan Refusal Executed
+texts_plan a h s =
+    algorithm_in a (λ defs main.
+    architecture_in h main (λ d t.
+    table_in main s (λ rows. rest_plan main d.archi t rows)))
 
-  abbrev pub foreign_plan : Bytes → Bytes → Bytes → Bytes → Made
-  foreign_plan a h c s =
-      algorithm_plan a (λ defs main.
-      read_file Architecture h (λ lines. described_in lines (λ d.
-      read_file Code c (λ text. code_in text (flat_of main) d.archi (λ p.
-      table_plan main s (λ rows.
-      execution_plan (execution main d.archi p rows) next))))))
+abbrev pub foreign_plan : (a h c s : Bytes) → Plan Refusal Executed
+foreign_plan a h c s =
+    algorithm_plan a (λ defs main.
+    read_file Architecture h (λ lines. described_in lines (λ d.
+    read_file Code c (λ text. code_in text (flat_of main) d.archi (λ p.
+    table_plan main s (λ rows.
+    execution_plan (execution main d.archi p rows) (λ e. e)))))))
 
-  -- what is made of an execution, or the ending that a status stands for
-  abbrev pub made_of : Result Execution Status → Result Given (Ending Refusal)
-  made_of (Ok x) = Ok (next (executed x))
-  made_of (Err status) = Err (ending_of status)
+-- an execution, or the ending that a status stands for
+abbrev pub executed_in : Result Execution Status → Result Executed (Ending Refusal)
+executed_in (Ok x) = Ok (executed x)
+executed_in (Err status) = Err (ending_of status)
+
+-- what is made of an execution, or the ending that a status stands for
+abbrev pub made_of : (Executed → Given) → Result Execution Status → Result Given (Ending Refusal)
+made_of what (Ok x) = Ok (what (executed x))
+made_of what (Err status) = Err (ending_of status)
 
 -- what was made is performed; or memory ran out before anything was written and any job was run
 abbrev pub EndsOrWants : Result Given (Ending Refusal) → Sunk → Sunk → Driven → Driven → Ending Refusal → Type 0

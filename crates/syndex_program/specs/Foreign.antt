@@ -9,11 +9,19 @@ use Rattle.self_timed.specs.WellFormed.{IsWellFormed}
 use Rattle.top_plans.specs.Shelf.{Held}
 use Rattle.top_plans.specs.declared.File.TheVariants.{Code}
 use Rattle.top_plans.specs.ReadText.{program_in}
-use Rattle.top_plans.specs.Run.{Makes, WasRead}
-use Rattle.top_plans.specs.Status.{ending_of}
+use Rattle.top_plans.specs.Status.{status_of_code}
 use Rattle.top_plans.specs.declared.Status.{Status}
+use Rattle.top_plans.specs.declared.Status.TheVariants.{CheckRefused}
 use Rattle.top_plans.specs.Checks.{lacking}
-use Rattle.top_plans.specs.Plans.{Made, code_in, read_file}
+use Rattle.compiler.specs.Checked.{GivesChecked}
+use Rattle.compiler.specs.Reads.{ReadsFile, Told}
+use Rattle.compiler.specs.declared.checked_error.CheckedError.{CheckedError}
+use Rattle.compiler.specs.declared.checked_error.CheckedError.TheVariants.{Text, Lacks}
+
+-- the status of a text that gives no program
+abbrev pub status_of_checked : CheckedError → Status
+status_of_checked (Text error) = status_of_code error
+status_of_checked (Lacks cause) = CheckRefused cause
 
 module _ (g : Graph) (a : Archi) where
   -- the program of a text, which lacks nothing
@@ -22,15 +30,12 @@ module _ (g : Graph) (a : Archi) where
     pub whole : lacking g a p ≡ None
     pub formed : IsWellFormed p g (sequences a) (length a.media)
 
-  -- the program of a text, which lacks nothing; or carrying on from the text ends so, whatever follows
+  -- The program of a text, which lacks nothing; or the status of its first refusal, or of the first that its program
+  -- lacks.
   abbrev pub MakesProgram : Bytes → Result Program Status → Type 0
   MakesProgram text (Ok p) = IsProgram text p
-  MakesProgram text (Err status) =
-      (held : Held) (next : Program → Made) → Makes held held (code_in text g a next) (Err (ending_of status))
+  MakesProgram text (Err status) = Told status_of_checked (GivesChecked text g a) (Err status)
 
-  -- the same of a file
+  -- the program of a file
   abbrev pub ReadsProgram : Bytes → Held → Held → Result Program Status → Type 0
-  ReadsProgram name old new (Ok p) = (text : Bytes) × WasRead Code name old new text × IsProgram text p
-  ReadsProgram name old new (Err status) =
-      (next : Program → Made) → Makes old new (read_file Code name (λ text. code_in text g a next))
-      (Err (ending_of status))
+  ReadsProgram = ReadsFile Code MakesProgram

@@ -7,10 +7,15 @@ ghost use Rattle.top_plans.specs.Flat.{HasFlat};
 ghost use Rattle.top_plans.specs.Run.{Makes};
 ghost use Rattle.top_plans.specs.FlatOf.{flat_of};
 ghost use Rattle.top_plans.specs.Shelf.{Held, Stays};
-ghost use Rattle.top_plans.specs.Given.{Given, Execution as Executed};
 ghost use Rattle.top_plans.specs.Loads.{load_algorithm, load_architecture, load_table};
 ghost use Rattle.top_plans.specs.Plans.{execution, execution_plan};
-ghost use Rattle.syndex_program.specs.Executes.{IsExecuted, files_plan, made_of, rest_plan, texts_plan};
+ghost use Rattle.syndex_program.specs.Executes.{
+  IsExecuted,
+  executed_in,
+  files_plan,
+  rest_plan,
+  texts_plan,
+};
 ghost use Rattle.compiler.specs.Compiles.{HasDurations};
 
 use algo_tree::Tree;
@@ -60,8 +65,8 @@ pub fn read_execution<S: Shelf>(
     sensors: &str,
 ) -> Result<Execution, Status>
     ensures stays { Stays (S.held shelf.old) (S.held shelf.new) }
-    ensures makes { (next : Executed → Given) → Makes (S.held shelf.old) (S.held shelf.new)
-        (files_plan next algorithm.now architecture.now sensors.now) (made_of next result) }
+    ensures makes { Makes (S.held shelf.old) (S.held shelf.new)
+        (files_plan algorithm.now architecture.now sensors.now) (executed_in result) }
     ensures executed { IfOk result IsExecuted }
 {
     accepted_have_flat();
@@ -75,9 +80,9 @@ pub fn read_execution<S: Shelf>(
 pub fn load_execution(alloc: Global, n: u32) -> Result<Execution, Status>
     requires from { 1 ≤ n }
     requires to { n ≤ 1000 }
-    ensures makes { (next : Executed → Given) (held : Held) →
-        Makes held held (texts_plan next (load_algorithm n) load_architecture (load_table n))
-        (made_of next result) }
+    ensures makes { (held : Held) →
+        Makes held held (texts_plan (load_algorithm n) load_architecture (load_table n))
+        (executed_in result) }
     ensures executed { IfOk result IsExecuted }
 {
     let (algorithm, architecture, table) = load_texts(alloc, n)?;
@@ -100,9 +105,8 @@ fn compile_execution(
     requires has { HasFlat algorithm.tree }
     requires lens { rows.lens ≡ sensor_lengths algorithm.tree }
     requires few { length rows.reactions ≤ 10000 }
-    ensures makes { (next : Executed → Given) (held : Held) →
-        Makes held held (rest_plan next algorithm.tree compilation.text.archi
-        compilation.durations rows) (made_of next result) }
+    ensures makes { (held : Held) → Makes held held (rest_plan algorithm.tree compilation.text.archi
+        compilation.durations rows) (executed_in result) }
     ensures executed { IfOk result IsExecuted }
 {
     let program = compile_to_program(alloc, &compilation)?;
@@ -123,9 +127,9 @@ pub fn execution_of(
     requires formed { IsWellFormed program flat (sequences text.archi) (length text.archi.media) }
     requires lens { rows.lens ≡ sensor_lengths algorithm.tree }
     requires few { length rows.reactions ≤ 10000 }
-    ensures makes { (next : Executed → Given) (held : Held) →
-        Makes held held (execution_plan (execution algorithm.tree text.archi program rows) next)
-        (made_of next result) }
+    ensures makes { (held : Held) →
+        Makes held held (execution_plan (execution algorithm.tree text.archi program rows) (λ e. e))
+        (executed_in result) }
     ensures executed { IfOk result IsExecuted }
 {
     match run_limit(&program, &flat, &text.archi, &rows) {

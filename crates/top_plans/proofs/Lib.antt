@@ -22,3 +22,4 @@ pub use Rattle.accepted_laws.proofs.EndCounts
 pub use Rattle.accepted_laws.proofs.Whole
 pub use Rattle.command_status.proofs.Made
 pub use Rattle.command_status.proofs.Makes
+pub use Rattle.command_status.proofs.Mapped

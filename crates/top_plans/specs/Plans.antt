@@ -176,7 +176,7 @@ program_by g a t = program_of g a (schedule_of g a t)
 
 -- Go on with the program of the pressure run's schedule, or refuse it if it is above one of its
 -- limits.
-abbrev pub program_plan : Graph → Archi → Table → (Program → Made) → Made
+abbrev pub program_plan : {A : Type 0} → Graph → Archi → Table → (Program → Plan Refusal A) → Plan Refusal A
 program_plan g a t next = unless (program_limit (program_by g a t) (length a.media)) (next (program_by g a t))
 
 -- its macro-code
@@ -193,7 +193,7 @@ execution main a p rows = record { main = main; architecture = a; program = p; r
 
 -- Give what is made of an execution, or refuse it if its one job over all rows is above one of the
 -- limits of a run.
-abbrev pub execution_plan : Execution → (Execution → Given) → Made
+abbrev pub execution_plan : {A : Type 0} → Execution → (Execution → A) → Plan Refusal A
 execution_plan e what = unless (limit_of (one_job e)) (give (what e))
 
 -- the macro-code and an empty line
@@ -227,12 +227,12 @@ abbrev pub summary : Execution → Bytes
 summary e = summary_with e (sum_of (acts_of e.main e.rows.reactions))
 
 -- go on where a program lacks nothing
-abbrev pub unless_lacking : Option CheckCause → Made → Made
+abbrev pub unless_lacking : {A : Type 0} → Option CheckCause → Plan Refusal A → Plan Refusal A
 unless_lacking (Some cause) next = refuse (failed_check cause)
 unless_lacking None next = next
 
 -- the program of a text of macro-code within its limits, and then its check
-abbrev pub code_in : Bytes → Graph → Archi → (Program → Made) → Made
+abbrev pub code_in : {A : Type 0} → Bytes → Graph → Archi → (Program → Plan Refusal A) → Plan Refusal A
 code_in text g a next = after of_code (program_in text g a) (λ p. unless_lacking (lacking g a p) (next p))
 
 -- Durations of the architecture are passed over. The code and its check come before the rows, and these before the

@@ -16,9 +16,9 @@ ghost use Rattle.top_plans.specs.Shelf.{Stays, file_bound};
 ghost use Rattle.lab_program.specs.Found.{problem_of};
 ghost use Rattle.lab_program.specs.Texts.{Carries, Gives, GivesOfFound};
 
-use crate::found::{build_program, find_schedule};
+use crate::found::find_schedule;
 use chart_picture::dates_picture;
-use compiler::{Compilation, read_algorithm, read_architecture, read_file};
+use compiler::{Compilation, build_program, read_algorithm, read_architecture, read_file};
 use lab_words::{Effort, Form};
 use self_timed::{Actual, Program, Schedule};
 use std::alloc::Global;

@@ -17,9 +17,9 @@ ghost use Rattle.lab_program.specs.Found.{problem_of};
 ghost use Rattle.lab_program.specs.Texts.{Carries, Gives, GivesOfFound};
 
 use crate::commands::report::print_numbers;
-use crate::found::{build_program, find_schedule};
+use crate::found::find_schedule;
 use chart_picture::print_picture;
-use compiler::{Compilation, read_algorithm, read_architecture};
+use compiler::{Compilation, build_program, read_algorithm, read_architecture};
 use graph_drawing::print_placed_graph;
 use lab_words::{Effort, Subject};
 use self_timed::Schedule;

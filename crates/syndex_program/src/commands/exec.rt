@@ -6,8 +6,15 @@ ghost use Rattle.text_lines.specs.Text.{lines_of};
 ghost use Rattle.top_plans.specs.Run.{Makes};
 ghost use Rattle.top_plans.specs.Status.{ending_of};
 ghost use Rattle.top_plans.specs.Shelf.{Stays};
-ghost use Rattle.top_plans.specs.Given.{Given, Execution as Executed, executed as alone};
-ghost use Rattle.syndex_program.specs.Executes.{EndsOrWants, IsExecuted, executed, foreign_plan, made_of};
+ghost use Rattle.top_plans.specs.Given.{executed as alone};
+ghost use Rattle.syndex_program.specs.Executes.{
+  EndsOrWants,
+  IsExecuted,
+  executed,
+  executed_in,
+  foreign_plan,
+  made_of,
+};
 ghost use Rattle.syndex_program.specs.Foreign.{MakesProgram, ReadsProgram};
 
 use crate::execution::{Execution, execution_of};
@@ -36,9 +43,8 @@ pub fn read_foreign<S: Shelf>(
     sensors: &str,
 ) -> Result<Execution, Status>
     ensures stays { Stays (S.held shelf.old) (S.held shelf.new) }
-    ensures makes { (next : Executed → Given) → Makes (S.held shelf.old) (S.held shelf.new)
-        (foreign_plan next algorithm.now architecture.now code.now sensors.now)
-        (made_of next result) }
+    ensures makes { Makes (S.held shelf.old) (S.held shelf.new)
+        (foreign_plan algorithm.now architecture.now code.now sensors.now) (executed_in result) }
     ensures executed { IfOk result IsExecuted }
 {
     accepted_have_flat();

@@ -8,9 +8,9 @@ use Rattle.syndex_program.proofs.Executing.{fit, given, stopped}
 use Rattle.syndex_program.proofs.execution.execution_of.Goals as goal
 
 pub returns-in-Ok-clause-makes : goal.returns-in-Ok-clause-makes
-returns-in-Ok-clause-makes c = λ next held.
+returns-in-Ok-clause-makes c = λ held.
     let within = subst (λ (f : Graph). limit_in c.args.program f (length c.args.rows.reactions) ≡ None) c.requires.same c.in-Ok.ensures.within in
-    rw c.into_tree.ensures (given c.args.algorithm.tree c.args.text.archi c.args.rows c.args.program next held within)
+    rw c.into_tree.ensures (given c.args.algorithm.tree c.args.text.archi c.args.rows c.args.program held within)
 
 pub returns-in-Ok-clause-executed : goal.returns-in-Ok-clause-executed
 returns-in-Ok-clause-executed c =
@@ -25,6 +25,6 @@ returns-in-Ok-clause-executed c =
     })
 
 pub returns-in-Err-clause-makes : goal.returns-in-Err-clause-makes
-returns-in-Err-clause-makes c = λ next held.
+returns-in-Err-clause-makes c = λ held.
     let over = subst (λ (f : Graph). limit_in c.args.program f (length c.args.rows.reactions) ≡ Some c.in-Err.limit) c.requires.same c.in-Err.ensures.limit in
-    stopped c.args.algorithm.tree c.args.text.archi c.args.rows c.args.program next held c.in-Err.limit over
+    stopped c.args.algorithm.tree c.args.text.archi c.args.rows c.args.program held c.in-Err.limit over

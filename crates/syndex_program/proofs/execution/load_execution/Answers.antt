@@ -12,7 +12,7 @@ use Rattle.load_texts.specs.Table.{table_text}
 use Rattle.top_plans.specs.Shelf.{file_bound}
 use Rattle.top_plans.proofs.Makes.{memory}
 use Rattle.top_plans.specs.Loads.{load_algorithm, load_architecture, load_table}
-use Rattle.syndex_program.specs.Executes.{made_of, texts_plan}
+use Rattle.syndex_program.specs.Executes.{executed_in, texts_plan}
 use Rattle.compiler.specs.Compiles.{MakesAlgorithm, MakesCompilation}
 use Rattle.compiler.specs.Reads.{MakesTable}
 use Rattle.syndex_program.proofs.Loading as loading
@@ -62,14 +62,14 @@ compile_execution-requires-clause-few c = few_rows c.in_ok-algorithm-2.algorithm
 pub returns-in_err-algorithm-clause-makes : goal.returns-in_err-algorithm-clause-makes
 returns-in_err-algorithm-clause-makes c =
     let p = err_from_is_err_and c.from_residual.result c.from_residual.ensures.1 in
-    rw (p.1, p.2) (λ next held. memory held (texts_plan next (load_algorithm c.args.n) load_architecture (load_table c.args.n)))
+    rw (p.1, p.2) (λ held. memory held (texts_plan (load_algorithm c.args.n) load_architecture (load_table c.args.n)))
 
 pub returns-in_err-algorithm-2-clause-makes : goal.returns-in_err-algorithm-2-clause-makes
 returns-in_err-algorithm-2-clause-makes c =
     let e = c.in_err-algorithm-2.field-0.0 in
     let p = err_from_is_err_and c.from_residual-in_err-algorithm-2.result c.from_residual-in_err-algorithm-2.ensures.1 in
     let m = subst (λ (t : Bytes). MakesAlgorithm t (Err e)) (c.deref.ensures.value ∙ (c.in_ok-algorithm.ensures.algorithm ∙ algorithm_is c.args.n)) c.in_err-algorithm-2.ensures in
-    rw (p.1, p.2) (λ next held. loading.algorithm_refused next held (load_algorithm c.args.n) load_architecture (load_table c.args.n) e m)
+    rw (p.1, p.2) (λ held. loading.algorithm_refused held (load_algorithm c.args.n) load_architecture (load_table c.args.n) e m)
 
 pub returns-in_err-compilation-clause-makes : goal.returns-in_err-compilation-clause-makes
 returns-in_err-compilation-clause-makes c =
@@ -78,7 +78,7 @@ returns-in_err-compilation-clause-makes c =
     let p = err_from_is_err_and c.from_residual-in_err-compilation.result c.from_residual-in_err-compilation.ensures.1 in
     let is = subst (λ (t : Bytes). MakesAlgorithm t (Ok algorithm)) (c.deref.ensures.value ∙ (c.in_ok-algorithm.ensures.algorithm ∙ algorithm_is c.args.n)) c.in_ok-algorithm-2.ensures in
     let m = subst (λ (t : Bytes). MakesCompilation algorithm.tree t (Err e)) (c.deref-2.ensures.value ∙ (c.in_ok-algorithm.ensures.architecture ∙ architecture_is)) c.in_err-compilation.ensures in
-    rw (p.1, p.2) (λ next held. loading.compilation_refused next held (load_algorithm c.args.n) load_architecture (load_table c.args.n) algorithm is e m)
+    rw (p.1, p.2) (λ held. loading.compilation_refused held (load_algorithm c.args.n) load_architecture (load_table c.args.n) algorithm is e m)
 
 pub returns-in_err-rows-clause-makes : goal.returns-in_err-rows-clause-makes
 returns-in_err-rows-clause-makes c =
@@ -89,14 +89,14 @@ returns-in_err-rows-clause-makes c =
     let is = subst (λ (t : Bytes). MakesAlgorithm t (Ok algorithm)) (c.deref.ensures.value ∙ (c.in_ok-algorithm.ensures.algorithm ∙ algorithm_is c.args.n)) c.in_ok-algorithm-2.ensures in
     let says = subst (λ (t : Bytes). MakesCompilation algorithm.tree t (Ok architecture)) (c.deref-2.ensures.value ∙ (c.in_ok-algorithm.ensures.architecture ∙ architecture_is)) c.in_ok-compilation.ensures in
     let m = subst (λ (t : Bytes). MakesTable algorithm.tree t (Err e)) (c.deref-3.ensures.value ∙ (c.in_ok-algorithm.ensures.table ∙ table_is c.args.n)) c.in_err-rows.ensures in
-    rw (p.1, p.2) (λ next held. loading.table_refused next held (load_algorithm c.args.n) load_architecture (load_table c.args.n) algorithm is architecture says e m)
+    rw (p.1, p.2) (λ held. loading.table_refused held (load_algorithm c.args.n) load_architecture (load_table c.args.n) algorithm is architecture says e m)
 
 pub returns-clause-makes : goal.returns-clause-makes
-returns-clause-makes c = λ next held.
+returns-clause-makes c = λ held.
     let algorithm = c.in_ok-algorithm-2.algorithm in
     let architecture = c.in_ok-compilation.compilation in
     let rows = c.in_ok-rows.rows in
     let is = subst (λ (t : Bytes). MakesAlgorithm t (Ok algorithm)) (c.deref.ensures.value ∙ (c.in_ok-algorithm.ensures.algorithm ∙ algorithm_is c.args.n)) c.in_ok-algorithm-2.ensures in
     let says = subst (λ (t : Bytes). MakesCompilation algorithm.tree t (Ok architecture)) (c.deref-2.ensures.value ∙ (c.in_ok-algorithm.ensures.architecture ∙ architecture_is)) c.in_ok-compilation.ensures in
     let m = subst (λ (t : Bytes). MakesTable algorithm.tree t (Ok rows)) (c.deref-3.ensures.value ∙ (c.in_ok-algorithm.ensures.table ∙ table_is c.args.n)) c.in_ok-rows.ensures in
-    loading.rows_so next held (load_algorithm c.args.n) load_architecture (load_table c.args.n) algorithm is architecture says rows (made_of next c.compile_execution.result) m (c.compile_execution.ensures.makes next held)
+    loading.rows_so held (load_algorithm c.args.n) load_architecture (load_table c.args.n) algorithm is architecture says rows (executed_in c.compile_execution.result) m (c.compile_execution.ensures.makes held)

@@ -8,7 +8,6 @@ use Rattle.top_plans.specs.declared.ActualError.{ActualError}
 use Rattle.top_plans.specs.Actual.{actual_of}
 use Rattle.top_plans.specs.ActualAnswers as answers
 use Rattle.compiler.proofs.Sizes.{few_lines}
-use Rattle.lab_words.specs.Command.{for_length}
 use Rattle.lab_words.specs.View.{form_view}
 use Rattle.lab_plans.specs.Answers.{form_text}
 use Rattle.lab_program.specs.Found.{problem_of}
@@ -33,7 +32,7 @@ write_reactions-requires-clause-within c =
     subst (λ (row : List ℕ). AreWithin x.flat.vertices (acts s) (replicate c.args.extent.reactions row)) (sym c.deref.ensures.value) both.1
 
 pub write_reactions-requires-clause-program : goal.write_reactions-requires-clause-program
-write_reactions-requires-clause-program c = (c.in_ok-program.ensures (record { tries = 0; seed = 1; goal = for_length })).0
+write_reactions-requires-clause-program c = c.in_ok-program.ensures.0
 
 pub returns-in_err-ticks : goal.returns-in_err-ticks
 returns-in_err-ticks c =
@@ -46,7 +45,7 @@ pub returns-in_err-program : goal.returns-in_err-program
 returns-in_err-program c =
     let x = c.args.compilation.now in
     let p = err_from_is_err_and c.from_residual-in_err-program.result c.from_residual-in_err-program.ensures.1 in
-    rw (p.1, p.2) (λ effort. undated Global (form_view c.args.extent.form) (problem_of x effort) c.args.extent.reactions c.args.schedule.now _ c.in_ok-ticks.ticks.items c.in_err-program.field-0.0 c.in_ok-ticks.ensures (c.in_err-program.ensures effort))
+    rw (p.1, p.2) (λ effort. undated Global (form_view c.args.extent.form) (problem_of x effort) c.args.extent.reactions c.args.schedule.now _ c.in_ok-ticks.ticks.items c.in_err-program.field-0.0 c.in_ok-ticks.ensures c.in_err-program.ensures)
 
 pub returns-in_err-write_reactions : goal.returns-in_err-write_reactions
 returns-in_err-write_reactions c =
@@ -60,4 +59,4 @@ returns c = λ effort.
     let form = form_view c.args.extent.form in
     let n = c.args.extent.reactions in
     let made = c.in_ok-write_reactions.ensures ∙ ap (λ (row : List ℕ). form_text form x.flat x.text.archi s (replicate n row)) c.deref.ensures.value in
-    dated form (problem_of x effort) n s _ c.in_ok-ticks.ticks.items _ c.in_ok-ticks.ensures (c.in_ok-program.ensures effort).1 made
+    dated form (problem_of x effort) n s _ c.in_ok-ticks.ticks.items _ c.in_ok-ticks.ensures c.in_ok-program.ensures.1 made

@@ -10,7 +10,7 @@ use Rattle.top_plans.specs.Status.{ending_of}
 use Rattle.lab_plans.specs.Asked.{of_text}
 use Rattle.lab_plans.specs.Plans.{graph_plan}
 use Rattle.lab_program.proofs.Carried.{no_schedule, stopped, wanted, went_on}
-use Rattle.lab_program.proofs.Stops.{algorithm_stops}
+use Rattle.compiler.proofs.Steps.{algorithm_stops}
 use Rattle.lab_program.proofs.commands.graph.graph_text.Goals as goal
 
 pub returns-in_err-algorithm-clause-carries : goal.returns-in_err-algorithm-clause-carries
@@ -19,7 +19,7 @@ returns-in_err-algorithm-clause-carries g c =
     let p = err_from_is_err_and c.from_residual.result c.from_residual.ensures.1 in
     let status = c.in_err-algorithm.field-0.0 in
     rw (p.1, p.2) (stopped (graph_plan c.args.algorithm.now) (H c.args.shelf.now) (H c.read_algorithm.new.shelf) status
-    (algorithm_stops (ending_of status) c.args.algorithm.now (H c.args.shelf.now) (H c.read_algorithm.new.shelf) c.in_err-algorithm.ensures.reads _))
+    (algorithm_stops c.args.algorithm.now (H c.args.shelf.now) (H c.read_algorithm.new.shelf) status _ c.in_err-algorithm.ensures.reads))
 
 pub returns-in_err-print_drawing-clause-carries : goal.returns-in_err-print_drawing-clause-carries
 returns-in_err-print_drawing-clause-carries g c =

@@ -15,7 +15,6 @@ use Rattle.compiler.proofs.Architectures.{refused_so}
 use Rattle.lab_plans.specs.Asked.{of_text}
 use Rattle.lab_plans.specs.Plans.{Asks, lint_of_both}
 use Rattle.lab_program.proofs.Carried.{compiled_in, no_schedule, read_on, stopped, wanted}
-use Rattle.lab_program.proofs.Stops.{architecture_stops_in}
 use Rattle.lab_program.proofs.commands.lint.lint_both.Goals as goal
 
 pub returns-in_err-text-clause-carries : goal.returns-in_err-text-clause-carries
@@ -37,7 +36,7 @@ returns-in_err-compilation-clause-carries g c =
     read_on Architecture c.args.name.now (H c.args.shelf.now) held text
     (λ (text : Bytes). architecture_in text main (λ (d : Described) (t : Table). give (of_text (lint_of_both c.args.algorithm.now.defs text d)))) _ c.in_ok-text.ensures.read
     (stopped _ held held (status_of_architecture e)
-    (architecture_stops_in (ending_of (status_of_architecture e)) text main held (λ next. refused_so main text next held e h) _)))
+    (refused_so main text _ held e h)))
 
 pub returns-in_err-print_both-clause-carries : goal.returns-in_err-print_both-clause-carries
 returns-in_err-print_both-clause-carries g c =

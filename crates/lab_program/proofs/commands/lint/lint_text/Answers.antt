@@ -3,7 +3,7 @@ use Rattle.std.specs.Prelude.{option_map}
 use Rattle.top_plans.specs.Status.{ending_of}
 use Rattle.lab_plans.specs.Plans.{lint_behind}
 use Rattle.lab_program.proofs.Carried.{stopped, went_on}
-use Rattle.lab_program.proofs.Stops.{algorithm_stops}
+use Rattle.compiler.proofs.Steps.{algorithm_stops}
 use Rattle.lab_program.proofs.commands.lint.lint_text.Goals as goal
 
 pub lint_of_read-requires-clause-names : goal.lint_of_read-requires-clause-names
@@ -23,7 +23,7 @@ returns-in_err-algorithm-clause-carries g c =
     let p = err_from_is_err_and c.from_residual.result c.from_residual.ensures.1 in
     let status = c.in_err-algorithm.field-0.0 in
     rw (p.1, p.2) (stopped _ (H c.args.shelf.now) (H c.read_algorithm.new.shelf) status
-    (algorithm_stops (ending_of status) c.args.algorithm.now (H c.args.shelf.now) (H c.read_algorithm.new.shelf) c.in_err-algorithm.ensures.reads _))
+    (algorithm_stops c.args.algorithm.now (H c.args.shelf.now) (H c.read_algorithm.new.shelf) status _ c.in_err-algorithm.ensures.reads))
 
 pub returns-clause-carries : goal.returns-clause-carries
 returns-clause-carries g c =

@@ -1,21 +1,18 @@
-use Rattle.std.proofs.Common.{◌≡◌, ◌∙◌, ◌*◌, ℕ, length, sum, sym, ap, inl, refl, subst}
-use Rattle.std.specs.Prelude.{Ok, Some, None, Option}
+use Rattle.std.proofs.Common.{◌≡◌, ◌∙◌, ◌*◌, ℕ, length, sum, sym, ap, refl}
+use Rattle.std.specs.Prelude.{Ok, Some, None}
 use Rattle.std.proofs.lemmas.Result.{err_from_is_err_and}
-use Rattle.syn_base.specs.declared.limits.LimitFault.{LimitFault}
 use Rattle.algo_laws.specs.Ends.{actuator_lengths}
 use Rattle.sync_meaning.specs.Simulated.{simulated}
 use Rattle.svg_text.specs.Plot.{plot}
 use Rattle.top_plans.specs.ActNames.{actuator_names}
-use Rattle.top_plans.specs.Ending.{refused}
 use Rattle.top_plans.specs.Plan.{give}
-use Rattle.top_plans.specs.Run.{Makes, refuses}
 use Rattle.top_plans.proofs.Makes.{gave}
-use Rattle.top_plans.specs.Status.{above}
-use Rattle.top_plans.specs.Plans.{excess, unless}
+use Rattle.top_plans.specs.declared.Status.TheVariants.{Limit}
+use Rattle.top_plans.specs.Plans.{excess}
 use Rattle.lab_plans.specs.Asked.{of_text}
 use Rattle.lab_plans.specs.Plans.{plotted}
-use Rattle.lab_program.proofs.Carried.{no_schedule, wanted}
-use Rattle.lab_program.proofs.Stops.{other}
+use Rattle.compiler.proofs.Steps.{is_above, is_within}
+use Rattle.lab_program.proofs.Carried.{no_schedule, stopped, wanted}
 use Rattle.lab_program.proofs.commands.plot.plot_over.Goals as goal
 
 pub returns-in_err-width : goal.returns-in_err-width
@@ -30,11 +27,8 @@ returns-in-Some c = λ held.
     let counted : c.count.result * c.in_ok-width.width ≡ length rows.reactions * sum (actuator_lengths main) =
     ap (λ (n : ℕ). n * c.in_ok-width.width) c.count.ensures ∙ ap (λ (n : ℕ). length rows.reactions * n) c.in_ok-width.ensures in
     let over : excess (length rows.reactions * sum (actuator_lengths main)) ≡ Some c.in-Some.limit = sym (ap excess counted) ∙ sym c.excess.ensures ∙ c.in-Some.is in
-    let ending = refused (above c.in-Some.limit) in (
-      other ending,
-      subst (λ (o : Option LimitFault). Makes held held (unless o (give (of_text (plot (actuator_names main) (simulated main rows))))) (other ending)) (sym over) (refuses (inl refl, λ file name. refl)),
-      refl,
-    )
+    stopped (plotted main rows) held held (Limit c.in-Some.limit)
+    (is_above held (excess (length rows.reactions * sum (actuator_lengths main))) c.in-Some.limit (give (of_text (plot (actuator_names main) (simulated main rows)))) over)
 
 pub returns-in_err-print_plot-in-None : goal.returns-in_err-print_plot-in-None
 returns-in_err-print_plot-in-None c =
@@ -50,6 +44,6 @@ returns-in_ok-print_plot-in-None c = λ held.
     let within : excess (length rows.reactions * sum (actuator_lengths main)) ≡ None = sym (ap excess counted) ∙ sym c.excess.ensures ∙ c.in-None.is in
     let asked = of_text (plot (actuator_names main) (simulated main rows)) in (
       Ok asked,
-      subst (λ (o : Option LimitFault). Makes held held (unless o (give asked)) (Ok asked)) (sym within) (gave held asked (Ok asked) refl),
+      is_within held held (excess (length rows.reactions * sum (actuator_lengths main))) (give asked) (Ok asked) within (gave held asked (Ok asked) refl),
       (no_schedule, tt, c.in_ok-print_plot-in-None.ensures),
     )

@@ -5,7 +5,7 @@ use Rattle.top_plans.specs.Status.{ending_of}
 use Rattle.top_plans.specs.Plans.{table_plan}
 use Rattle.lab_plans.specs.Plans.{plot_plan, plotted}
 use Rattle.lab_program.proofs.Carried.{rows_on, stopped, went_on}
-use Rattle.lab_program.proofs.Stops.{algorithm_stops, table_stops}
+use Rattle.compiler.proofs.Steps.{algorithm_stops, table_stops}
 use Rattle.lab_program.proofs.commands.plot.plot_text.Goals as goal
 
 pub plot_over-requires-clause-lens : goal.plot_over-requires-clause-lens
@@ -17,7 +17,7 @@ returns-in_err-algorithm-clause-carries g c =
     let p = err_from_is_err_and c.from_residual.result c.from_residual.ensures.1 in
     let status = c.in_err-algorithm.field-0.0 in
     rw (p.1, p.2) (stopped (plot_plan c.args.algorithm.now c.args.sensors.now) (H c.args.shelf.now) (H c.read_algorithm.new.shelf) status
-    (algorithm_stops (ending_of status) c.args.algorithm.now (H c.args.shelf.now) (H c.read_algorithm.new.shelf) c.in_err-algorithm.ensures.reads _))
+    (algorithm_stops c.args.algorithm.now (H c.args.shelf.now) (H c.read_algorithm.new.shelf) status _ c.in_err-algorithm.ensures.reads))
 
 pub returns-in_err-rows-clause-carries : goal.returns-in_err-rows-clause-carries
 returns-in_err-rows-clause-carries g c =
@@ -29,7 +29,7 @@ returns-in_err-rows-clause-carries g c =
     went_on c.args.algorithm.now (H c.args.shelf.now) (H c.read_algorithm.new.shelf) (H c.read_table.new.shelf) c.in_ok-algorithm.algorithm
     (λ (defs : Defs) (main : Vertex). table_plan main c.args.sensors.now (plotted main)) _ c.in_ok-algorithm.ensures.reads
     (stopped _ (H c.read_algorithm.new.shelf) (H c.read_table.new.shelf) status
-    (table_stops (ending_of status) main c.args.sensors.now (H c.read_algorithm.new.shelf) (H c.read_table.new.shelf) c.in_err-rows.ensures.reads (plotted main)))
+    (table_stops main c.args.sensors.now (H c.read_algorithm.new.shelf) (H c.read_table.new.shelf) status (plotted main) c.in_err-rows.ensures.reads))
     )
 
 pub returns-clause-carries : goal.returns-clause-carries

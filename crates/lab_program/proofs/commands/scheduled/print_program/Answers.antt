@@ -13,7 +13,7 @@ returns-in_err-program c =
     let p = err_from_is_err_and c.from_residual.result c.from_residual.ensures.1 in
     let given = c.args.compilation.now in
     rw (p.1, p.2) (λ effort. let q = problem_of given effort in
-    not_built Global q c.args.schedule.now (macro_code (program q c.args.schedule.now) given.flat given.text.archi) c.in_err-program.field-0.0 (c.in_err-program.ensures effort))
+    not_built Global q c.args.schedule.now (macro_code (program q c.args.schedule.now) given.flat given.text.archi) c.in_err-program.field-0.0 c.in_err-program.ensures)
 
 pub returns-in_err-print_code : goal.returns-in_err-print_code
 returns-in_err-print_code c =
@@ -24,7 +24,7 @@ pub returns : goal.returns
 returns c = λ effort.
     let given = c.args.compilation.now in
     let q = problem_of given effort in
-    let is = c.in_ok-program.ensures effort in
+    let is = c.in_ok-program.ensures in
     built q c.args.schedule.now (macro_code (program q c.args.schedule.now) given.flat given.text.archi) _ is.1
     (c.in_ok-print_code.ensures.text ∙ ap (λ (t : Bytes). t ++ macro_code c.in_ok-program.program given.flat given.text.archi) c.new-text.ensures.items
     ∙ ap (λ (x : Program). macro_code x given.flat given.text.archi) is.0)

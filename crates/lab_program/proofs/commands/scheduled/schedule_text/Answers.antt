@@ -15,7 +15,8 @@ use Rattle.lab_plans.specs.Plans.{problem}
 use Rattle.lab_program.specs.Found.{problem_of}
 use Rattle.lab_program.specs.Texts.{Carries}
 use Rattle.lab_program.proofs.Carried.{compiled_on, found_so, stopped, went_on}
-use Rattle.lab_program.proofs.Stops.{algorithm_stops, architecture_stops}
+use Rattle.compiler.proofs.Steps.{algorithm_stops}
+use Rattle.compiler.proofs.Architectures.{architecture_stops}
 use Rattle.lab_program.proofs.commands.scheduled.schedule_text.Goals as goal
 
 pub text_of_found-requires-clause-durations : goal.text_of_found-requires-clause-durations
@@ -30,7 +31,7 @@ returns-in_err-algorithm-clause-carries g c =
     let p = err_from_is_err_and c.from_residual.result c.from_residual.ensures.1 in
     let status = c.in_err-algorithm.field-0.0 in
     rw (p.1, p.2) (stopped _ (H c.args.shelf.now) (H c.read_algorithm.new.shelf) status
-    (algorithm_stops (ending_of status) c.args.algorithm.now (H c.args.shelf.now) (H c.read_algorithm.new.shelf) c.in_err-algorithm.ensures.reads _))
+    (algorithm_stops c.args.algorithm.now (H c.args.shelf.now) (H c.read_algorithm.new.shelf) status _ c.in_err-algorithm.ensures.reads))
 
 pub returns-in_err-compilation-clause-carries : goal.returns-in_err-compilation-clause-carries
 returns-in_err-compilation-clause-carries g c =
@@ -44,7 +45,7 @@ returns-in_err-compilation-clause-carries g c =
     went_on c.args.algorithm.now (H c.args.shelf.now) (H c.read_algorithm.new.shelf) (H c.read_architecture.new.shelf) c.in_ok-algorithm.algorithm
     (λ (defs : Defs) (main : Vertex). architecture_plan c.args.architecture.now main (λ (d : Described) (t : Table). give (of_schedule subject (problem main d t effort)))) _ c.in_ok-algorithm.ensures.reads
     (stopped _ (H c.read_algorithm.new.shelf) (H c.read_architecture.new.shelf) status
-    (architecture_stops (ending_of status) c.args.architecture.now main (H c.read_algorithm.new.shelf) (H c.read_architecture.new.shelf) c.in_err-compilation.ensures.reads _))
+    (architecture_stops main c.args.architecture.now (H c.read_algorithm.new.shelf) (H c.read_architecture.new.shelf) status _ c.in_err-compilation.ensures.reads))
     )
 
 pub returns-clause-carries : goal.returns-clause-carries

@@ -11,7 +11,8 @@ use Rattle.compiler.proofs.Sizes.{few_lines}
 use Rattle.lab_plans.specs.Plans.{why_behind, why_behind_text, why_of_code}
 use Rattle.lab_program.specs.Texts.{Carries}
 use Rattle.lab_program.proofs.Carried.{described_on, read_on, stopped, wanted, went_on}
-use Rattle.lab_program.proofs.Stops.{algorithm_stops, description_stops}
+use Rattle.compiler.proofs.Steps.{algorithm_stops}
+use Rattle.compiler.proofs.Architectures.{description_stops}
 use Rattle.lab_program.proofs.commands.why.why_text.Goals as goal
 
 pub flatten_tree-requires-clause-names : goal.flatten_tree-requires-clause-names
@@ -29,7 +30,7 @@ returns-in_err-algorithm-clause-carries g c =
     let p = err_from_is_err_and c.from_residual.result c.from_residual.ensures.1 in
     let status = c.in_err-algorithm.field-0.0 in
     rw (p.1, p.2) (stopped _ (H c.args.shelf.now) (H c.read_algorithm.new.shelf) status
-    (algorithm_stops (ending_of status) c.args.algorithm.now (H c.args.shelf.now) (H c.read_algorithm.new.shelf) c.in_err-algorithm.ensures.reads _))
+    (algorithm_stops c.args.algorithm.now (H c.args.shelf.now) (H c.read_algorithm.new.shelf) status _ c.in_err-algorithm.ensures.reads))
 
 pub returns-in_err-described-clause-carries : goal.returns-in_err-described-clause-carries
 returns-in_err-described-clause-carries g c =
@@ -40,7 +41,7 @@ returns-in_err-described-clause-carries g c =
     went_on c.args.algorithm.now (H c.args.shelf.now) (H c.read_algorithm.new.shelf) (H c.read_description.new.shelf) c.in_ok-algorithm.algorithm
     (why_behind c.args.architecture.now c.args.code.now) _ c.in_ok-algorithm.ensures.reads
     (stopped _ (H c.read_algorithm.new.shelf) (H c.read_description.new.shelf) status
-    (description_stops (ending_of status) c.args.architecture.now (H c.read_algorithm.new.shelf) (H c.read_description.new.shelf) c.in_err-described.ensures.reads _)))
+    (description_stops c.args.architecture.now (H c.read_algorithm.new.shelf) (H c.read_description.new.shelf) status _ c.in_err-described.ensures.reads)))
 
 pub returns-in_err-flat-clause-carries : goal.returns-in_err-flat-clause-carries
 returns-in_err-flat-clause-carries g c =

@@ -12,8 +12,14 @@ use Rattle.top_plans.specs.Status.{ending_of}
 use Rattle.top_plans.specs.Given.{written}
 use Rattle.top_plans.specs.Plans.{architecture_plan, both_texts}
 use Rattle.compiler.proofs.Architectures as architecture
-use Rattle.compiler.proofs.Steps.{went_on}
+use Rattle.compiler.proofs.Steps.{algorithm_stops, went_on}
 use Rattle.syndex_program.proofs.commands.check.check_both.Goals as goal
+
+pub returns-in_err-algorithm-clause-makes : goal.returns-in_err-algorithm-clause-makes
+returns-in_err-algorithm-clause-makes g c =
+    let H = g.S.Shelf.held in
+    let p = err_from_is_err_and c.from_residual.result c.from_residual.ensures.1 in
+    rw (p.1, p.2) (algorithm_stops c.args.algorithm.now (H c.args.shelf.now) (H c.read_algorithm.new.shelf) c.in_err-algorithm.field-0.0 _ c.in_err-algorithm.ensures.reads)
 
 pub returns-in_err-compilation-clause-makes : goal.returns-in_err-compilation-clause-makes
 returns-in_err-compilation-clause-makes g c =
@@ -22,7 +28,8 @@ returns-in_err-compilation-clause-makes g c =
     rw (p.1, p.2) (
     went_on c.args.algorithm.now (H c.args.shelf.now) (H c.read_algorithm.new.shelf) (H c.read_architecture.new.shelf) c.in_ok-algorithm.algorithm
     (λ (defs : Defs) (main : Vertex). architecture_plan c.args.architecture.now main (λ (d : Described) (t : Table). give (written (both_texts defs d)))) (Err (ending_of c.in_err-compilation.field-0.0))
-    c.in_ok-algorithm.ensures.reads (c.in_err-compilation.ensures.reads _)
+    c.in_ok-algorithm.ensures.reads
+    (architecture.architecture_stops c.in_ok-algorithm.algorithm.tree c.args.architecture.now (H c.read_algorithm.new.shelf) (H c.read_architecture.new.shelf) c.in_err-compilation.field-0.0 _ c.in_err-compilation.ensures.reads)
     )
 
 pub returns-in_err-print_both-clause-makes : goal.returns-in_err-print_both-clause-makes

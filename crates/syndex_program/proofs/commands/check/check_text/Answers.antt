@@ -8,8 +8,14 @@ use Rattle.algo_tree.specs.Tree.{Vertex}
 use Rattle.top_plans.specs.Plan.{give}
 use Rattle.top_plans.proofs.Makes.{gave, memory}
 use Rattle.top_plans.specs.Given.{written}
-use Rattle.compiler.proofs.Steps.{went_on}
+use Rattle.compiler.proofs.Steps.{algorithm_stops, went_on}
 use Rattle.syndex_program.proofs.commands.check.check_text.Goals as goal
+
+pub returns-in_err-algorithm-clause-makes : goal.returns-in_err-algorithm-clause-makes
+returns-in_err-algorithm-clause-makes g c =
+    let H = g.S.Shelf.held in
+    let p = err_from_is_err_and c.from_residual.result c.from_residual.ensures.1 in
+    rw (p.1, p.2) (algorithm_stops c.args.algorithm.now (H c.args.shelf.now) (H c.read_algorithm.new.shelf) c.in_err-algorithm.field-0.0 _ c.in_err-algorithm.ensures.reads)
 
 pub returns-in_err-print_definitions-clause-makes : goal.returns-in_err-print_definitions-clause-makes
 returns-in_err-print_definitions-clause-makes g c =

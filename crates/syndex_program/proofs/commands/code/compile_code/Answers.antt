@@ -10,13 +10,14 @@ use Rattle.top_plans.proofs.Makes.{gave, memory}
 use Rattle.top_plans.specs.Given.{written}
 use Rattle.top_plans.specs.Plans.{macro_plan, program_by}
 use Rattle.compiler.proofs.Steps.{is_within}
+use Rattle.syndex_program.proofs.Executing.{program_stops}
 use Rattle.syndex_program.proofs.commands.code.compile_code.Goals as goal
 
 pub returns-in_err-program : goal.returns-in_err-program
 returns-in_err-program c =
     let given = c.args.compilation.now in
     let p = err_from_is_err_and c.from_residual.result c.from_residual.ensures.1 in
-    rw (p.1, p.2) (λ held. c.in_err-program.ensures held (λ (p : Program). give (written (macro_code p given.flat given.text.archi))))
+    rw (p.1, p.2) (λ held. program_stops given.flat given.text.archi given.durations c.in_err-program.field-0.0 held (λ (p : Program). give (written (macro_code p given.flat given.text.archi))) c.in_err-program.ensures)
 
 pub returns-in_err-print_program : goal.returns-in_err-print_program
 returns-in_err-print_program c =

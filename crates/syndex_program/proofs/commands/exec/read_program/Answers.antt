@@ -1,8 +1,7 @@
-use Rattle.std.proofs.Common.{◌≤◌, length, subst, sym}
+use Rattle.std.proofs.Common.{◌≤◌, inl, length, subst, sym}
 use Rattle.std.proofs.lemmas.Result.{err_from_is_err_and}
 use Rattle.syn_base.specs.Bytes.{Bytes}
 use Rattle.top_plans.specs.Shelf.{file_bound}
-use Rattle.top_plans.specs.Run.{not_read}
 use Rattle.syndex_program.specs.Foreign.{MakesProgram}
 use Rattle.syndex_program.proofs.Coded.{program_read}
 use Rattle.compiler.proofs.Sizes.{few_lines}
@@ -14,7 +13,7 @@ program_of-requires g c = few_lines c.deref.result.now (subst (λ (t : Bytes). l
 pub returns-in_err-text-clause-reads : goal.returns-in_err-text-clause-reads
 returns-in_err-text-clause-reads g c =
     let p = err_from_is_err_and c.from_residual.result c.from_residual.ensures.1 in
-    rw (p.1, p.2) (λ next. not_read c.in_err-text.ensures.not_read)
+    rw (p.1, p.2) (inl c.in_err-text.ensures.not_read)
 
 pub returns-clause-reads : goal.returns-clause-reads
 returns-clause-reads g c =

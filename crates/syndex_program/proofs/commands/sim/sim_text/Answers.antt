@@ -5,11 +5,17 @@ use Rattle.algo_tree.specs.Tree.{Vertex}
 use Rattle.top_plans.specs.Status.{ending_of}
 use Rattle.top_plans.specs.Plans.{rows_plan, table_plan}
 use Rattle.compiler.specs.Reads.{text_in}
-use Rattle.compiler.proofs.Steps.{rows_went_on, went_on}
+use Rattle.compiler.proofs.Steps.{algorithm_stops, rows_went_on, table_stops, went_on}
 use Rattle.syndex_program.proofs.commands.sim.sim_text.Goals as goal
 
 pub text_over-requires-clause-lens : goal.text_over-requires-clause-lens
 text_over-requires-clause-lens g c = c.in_ok-rows.ensures.reads.2.1
+
+pub returns-in_err-algorithm-clause-makes : goal.returns-in_err-algorithm-clause-makes
+returns-in_err-algorithm-clause-makes g c =
+    let H = g.S.Shelf.held in
+    let p = err_from_is_err_and c.from_residual.result c.from_residual.ensures.1 in
+    rw (p.1, p.2) (algorithm_stops c.args.algorithm.now (H c.args.shelf.now) (H c.read_algorithm.new.shelf) c.in_err-algorithm.field-0.0 _ c.in_err-algorithm.ensures.reads)
 
 pub returns-in_err-rows-clause-makes : goal.returns-in_err-rows-clause-makes
 returns-in_err-rows-clause-makes g c =
@@ -18,7 +24,7 @@ returns-in_err-rows-clause-makes g c =
     rw (p.1, p.2) (
     went_on c.args.algorithm.now (H c.args.shelf.now) (H c.read_algorithm.new.shelf) (H c.read_table.new.shelf) c.in_ok-algorithm.algorithm
     (λ (defs : Defs) (main : Vertex). table_plan main c.args.sensors.now (rows_plan main)) (Err (ending_of c.in_err-rows.field-0.0)) c.in_ok-algorithm.ensures.reads
-    (c.in_err-rows.ensures.reads (rows_plan c.in_ok-algorithm.algorithm.tree))
+    (table_stops c.in_ok-algorithm.algorithm.tree c.args.sensors.now (H c.read_algorithm.new.shelf) (H c.read_table.new.shelf) c.in_err-rows.field-0.0 (rows_plan c.in_ok-algorithm.algorithm.tree) c.in_err-rows.ensures.reads)
     )
 
 pub returns-clause-makes : goal.returns-clause-makes
