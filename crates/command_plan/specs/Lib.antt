@@ -1,6 +1,7 @@
 pub mod Plan
 pub mod Ending
 pub mod Stage
+pub mod Answer
 pub mod Run
 pub mod Answers
 -- What the definitions here speak of: files and outputs.

@@ -6,6 +6,7 @@ use Rattle.outside.specs.Shelf.{Held, IsRead, OthersStay, Stays, file_bound}
 use Rattle.outside.specs.Sink.{Sunk, Appends, Wrote}
 use Rattle.outside.specs.declared.file.File.{File}
 use Rattle.command_plan.specs.Plan.{Plan, give, refuse, read}
+use Rattle.command_plan.specs.Answer.{Answer}
 use Rattle.command_plan.specs.Stage.{Stage, after_jobs, RunsSome}
 use Rattle.command_plan.specs.Ending.{Ending, done, refused, unread, unwritten, no_memory}
 
@@ -44,6 +45,12 @@ pub data Makes {R A : Type 0} : Held → Held → Plan R A → Result A (Ending 
       → WasRead file name old between bytes → Makes between new (next bytes) made →
       Makes old new (read file name too_long next) made
 
+-- a text was written by one call; or a part of it, and the sink's count rose
+abbrev pub Writes : {R : Type 0} → Bytes → Sunk → Sunk → Ending R → Type 0
+Writes text sunk sunk' done = Appends sunk sunk' text
+Writes text sunk sunk' unwritten = Wrote sunk sunk' text false
+Writes text sunk sunk' _ = ⊥
+
 module _ {R J D : Type 0} (leaves : J → D → D) where
   -- It stopped at this stage: memory ran out before its text was written, or not all of the text was written and the
   -- sink's count rose.
@@ -60,13 +67,19 @@ module _ {R J D : Type 0} (leaves : J → D → D) where
       Stops stage sunk sunk' d d' ending ⊎ ((mid : Sunk) × Appends sunk mid stage.text ×
       Performs stages mid sunk' (after_jobs leaves stage.jobs d) d' ending)
 
-  module _ {A : Type 0} (stages : A → List (Stage J)) where
-    -- what was given is performed; where nothing was, that is the ending, nothing is written and no job is run
+  -- the stages of an answer were performed; a refusal is the ending, nothing is written and no job is run
+  abbrev pub Follows : Answer R J → Sunk → Sunk → D → D → Ending R → Type 0
+  Follows (Ok stages) sunk sunk' d d' ending = Performs stages sunk sunk' d d' ending
+  Follows (Err refusal) sunk sunk' d d' ending = (ending ≡ refused refusal) × (sunk' ≡ sunk) × (d' ≡ d)
+
+  module _ {A : Type 0} (some : A → (Answer R J → Type 0) → Type 0) where
+    -- for what was given, some answer that is allowed was followed; where nothing was given, that is the ending,
+    -- nothing is written and no job is run
     abbrev pub Ends : Result A (Ending R) → Sunk → Sunk → D → D → Ending R → Type 0
-    Ends (Ok a) sunk sunk' d d' ending = Performs (stages a) sunk sunk' d d' ending
+    Ends (Ok a) sunk sunk' d d' ending = some a (λ answer. Follows answer sunk sunk' d d' ending)
     Ends (Err stop) sunk sunk' d d' ending = (ending ≡ stop) × (sunk' ≡ sunk) × (d' ≡ d)
 
-    -- the plan was carried out: something was given, and then performed
+    -- the plan was carried out: something was given, and then answered
     abbrev pub Ran : Plan R A → Held → Held → Sunk → Sunk → D → D → Ending R → Type 0
     Ran plan held held' sunk sunk' d d' ending =
         (made : Result A (Ending R)) × Makes held held' plan made × Ends made sunk sunk' d d' ending

@@ -1,6 +1,8 @@
 pub mod Status
 pub mod Lines
+pub mod Written
 -- What the definitions here speak of: plans, and the causes for which texts are refused.
+pub use Rattle.command_plan.specs.Answer
 pub use Rattle.command_plan.specs.Answers as PlanAnswers
 pub use Rattle.command_plan.specs.Bytes
 pub use Rattle.command_plan.specs.Ending

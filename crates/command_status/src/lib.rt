@@ -1,4 +1,5 @@
-//! How a command ends: its status, the number with which the program ends, and the line that says why.
+//! How a command ends: its status, the number with which the program ends, and the line that says why; and the
+//! writing of a text by one call, which is an end of most commands.
 #![tactic(auto)]
 
 mod architecture;
@@ -6,9 +7,11 @@ mod code;
 mod durations;
 mod line;
 mod status;
+mod written;
 
-pub use line::say;
+pub use line::{report, say};
 pub use status::Status;
+pub use written::{put_text, write_text};
 
 // What the clauses here speak of: plans, and the causes for which texts are refused.
 pub use actual_defs::{ActualError, ActualFault};

@@ -1,4 +1,4 @@
-//! The line of a status on the error sink, written piece by piece without memory. The top call writes it by `say`.
+//! The line of a status on the error sink, written piece by piece without memory. The top calls write it by `report`.
 ghost use Rattle.std.specs.Prelude.{◌≡◌, is_ok};
 ghost use Rattle.command_plan.specs.Sink.{Wrote};
 ghost use Rattle.command_status.specs.Lines.{
@@ -34,6 +34,15 @@ pub fn say<E: Sink>(err: &mut E, status: &Status)
     ensures { Said (line_of status.now) (E.sunk err.old) (E.sunk err.new) }
 {
     let _ = write_line(err, status);
+}
+
+/// Writes the line of a status, and returns the status.
+pub fn report<E: Sink>(err: &mut E, status: Status) -> Status
+    ensures same { result ≡ status }
+    ensures line { Said (line_of status) (E.sunk err.old) (E.sunk err.new) }
+{
+    say(err, &status);
+    status
 }
 
 /// Writes the status's line, which is empty where the command is done.

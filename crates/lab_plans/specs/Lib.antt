@@ -2,6 +2,5 @@ pub mod Names
 pub mod Asked
 pub mod Answers
 pub mod Plans
-pub mod Run
 pub mod Refusals
 pub mod Replies

@@ -1,66 +1,63 @@
 -- What the top call answers.
-use Rattle.std.specs.Prelude.{◌≡◌, ◌⊎◌, Option, Some, None, Result, Ok, Err, IsOkAnd, IsSomeAnd}
+use Rattle.std.specs.Prelude.{◌≡◌, ◌⊎◌, Option, Some, None, Result, Ok, IsOkAnd}
 use Rattle.syn_base.specs.Bytes.{Bytes}
 use Rattle.self_timed.specs.declared.Schedule.{Schedule}
-use Rattle.top_plans.specs.Faults.{Rose}
+use Rattle.top_plans.specs.Answer.{Answer, for_some, text_answer}
 use Rattle.top_plans.specs.Shelf.{Held}
 use Rattle.top_plans.specs.Sink.{Sunk, Appends, AppendsPrefix}
-use Rattle.top_plans.specs.declared.File.{File}
 use Rattle.top_plans.specs.Plan.{outcome}
-use Rattle.top_plans.specs.Ending.{Ending, done, refused, unread, unwritten, no_memory}
-use Rattle.top_plans.specs.PlanAnswers.{NoFault, UnnamedStay}
+use Rattle.top_plans.specs.Ending.{Ending, done, refused, unwritten}
+use Rattle.top_plans.specs.PlanAnswers.{Answers}
+use Rattle.top_plans.specs.Run.{Ran}
 use Rattle.top_plans.specs.Status.{Refusal, usage}
 use Rattle.lab_words.specs.Command.{Command}
 use Rattle.lab_plans.specs.Names.{names_of}
 use Rattle.lab_plans.specs.Asked.{Asked, IsFoundFor}
 use Rattle.lab_plans.specs.Answers.{answer}
-use Rattle.lab_plans.specs.Plans.{plan_of}
-use Rattle.lab_plans.specs.Run.{Ran}
+use Rattle.lab_plans.specs.Plans.{Asks, plan_of}
 
--- for some schedule that may be found, what is answered of it has this
-abbrev pub Finds : (Result Bytes Refusal → Type 0) → Asked → Type 0
-Finds P asked = (s : Schedule) × IsFoundFor asked s × P (answer asked s)
+-- no command runs a job, and nothing is driven
+abbrev pub leaves : ⊥ → Unit {0} → Unit {0}
+leaves job driven = driven
 
--- what an ending means, where the shelf went from held to held', and the output from sunk to sunk'
+-- what is answered of the schedule that was found, which is written by one call
+abbrev pub answered : Asked → Schedule → Answer Refusal ⊥
+answered asked s = text_answer (answer asked s)
+
+-- some schedule may be found for what is asked for, and what is answered of it has this
+abbrev pub found : Asked → (Answer Refusal ⊥ → Type 0) → Type 0
+found = for_some IsFoundFor answered
+
+-- the plan was carried out
+abbrev pub CarriedOut : Asks → Held → Held → Sunk → Sunk → Ending Refusal → Type 0
+CarriedOut plan held held' sunk sunk' ending = Ran leaves found plan held held' sunk sunk' tt tt ending
+
+-- The ending is that of the plan which the words ask for, it is Usage only for words that are no command, and all is
+-- written by one call.
 pub record Replies (command : Option Command) (held held' : Held) (sunk sunk' : Sunk)
     (ending : Ending Refusal) : Type 0 where
-  -- the plan of the words was carried out, over the bytes that were read, told or not
-  pub ran : Ran (plan_of command) held held' sunk sunk' ending
-  -- the counts of files that the words do not name are as before
-  pub unnamed_stay : UnnamedStay (names_of command) held held'
-  -- Usage comes only for words that are no command
+  pub answers : Answers leaves found (plan_of command) (names_of command) held held' sunk sunk' tt tt ending
   pub usage : ending ≡ refused usage → command ≡ None
-  -- done: the text that is defined, of a schedule that was found, was appended
-  pub done_means : ending ≡ done → (o : Result Asked Refusal) → outcome held.told (plan_of command) ≡ Some o →
-      IsOkAnd o (Finds (λ r. IsOkAnd r (λ text. Appends sunk sunk' text)))
-  -- a refusal is the first one of the texts, or that of a schedule that was found
-  pub refused_means : (refusal : Refusal) → ending ≡ refused refusal → (o : Result Asked Refusal) →
-      outcome held.told (plan_of command) ≡ Some o →
-      (o ≡ Err refusal) ⊎ IsOkAnd o (Finds (λ r. r ≡ Err refusal))
-  -- a file was not read: its count rose under the name that the words give it
-  pub unread_means : (file : File) → ending ≡ unread file →
-      IsSomeAnd (names_of command file) (λ name. Rose (held.faults file name) (held'.faults file name))
-  -- not all was written: the output's count rose, and a prefix of the defined text was appended
-  pub unwritten_means : ending ≡ unwritten → Rose sunk.faults sunk'.faults × ((o : Result Asked Refusal) →
-      outcome held.told (plan_of command) ≡ Some o →
-      IsOkAnd o (Finds (λ r. IsOkAnd r (λ text. AppendsPrefix sunk sunk' text))))
-  -- nothing is appended with any other ending
-  pub nothing : (ending ≡ done) ⊎ (ending ≡ unwritten) ⊎ (sunk' ≡ sunk)
-  -- where the first refusal is told and no file's count rose, it is answered, or memory ran out
-  pub refuses : (refusal : Refusal) → outcome held.told (plan_of command) ≡ Some (Err refusal) →
-      NoFault (names_of command) held held' → (ending ≡ refused refusal) ⊎ (ending ≡ no_memory)
-  -- where all texts are accepted and no count rose, the command is done, or refused for a schedule that was found, or
-  -- memory ran out
-  pub complete : (asked : Asked) → outcome held.told (plan_of command) ≡ Some (Ok asked) →
-      NoFault (names_of command) held held' → ¬ Rose sunk.faults sunk'.faults →
-      (ending ≡ done) ⊎ Finds (λ r. (refusal : Refusal) × (r ≡ Err refusal) × (ending ≡ refused refusal)) asked
-      ⊎ (ending ≡ no_memory)
+  pub once : (ending ≡ done) ⊎ (ending ≡ unwritten) ⊎ (sunk' ≡ sunk)
 
 -- What was carried out of the plan of the words replies.
 abbrev pub CommandsReply : Type 0
 CommandsReply =
     (command : Option Command) (held held' : Held) (sunk sunk' : Sunk) (ending : Ending Refusal) →
-    Ran (plan_of command) held held' sunk sunk' ending → Replies command held held' sunk sunk' ending
+    CarriedOut (plan_of command) held held' sunk sunk' ending → Replies command held held' sunk sunk' ending
+
+-- for some schedule that may be found, what is answered of it is a text that has this
+abbrev pub FindsText : (Bytes → Type 0) → Asked → Type 0
+FindsText P asked = (s : Schedule) × IsFoundFor asked s × IsOkAnd (answer asked s) P
+
+-- Done: the text of a schedule that may be found was appended. A fault of the output: a prefix of one.
+abbrev pub TextsAreWritten : Type 0
+TextsAreWritten =
+    (command : Option Command) (held held' : Held) (sunk sunk' : Sunk) (ending : Ending Refusal) →
+    Replies command held held' sunk sunk' ending → (asked : Asked) →
+    outcome held.told (plan_of command) ≡ Some (Ok asked) →
+    (ending ≡ done → FindsText (λ text. Appends sunk sunk' text) asked) ×
+    (ending ≡ unwritten → FindsText (λ text. AppendsPrefix sunk sunk' text) asked)
 
 -- nothing is read for words that are no command
 abbrev pub LeavesUnread : Option Command → Held → Held → Type 0

@@ -7,11 +7,17 @@
 #![tactic(auto)]
 
 ghost use Rattle.lab_plans.specs.Refusals.{NoAnswerWantsMemory, NoPlanWantsMemory};
-ghost use Rattle.lab_plans.specs.Replies.{CommandsReply};
+ghost use Rattle.lab_plans.specs.Replies.{CommandsReply, TextsAreWritten};
 
 /// What was carried out of the plan of the words replies.
 pub fn commands_reply()
     ensures { CommandsReply }
+{}
+
+/// Done of any command: the text of a schedule that may be found was appended; and after a fault of the output a prefix
+/// of one.
+pub fn texts_are_written()
+    ensures { TextsAreWritten }
 {}
 
 /// No refusal is that for want of memory, whatever the files hold and whichever schedule is found: words and texts are

@@ -21,7 +21,10 @@ use Rattle.top_plans.specs.ReadText.{program_in}
 use Rattle.top_plans.specs.CodeRefusals.{CodeError}
 use Rattle.top_plans.specs.Plan.{give}
 use Rattle.top_plans.specs.Ending.{Ending, no_memory, refused}
-use Rattle.top_plans.specs.Run.{Makes, WasRead, was_read}
+use Rattle.top_plans.specs.Answer.{text_answer}
+use Rattle.top_plans.specs.Written.{Written}
+use Rattle.top_plans.specs.Run.{Follows, Makes, WasRead, Writes, was_read}
+use Rattle.top_plans.proofs.Meaning.{writes_one}
 use Rattle.top_plans.proofs.Makes.{after_err, gave, memory}
 use Rattle.top_plans.specs.Status.{Refusal, ending_of, of_code, status_of_code}
 use Rattle.top_plans.specs.declared.Status.{Status}
@@ -36,9 +39,8 @@ use Rattle.lab_words.specs.Command.{Command, Effort, Form}
 use Rattle.lab_plans.specs.Asked.{Asked, of_dates}
 use Rattle.lab_plans.specs.Answers.{answer}
 use Rattle.lab_plans.specs.Plans.{Asks, problem, why_of_code}
-use Rattle.lab_plans.specs.Replies.{LeavesUnread}
-use Rattle.lab_plans.specs.Run.{Ends, Ran, Writes}
-use Rattle.lab_program.specs.Texts.{Carries, GivesOfFound, Is, Written}
+use Rattle.lab_plans.specs.Replies.{CarriedOut, LeavesUnread, leaves}
+use Rattle.lab_program.specs.Texts.{Carries, GivesOfFound, Is}
 
 -- the plan stopped so
 pub stopped : {A : Type 0} (plan : Asks) (old new : Held) (status : Status) → Makes old new plan (Err (ending_of status)) → Carries {A = A} plan old new (Err status)
@@ -86,16 +88,17 @@ pub rows_on : {A : Type 0} (main : Vertex) (name : Bytes) (a b c : Held) (rows :
 rows_on main name a b c rows next result reads (made, m, h) = (made, steps.rows_went_on main name a b c rows next made reads m, h)
 
 -- the text was made, and then it was written
-ends_so : {A : Type 0} (answered : Result Bytes Refusal) (result : Result (Vec ℕ A) Status) (sunk sunk' : Sunk) (ending : Ending Refusal) → Is answered result → Written result sunk sunk' ending → Ends answered sunk sunk' ending
-ends_so (Ok bytes) (Ok text) sunk sunk' ending is h = subst (λ (b : Bytes). Writes b sunk sunk' ending) is h
-ends_so (Err refusal) (Err status) sunk sunk' ending is h = (h.0 ∙ is, h.1)
-ends_so (Ok bytes) (Err status) sunk sunk' ending is h = absurd is
-ends_so (Err refusal) (Ok text) sunk sunk' ending is h = absurd is
+follows_so : {A : Type 0} (given : Result Bytes Refusal) (result : Result (Vec ℕ A) Status) (sunk sunk' : Sunk) (ending : Ending Refusal) → Is given result → Written result sunk sunk' ending
+    → Follows {J = ⊥} leaves (text_answer given) sunk sunk' tt tt ending
+follows_so (Ok bytes) (Ok text) sunk sunk' ending is h = writes_one leaves bytes sunk sunk' tt ending (subst (λ (b : Bytes). Writes b sunk sunk' ending) is h)
+follows_so (Err refusal) (Err status) sunk sunk' ending is h = (h.0 ∙ is, h.1, refl)
+follows_so (Ok bytes) (Err status) sunk sunk' ending is h = absurd is
+follows_so (Err refusal) (Ok text) sunk sunk' ending is h = absurd is
 
 pub ran_so : {A : Type 0} (plan : Asks) (held held' : Held) (result : Result (Vec ℕ A) Status) (sunk sunk' : Sunk) (ending : Ending Refusal) → Carries plan held held' result → Written result sunk sunk' ending
-    → Ran plan held held' sunk sunk' ending
-ran_so plan held held' result sunk sunk' ending (Ok asked, m, (s, found, is)) h = (Ok asked, m, (s, found, ends_so (answer asked s) result sunk sunk' ending is h))
-ran_so plan held held' (Err status) sunk sunk' ending (Err stop, m, is) h = (Err stop, m, (h.0 ∙ is, h.1))
+    → CarriedOut plan held held' sunk sunk' ending
+ran_so plan held held' result sunk sunk' ending (Ok asked, m, (s, found, is)) h = (Ok asked, m, (s, found, follows_so (answer asked s) result sunk sunk' ending is h))
+ran_so plan held held' (Err status) sunk sunk' ending (Err stop, m, is) h = (Err stop, m, (h.0 ∙ is, h.1, refl))
 ran_so plan held held' (Ok text) sunk sunk' ending (Err stop, m, is) h = absurd is
 
 -- a text by itself is that of no schedule

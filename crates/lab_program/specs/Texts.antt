@@ -3,7 +3,6 @@ use Rattle.std.specs.Prelude.{◌≡◌, ◌⊎◌, ℕ, Result, Ok, Err, Vec}
 use Rattle.syn_base.specs.Bytes.{Bytes}
 use Rattle.self_timed.specs.declared.Schedule.{Schedule}
 use Rattle.top_plans.specs.Shelf.{Held}
-use Rattle.top_plans.specs.Sink.{Sunk}
 use Rattle.top_plans.specs.Ending.{Ending, refused, no_memory}
 use Rattle.top_plans.specs.Run.{Makes}
 use Rattle.top_plans.specs.Status.{Refusal, ending_of}
@@ -11,7 +10,6 @@ use Rattle.top_plans.specs.declared.Status.{Status}
 use Rattle.lab_plans.specs.Asked.{Asked, IsFoundFor}
 use Rattle.lab_plans.specs.Answers.{answer}
 use Rattle.lab_plans.specs.Plans.{Asks}
-use Rattle.lab_plans.specs.Run.{Writes}
 
 module _ {A : Type 0} where
   -- a text that is to be written is this one, or its status stands for this refusal
@@ -46,8 +44,3 @@ module _ {A : Type 0} where
   abbrev pub Carries : Asks → Held → Held → Result (Vec ℕ A) Status → Type 0
   Carries plan held held' result =
       (made : Result Asked (Ending Refusal)) × Makes held held' plan made × Follows made result
-
-  -- the text was written; where there is none the ending is why, and nothing is written
-  abbrev pub Written : Result (Vec ℕ A) Status → Sunk → Sunk → Ending Refusal → Type 0
-  Written (Ok text) sunk sunk' ending = Writes text.items sunk sunk' ending
-  Written (Err status) sunk sunk' ending = (ending ≡ ending_of status) × (sunk' ≡ sunk)

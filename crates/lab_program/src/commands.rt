@@ -3,11 +3,10 @@ ghost use Rattle.std.specs.Prelude.{Some};
 ghost use Rattle.top_plans.specs.Status.{ending_of};
 ghost use Rattle.top_plans.specs.Shelf.{Stays};
 ghost use Rattle.lab_plans.specs.Plans.{plan_for};
-ghost use Rattle.lab_plans.specs.Replies.{LeavesUnread};
-ghost use Rattle.lab_plans.specs.Run.{Ran, Writes};
+ghost use Rattle.lab_plans.specs.Replies.{CarriedOut, LeavesUnread};
 ghost use Rattle.lab_words.specs.View.{view_of};
 ghost use Rattle.lab_program.specs.Counts.{IsCounted};
-ghost use Rattle.lab_program.specs.Texts.{Carries, Written};
+ghost use Rattle.lab_program.specs.Texts.{Carries};
 
 pub mod dates;
 pub mod graph;
@@ -29,7 +28,7 @@ use crate::commands::table::table_text;
 use crate::commands::why::why_text;
 use lab_words::Command;
 use std::alloc::Global;
-use top_plans::{Failed, Shelf, Sink, Status, write_whole};
+use top_plans::{Shelf, Sink, Status, write_text};
 
 /// Carries out a command, and returns how it ended.
 pub fn carry_out<S: Shelf, K: Sink>(
@@ -39,7 +38,7 @@ pub fn carry_out<S: Shelf, K: Sink>(
     out: &mut K,
 ) -> Status
     requires { IsCounted (view_of command.now) }
-    ensures ran { Ran (plan_for (view_of command.now)) (S.held shelf.old) (S.held shelf.new)
+    ensures ran { CarriedOut (plan_for (view_of command.now)) (S.held shelf.old) (S.held shelf.new)
         (K.sunk out.old) (K.sunk out.new) (ending_of result) }
     ensures stays { Stays (S.held shelf.old) (S.held shelf.new) }
     ensures unread { LeavesUnread (Some (view_of command.now)) (S.held shelf.old) (S.held shelf.new) }
@@ -93,25 +92,5 @@ fn command_text<S: Shelf>(
             };
             dates_text(alloc, shelf, algorithm, architecture, durations, extent)
         }
-    }
-}
-
-/// Writes the text that was made by one call, or returns why there is none.
-fn write_text<K: Sink>(out: &mut K, made: Result<Vec<u8>, Status>) -> Status
-    ensures { Written made (K.sunk out.old) (K.sunk out.new) (ending_of result) }
-{
-    match made {
-        Err(refused) => refused,
-        Ok(text) => put_text(out, &text),
-    }
-}
-
-/// Writes a text by one call.
-fn put_text<K: Sink>(out: &mut K, text: &[u8]) -> Status
-    ensures { Writes text.now (K.sunk out.old) (K.sunk out.new) (ending_of result) }
-{
-    match write_whole(out, text) {
-        Ok(()) => Status::Done,
-        Err(Failed) => Status::WriteFault,
     }
 }

@@ -14,7 +14,7 @@ use crate::commands::carry_out;
 use lab_plans::commands_reply;
 use lab_words::command_of;
 use std::alloc::Global;
-use top_plans::{Shelf, Sink, say};
+use top_plans::{Shelf, Sink, report};
 
 mod commands;
 mod found;
@@ -53,13 +53,4 @@ fn ending<S: Shelf, K: Sink>(alloc: Global, words: &[String], shelf: &mut S, out
         Ok(None) => Status::Usage,
         Err(_) => Status::OutOfMemory,
     }
-}
-
-/// Writes the line of a status to the error stream.
-fn report<E: Sink>(err: &mut E, status: Status) -> Status
-    ensures same { result ≡ status }
-    ensures line { Said (line_of status) (E.sunk err.old) (E.sunk err.new) }
-{
-    say(err, &status);
-    status
 }

@@ -1,5 +1,5 @@
-//! The real outside world: files, standard output and standard error. Their contracts do not tell
-//! what they hold, and each counts its failed calls.
+//! The real outside world: files, standard output, standard error and the words of the command line. The
+//! contracts of files and outputs do not tell what they hold, and each counts its failed calls.
 //!
 //! Nothing here is proved beyond that: what a file gives and what a terminal takes is trusted. `main` makes
 //! a `FileShelf`, a `StdSink` and an `ErrSink`, and hands them to the program.
@@ -8,9 +8,18 @@
 ghost use Rattle.std.specs.Prelude.{◌≡◌, ◌≤◌, length, replicate, IfSome};
 
 use outside::{Failed, File, Shelf, Sink};
-use std::fs;
 use std::io::{Read, Write};
 use std::os::unix::fs::FileExt;
+use std::{env, fs, io};
+
+/// The words of the command line; none where one of them is no text.
+pub fn words_of(rt: &HostRuntime) -> io::Result<Vec<String>> {
+    match env::args(rt) {
+        Ok(words) => Ok(words.collect(rt.alloc())?),
+        Err(error) if error.kind() == io::ErrorKind::InvalidData => Ok(Vec::new(rt.alloc())),
+        Err(error) => Err(error),
+    }
+}
 
 /// A file that cannot be read at a place, as a pipe or a terminal: it stays open and is read on.
 #[derive(Drop)]

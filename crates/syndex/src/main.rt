@@ -2,20 +2,10 @@
 #![tactic(auto)]
 
 use outside::{GateFree, write_whole};
-use real_edge::{ErrSink, FileShelf, StdSink};
+use real_edge::{ErrSink, FileShelf, StdSink, words_of};
 use std::process::ExitCode;
-use std::{env, io};
 use syndex_program::{Status, syndex};
 use word_table::Driven;
-
-/// The words of the command line; none where one of them is no text.
-fn words_of(rt: &HostRuntime) -> io::Result<Vec<String>> {
-    match env::args(rt) {
-        Ok(words) => Ok(words.collect(rt.alloc())?),
-        Err(error) if error.kind() == io::ErrorKind::InvalidData => Ok(Vec::new(rt.alloc())),
-        Err(error) => Err(error),
-    }
-}
 
 /// Carries out the command of the words and ends with the number of its status. Where there is not enough memory for
 /// the words themselves, the line of that status is written here.

@@ -1,6 +1,6 @@
 -- Carrying out the plan of macro-code of any hand, part by part.
 use Rattle.std.proofs.Common.{◌≡◌, ◌∙◌, List, [], ◌∷◌, map, length, Option, Some, Result, Ok, Err, refl, sym, ap, subst, inl, inr}
-use Rattle.std.specs.Prelude.{IsTrue}
+use Rattle.std.specs.Prelude.{ℕ, IsTrue, Vec}
 use Rattle.syn_base.specs.Bytes.{Bytes}
 use Rattle.text_lines.specs.declared.fault.TextError.TheVariants as error
 use Rattle.text_lines.specs.Refusals.{Refused, Limit}
@@ -24,14 +24,17 @@ use Rattle.top_plans.specs.declared.CheckCause.TheVariants.{Sequences, Calls, Tr
 use Rattle.top_plans.specs.declared.Stop.{Stop}
 use Rattle.top_plans.specs.Plan.{Plan}
 use Rattle.top_plans.specs.Ending.{Ending, no_memory, refused}
-use Rattle.top_plans.specs.Run.{Makes, Ran, WasRead, not_read, refuses, was_read}
+use Rattle.top_plans.specs.Run.{Ends, Makes, Ran, WasRead, not_read, refuses, was_read}
 use Rattle.top_plans.proofs.Makes.{after_err, after_ok, memory, wanting}
 use Rattle.top_plans.specs.Status.{Refusal, ending_of, failed_check, of_code}
 use Rattle.top_plans.specs.declared.Status.{Status}
+use Rattle.top_plans.specs.Written.{Written}
+use Rattle.top_plans.proofs.Meaning.{writes_one}
 use Rattle.top_plans.specs.Checks.{lacking, stop_of, told}
 use Rattle.top_plans.proofs.Checks.{lacks, lacks_nothing}
-use Rattle.top_plans.specs.Given.{Given, stages}
+use Rattle.top_plans.specs.Given.{Given, performed}
 use Rattle.top_plans.specs.Plans.{Made, code_in, read_file, unless_lacking}
+use Rattle.compiler.specs.Reads.{text_in}
 use Rattle.syndex_program.specs.Executes.{EndsOrWants}
 use Rattle.syndex_program.specs.Foreign.{IsProgram, MakesProgram, ReadsProgram, status_of_checked}
 
@@ -92,6 +95,11 @@ module _ (g : Graph) (a : Archi) where
 
 -- memory may run out before anything is performed
 pub ran_so : (plan : Made) (made : Result Given (Ending Refusal)) (held held' : Held) (sunk sunk' : Sunk) (d d' : Driven) (ending : Ending Refusal)
-    → Makes held held' plan made → EndsOrWants made sunk sunk' d d' ending → Ran driven_by stages plan held held' sunk sunk' d d' ending
+    → Makes held held' plan made → EndsOrWants made sunk sunk' d d' ending → Ran driven_by performed plan held held' sunk sunk' d d' ending
 ran_so plan made held held' sunk sunk' d d' ending m (inl h) = (made, m, h)
 ran_so plan made held held' sunk sunk' d d' ending m (inr h) = (Err no_memory, wanting held held' plan made m, h)
+
+-- the text was written, or why there is none is the ending
+pub written_ends : {A : Type 0} (made : Result (Vec ℕ A) Status) (sunk sunk' : Sunk) (d : Driven) (ending : Ending Refusal) → Written made sunk sunk' ending → Ends driven_by performed (text_in made) sunk sunk' d d ending
+written_ends (Ok text) sunk sunk' d ending h = writes_one driven_by text.items sunk sunk' d ending h
+written_ends (Err status) sunk sunk' d ending h = (h.0, h.1, refl)

@@ -16,7 +16,7 @@ use Rattle.top_plans.specs.Ending.{Ending, no_memory}
 use Rattle.top_plans.specs.Run.{Ends}
 use Rattle.top_plans.specs.Status.{Refusal, ending_of}
 use Rattle.top_plans.specs.declared.Status.{Status}
-use Rattle.top_plans.specs.Given.{Given, Execution as Executed, one_job, stages}
+use Rattle.top_plans.specs.Given.{Given, Execution as Executed, one_job, performed}
 use Rattle.top_plans.specs.Plan.{Plan}
 use Rattle.top_plans.specs.Plans.{
   algorithm_in,
@@ -85,4 +85,5 @@ made_of what (Err status) = Err (ending_of status)
 -- what was made is performed; or memory ran out before anything was written and any job was run
 abbrev pub EndsOrWants : Result Given (Ending Refusal) → Sunk → Sunk → Driven → Driven → Ending Refusal → Type 0
 EndsOrWants made sunk sunk' d d' ending =
-    Ends driven_by stages made sunk sunk' d d' ending ⊎ Ends driven_by stages (Err no_memory) sunk sunk' d d' ending
+    Ends driven_by performed made sunk sunk' d d' ending ⊎
+    Ends driven_by performed (Err no_memory) sunk sunk' d d' ending

@@ -8,7 +8,7 @@ use Rattle.top_plans.specs.Ending.{Ending}
 use Rattle.top_plans.specs.Run.{Ran}
 use Rattle.top_plans.specs.Status.{Refusal, ending_of}
 use Rattle.top_plans.specs.declared.Status.{Status}
-use Rattle.top_plans.specs.Given.{stages}
+use Rattle.top_plans.specs.Given.{performed}
 use Rattle.top_plans.specs.Names.{RunsJobs}
 use Rattle.top_plans.specs.Plans.{plan_for}
 use Rattle.top_plans.specs.Replies.{PlainReplies}
@@ -18,7 +18,8 @@ abbrev pub IsRunOrPlain : Command → Held → Held → Sunk → Sunk → Option
 IsRunOrPlain command held held' sunk sunk' None = RunsJobs command × (held' ≡ held) × (sunk' ≡ sunk)
 IsRunOrPlain command held held' sunk sunk' (Some status) =
     ¬ RunsJobs command ×
-    ((driven : Driven) → Ran driven_by stages (plan_for command) held held' sunk sunk' driven driven (ending_of status))
+    ((driven : Driven) →
+    Ran driven_by performed (plan_for command) held held' sunk sunk' driven driven (ending_of status))
 
 -- the ending that a status stands for, if there is one
 abbrev pub ending_in : Option Status → Option (Ending Refusal)

@@ -2,10 +2,10 @@
 ghost use Rattle.std.specs.Prelude.{Some};
 ghost use Rattle.command_words.specs.View.{job_view, plain_view, view_of};
 ghost use Rattle.word_rule.specs.Driven.{Driven as Drives, driven_by};
-ghost use Rattle.top_plans.specs.Run.{Ends, Makes, Performs, Ran};
+ghost use Rattle.top_plans.specs.Run.{Makes, Ran};
 ghost use Rattle.top_plans.specs.Status.{ending_of};
 ghost use Rattle.top_plans.specs.Shelf.{Stays};
-ghost use Rattle.top_plans.specs.Given.{stages, written};
+ghost use Rattle.top_plans.specs.Given.{performed};
 ghost use Rattle.top_plans.specs.Plans.{plan_for};
 ghost use Rattle.syndex_program.specs.Counts.{IsCounted};
 ghost use Rattle.syndex_program.specs.Plainly.{IsRunOrPlain};
@@ -37,7 +37,7 @@ use job_windows::Drive;
 use std::alloc::Global;
 use std::sync::Wait;
 use std::thread::Threads;
-use top_plans::{Failed, Gate, Shelf, Sink, Status, write_whole};
+use top_plans::{Gate, Shelf, Sink, Status, write_text};
 use word_table::Driven;
 
 /// Carries out a command, and returns how it ended.
@@ -50,7 +50,7 @@ pub fn carry_out<R: Threads + Wait + Sync, S: Shelf, K: Sink, G: Gate>(
     driven: &mut Driven,
 ) -> Status
     requires { IsCounted (view_of command.now) }
-    ensures ran { Ran driven_by stages (plan_for (view_of command.now)) (S.held shelf.old)
+    ensures ran { Ran driven_by performed (plan_for (view_of command.now)) (S.held shelf.old)
         (S.held shelf.new) (K.sunk out.old) (K.sunk out.new) driven.old driven.new
         (ending_of result) }
     ensures stays { Stays (S.held shelf.old) (S.held shelf.new) }
@@ -90,7 +90,7 @@ fn plain_status<S: Shelf, K: Sink>(
 ) -> Status
     requires { IsCounted (plain_view command.now) }
     ensures ran { (driven : Drives) →
-        Ran driven_by stages (plan_for (plain_view command.now)) (S.held shelf.old)
+        Ran driven_by performed (plan_for (plain_view command.now)) (S.held shelf.old)
         (S.held shelf.new) (K.sunk out.old) (K.sunk out.new) driven driven (ending_of result) }
     ensures stays { Stays (S.held shelf.old) (S.held shelf.new) }
     ensures unread { LeavesUnread (Some (plain_view command.now)) (S.held shelf.old) (S.held shelf.new) }
@@ -145,7 +145,7 @@ fn job_status<R: Threads + Wait + Sync, S: Shelf, K: Sink, G: Gate>(
     driven: &mut Driven,
 ) -> Status
     requires { IsCounted (job_view command.now) }
-    ensures ran { Ran driven_by stages (plan_for (job_view command.now)) (S.held shelf.old)
+    ensures ran { Ran driven_by performed (plan_for (job_view command.now)) (S.held shelf.old)
         (S.held shelf.new) (K.sunk out.old) (K.sunk out.new) driven.old driven.new
         (ending_of result) }
     ensures stays { Stays (S.held shelf.old) (S.held shelf.new) }
@@ -175,27 +175,5 @@ fn job_status<R: Threads + Wait + Sync, S: Shelf, K: Sink, G: Gate>(
             let made = read_foreign(alloc, shelf, algorithm, architecture, code, sensors);
             finish_exec(alloc, made, out, drive, *workers, driven)
         }
-    }
-}
-
-/// Writes the text that was made, or returns why there is none.
-fn write_text<K: Sink>(out: &mut K, made: Result<Vec<u8>, Status>) -> Status
-    ensures { (driven : Drives) → Ends driven_by stages (text_in made) (K.sunk out.old)
-        (K.sunk out.new) driven driven (ending_of result) }
-{
-    match made {
-        Err(refused) => refused,
-        Ok(text) => put_text(out, &text),
-    }
-}
-
-/// Writes a text by one call.
-pub fn put_text<K: Sink>(out: &mut K, text: &[u8]) -> Status
-    ensures { (driven : Drives) → Performs driven_by (stages (written text.now)) (K.sunk out.old)
-        (K.sunk out.new) driven driven (ending_of result) }
-{
-    match write_whole(out, text) {
-        Ok(()) => Status::Done,
-        Err(Failed) => Status::WriteFault,
     }
 }

@@ -20,7 +20,9 @@ use job_windows::Drive;
 use std::alloc::Global;
 use std::sync::Wait;
 use std::thread::Threads;
-use top_plans::{Gate, Shelf, Sink, commands_reply, plain_commands_reply, say, values_are_written};
+use top_plans::{
+    Gate, Shelf, Sink, commands_reply, plain_commands_reply, report, values_are_written,
+};
 use word_table::Driven;
 
 mod commands;
@@ -128,13 +130,4 @@ fn ending<R: Threads + Wait + Sync, S: Shelf, K: Sink, G: Gate>(
         Ok(None) => Status::Usage,
         Err(_) => Status::OutOfMemory,
     }
-}
-
-/// Writes the line of a status to the error stream.
-fn report<E: Sink>(err: &mut E, status: Status) -> Status
-    ensures same { result ≡ status }
-    ensures line { Said (line_of status) (E.sunk err.old) (E.sunk err.new) }
-{
-    say(err, &status);
-    status
 }

@@ -1,16 +1,13 @@
 -- What each command reads and gives.
 use Rattle.std.proofs.Common.{◌≡◌, ℕ, Bool, true, false, length, Option, Some, None, Result, Ok, Err, refl, subst, arith}
-use Rattle.std.specs.Prelude.{◌⊎◌, if◌then◌else◌, nat_lt, option_and_then}
+use Rattle.std.specs.Prelude.{if◌then◌else◌, nat_lt, option_and_then}
 use Rattle.syn_base.specs.Bytes.{Bytes}
-use Rattle.command_status.specs.Shelf.{Held, file_bound}
+use Rattle.command_status.specs.Shelf.{file_bound}
 use Rattle.command_status.specs.declared.File.{File}
-use Rattle.command_status.specs.Sink.{Sunk}
 use Rattle.command_status.specs.Plan.{Plan, read, outcome, ReadsOnly, GivesOnly}
-use Rattle.command_status.specs.Ending.{Ending, done, unwritten}
-use Rattle.command_status.specs.PlanAnswers.{Answers, IsOnce, RunsNone}
+use Rattle.command_status.specs.PlanAnswers.{IsOnce, RunsNone}
 use Rattle.command_status.specs.Status.{Refusal}
 use Rattle.command_words.specs.Command.{Command, check, sim, flat, chart, code, run, load, exec, dates}
-use Rattle.word_rule.specs.Driven.{Driven, driven_by}
 use Rattle.top_plans.specs.Names.{names_for, names_of, RunsJobs, IsPlain}
 use Rattle.top_plans.specs.Given.{Given, written, printed, executed, summed, stages}
 use Rattle.top_plans.specs.Plans.{plan_for, plan_of}
@@ -63,13 +60,9 @@ once_leaf (exec a h c s w) (printed t e) p l = absurd l
 once_leaf (exec a h c s w) (summed e t) p l = absurd l
 
 -- all is written by one call, and no job is run
-gives_once : (command : Option Command) → IsPlain command → GivesOnly (IsOnce stages) (plan_of command)
+pub gives_once : (command : Option Command) → IsPlain command → GivesOnly (IsOnce stages) (plan_of command)
 gives_once None p = tt
 gives_once (Some command) p = gives_leaves (IsOnce stages) command (λ a l. (once_leaf command a p l).0)
-
-pub keeps_plain : (command : Option Command) → IsPlain command → (held held' : Held) (sunk sunk' : Sunk) (driven driven' : Driven) (ending : Ending Refusal)
-    → Answers driven_by stages (plan_of command) (names_of command) held held' sunk sunk' driven driven' ending → (ending ≡ done) ⊎ (ending ≡ unwritten) ⊎ (sunk' ≡ sunk)
-keeps_plain command p held held' sunk sunk' driven driven' ending answers = answers.once (gives_once command p)
 
 -- a load is written by one call too
 load_leaf : (n : ℕ) (a : Given) → Leaf Any (load n) a → IsOnce stages a

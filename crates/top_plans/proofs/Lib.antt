@@ -23,3 +23,5 @@ pub use Rattle.accepted_laws.proofs.Whole
 pub use Rattle.command_status.proofs.Made
 pub use Rattle.command_status.proofs.Makes
 pub use Rattle.command_status.proofs.Mapped
+pub use Rattle.command_status.proofs.Meaning
+pub use Rattle.command_status.proofs.Stages

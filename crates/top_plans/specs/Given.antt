@@ -1,5 +1,5 @@
 -- What an accepted command makes, and the stages in which it is made.
-use Rattle.std.specs.Prelude.{ℕ, List, [], ◌∷◌, map, length}
+use Rattle.std.specs.Prelude.{ℕ, List, [], ◌∷◌, map, length, Ok}
 use Rattle.syn_base.specs.Bytes.{Bytes}
 use Rattle.syn_base.specs.Rows.{Reactions}
 use Rattle.algo_rules.specs.Tree.{Vertex}
@@ -10,7 +10,9 @@ use Rattle.word_rule.specs.Windows.{window_job}
 use Rattle.self_timed.specs.Archi.{Architecture}
 use Rattle.self_timed.specs.Meaning.{initial_cells}
 use Rattle.self_timed.specs.declared.Program.{Program}
+use Rattle.command_status.specs.Answer.{Answer, exactly, one_text}
 use Rattle.command_status.specs.Stage.{Stage}
+use Rattle.command_status.specs.Status.{Refusal}
 use Rattle.accepted_laws.specs.FlatOf.{flat_of}
 use Rattle.accepted_laws.specs.ActNames.{actuator_names}
 use Rattle.accepted_laws.specs.ActText.{output_text}
@@ -56,9 +58,13 @@ window_stage e s = record {
 abbrev pub window_stages : Execution → List (Stage JobData)
 window_stages e = map (window_stage e) (starts (length e.rows.reactions))
 
--- a text by itself is written by one call; windows are written one after another
+-- A text by itself is written by one call; windows are written one after another
 abbrev pub stages : Given → List (Stage JobData)
-stages (written text) = record { jobs = []; text = text } ∷ []
+stages (written text) = one_text text
 stages (printed text e) = record { jobs = []; text = text } ∷ window_stages e
 stages (executed e) = window_stages e
 stages (summed e text) = record { jobs = window_jobs (one_job e); text = text } ∷ []
+
+-- Exactly these stages are the answer for what is given.
+abbrev pub performed : Given → (Answer Refusal JobData → Type 0) → Type 0
+performed = exactly (λ given. Ok (stages given))

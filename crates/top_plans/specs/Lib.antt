@@ -17,6 +17,7 @@ pub use Rattle.accepted_laws.specs.Flat
 pub use Rattle.accepted_laws.specs.FlatOf
 pub use Rattle.actual_durations.specs.Actual
 pub use Rattle.actual_durations.specs.Answers as ActualAnswers
+pub use Rattle.command_status.specs.Answer
 pub use Rattle.command_status.specs.Bytes
 pub use Rattle.command_status.specs.CodeRefusals
 pub use Rattle.command_status.specs.CodeText
@@ -35,6 +36,7 @@ pub use Rattle.command_status.specs.Sink
 pub use Rattle.command_status.specs.Stage
 pub use Rattle.command_status.specs.Status
 pub use Rattle.command_status.specs.Template
+pub use Rattle.command_status.specs.Written
 pub use Rattle.dates_text.specs.Chart
 pub use Rattle.dates_text.specs.Listing
 pub use Rattle.pressure_heuristic.specs.Adequation

@@ -1,20 +1,31 @@
 -- What the public calls answer.
-use Rattle.std.specs.Prelude.{◌≡◌, ◌⊎◌, ◌++◌, ℕ, List, Option, Some, None, Result, Ok, IsOkAnd}
+use Rattle.std.specs.Prelude.{◌≡◌, ◌⊎◌, ◌++◌, ℕ, List, Option, Some, None, Result, Ok, Err, IsOkAnd}
 use Rattle.syn_base.specs.Bytes.{Bytes}
 use Rattle.command_status.specs.Faults.{Rose}
 use Rattle.command_status.specs.Shelf.{Held}
 use Rattle.command_status.specs.Sink.{Sunk, Appends, AppendsPrefix}
-use Rattle.command_status.specs.Plan.{outcome}
+use Rattle.command_status.specs.Plan.{outcome, GivesOnly}
 use Rattle.command_status.specs.Stage.{text_of, after_jobs}
 use Rattle.command_status.specs.Ending.{Ending, done, refused, unwritten, no_memory}
 use Rattle.command_status.specs.Run.{Ran}
-use Rattle.command_status.specs.PlanAnswers.{Answers}
+use Rattle.command_status.specs.PlanAnswers.{Answers, IsOnce, RunsNone}
 use Rattle.command_status.specs.Status.{Refusal, usage}
 use Rattle.command_words.specs.Command.{Command, load, command_of}
 use Rattle.word_rule.specs.Driven.{Driven, driven_by}
 use Rattle.run_laws.specs.Windows.{window_jobs}
 use Rattle.top_plans.specs.Names.{names_of, RunsJobs, IsPlain}
-use Rattle.top_plans.specs.Given.{Given, written, printed, executed, summed, Execution, one_job, output_of, stages}
+use Rattle.top_plans.specs.Given.{
+  Given,
+  written,
+  printed,
+  executed,
+  summed,
+  Execution,
+  one_job,
+  output_of,
+  stages,
+  performed,
+}
 use Rattle.top_plans.specs.Plans.{plan_of}
 use Rattle.top_plans.specs.Meaning.{MakesTrue}
 use Rattle.top_plans.specs.Values.{WritesValues}
@@ -23,8 +34,15 @@ use Rattle.top_plans.specs.Values.{WritesValues}
 -- all that is accepted makes runs true.
 pub record Replies (command : Option Command) (held held' : Held) (sunk sunk' : Sunk) (driven driven' : Driven)
     (ending : Ending Refusal) : Type 0 where
-  pub answers : Answers driven_by stages (plan_of command) (names_of command)
+  pub answers : Answers driven_by performed (plan_of command) (names_of command)
       held held' sunk sunk' driven driven' ending
+  -- a refusal is the first one of the plan
+  pub first : (refusal : Refusal) → ending ≡ refused refusal → (o : Result Given Refusal) →
+      outcome held.told (plan_of command) ≡ Some o → o ≡ Err refusal
+  -- where all is written by one call, nothing is appended with any ending but done and a fault of the output
+  pub once : GivesOnly (IsOnce stages) (plan_of command) → (ending ≡ done) ⊎ (ending ≡ unwritten) ⊎ (sunk' ≡ sunk)
+  -- where no job is run, nothing is driven
+  pub idle : GivesOnly (RunsNone stages) (plan_of command) → driven' ≡ driven
   pub usage : ending ≡ refused usage → command ≡ None
   pub true_runs : (a : Given) → outcome held.told (plan_of command) ≡ Some (Ok a) → MakesTrue held.told command a
 
@@ -59,14 +77,14 @@ abbrev pub CommandsReply : Type 0
 CommandsReply =
     (command : Option Command) (held held' : Held) (sunk sunk' : Sunk) (driven driven' : Driven)
     (ending : Ending Refusal) →
-    Ran driven_by stages (plan_of command) held held' sunk sunk' driven driven' ending →
+    Ran driven_by performed (plan_of command) held held' sunk sunk' driven driven' ending →
     Replies command held held' sunk sunk' driven driven' ending
 
 -- What a call without threads carried out of the plan of words that run no job, whatever is driven, replies plainly.
 abbrev pub PlainCommandsReply : Type 0
 PlainCommandsReply =
     (command : Option Command) → IsPlain command → (held held' : Held) (sunk sunk' : Sunk) (ending : Ending Refusal) →
-    ((driven : Driven) → Ran driven_by stages (plan_of command) held held' sunk sunk' driven driven ending) →
+    ((driven : Driven) → Ran driven_by performed (plan_of command) held held' sunk sunk' driven driven ending) →
     RepliesPlainly command held held' sunk sunk' ending
 
 -- A load is written by one call, so that nothing is appended with any ending but done and a fault of the output.

@@ -17,8 +17,8 @@ pub use accepted_laws::{
 pub use actual_durations::actual_of;
 pub use command_status::{
     ActualError, ActualFault, CheckCause, CodeError, Failed, File, Gate, ReadAnswer, SensorCause,
-    SensorError, Shelf, Sink, Status, Stop, print_code, read_sensors, read_whole, say,
-    template_text, write_whole,
+    SensorError, Shelf, Sink, Status, Stop, print_code, put_text, read_sensors, read_whole, report,
+    say, template_text, write_text, write_whole,
 };
 pub use dates_text::{actual_are_within, dates_text, print_chart, repeated};
 pub use pressure_heuristic::{adequation, routes_are_least};

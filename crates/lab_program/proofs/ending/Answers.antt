@@ -29,14 +29,14 @@ returns-in-Ok-None-clause-replies g c =
     let held = g.S.Shelf.held c.args.shelf.now in
     let sunk = g.K.Sink.sunk c.args.out.now in
     subst (λ (o : Option Command). Replies o held held sunk sunk (refused usage)) (rw c.in-Ok-None.field-0-is at c.in-Ok-None.ensures)
-    (c.commands_reply.ensures None held held sunk sunk (refused usage) (Err (refused usage), refuses (inl refl, λ file name. refl), (refl, refl)))
+    (c.commands_reply.ensures None held held sunk sunk (refused usage) (Err (refused usage), refuses (inl refl, λ file name. refl), (refl, refl, refl)))
 
 pub returns-in-Err-clause-replies : goal.returns-in-Err-clause-replies
 returns-in-Err-clause-replies g c =
     let held = g.S.Shelf.held c.args.shelf.now in
     let sunk = g.K.Sink.sunk c.args.out.now in
     let o = command_of (map string_bytes c.args.words.now) in
-    c.commands_reply.ensures o held held sunk sunk no_memory (Err no_memory, memory held (plan_of o), (refl, refl))
+    c.commands_reply.ensures o held held sunk sunk no_memory (Err no_memory, memory held (plan_of o), (refl, refl, refl))
 
 pub returns-in-Err-clause-unread : goal.returns-in-Err-clause-unread
 returns-in-Err-clause-unread g c = unread_so (command_of (map string_bytes c.args.words.now)) (g.S.Shelf.held c.args.shelf.now)

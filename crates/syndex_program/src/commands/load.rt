@@ -9,14 +9,13 @@ ghost use Rattle.word_rule.specs.Driven.{driven_by};
 ghost use Rattle.top_plans.specs.Run.{Ends, Performs};
 ghost use Rattle.top_plans.specs.Status.{ending_of};
 ghost use Rattle.top_plans.specs.Stage.{after_jobs, RunsSome};
-ghost use Rattle.top_plans.specs.Given.{one_job, stages, summed};
+ghost use Rattle.top_plans.specs.Given.{one_job, stages, summed, performed};
 ghost use Rattle.top_plans.specs.Plans.{summary, summary_with};
 ghost use Rattle.syndex_program.specs.Executes.{IsExecuted, executed, made_of};
 ghost use Rattle.syndex_program.specs.Left.{jobs_left};
 ghost use Rattle.syndex_program.specs.Sums.{AreFew, total_left, total_of};
 ghost use Rattle.self_timed.specs.FlatLaws.{actuator_lens};
 
-use crate::commands::put_text;
 use crate::execution::Execution;
 use crate::windows::windows_of;
 use job_windows::{Drive, JobWindows};
@@ -24,7 +23,7 @@ use std::alloc::Global;
 use std::sync::Wait;
 use std::thread::Threads;
 use syn_base::{ActRows, OutOfMemory, append, append_count, print_int};
-use top_plans::{Gate, Sink, Status};
+use top_plans::{Gate, Sink, Status, put_text};
 use word_table::Driven;
 
 /// Runs what is to be executed, and writes its summary; or returns why there is nothing.
@@ -36,7 +35,7 @@ pub fn finish_load<R: Threads + Wait + Sync, K: Sink, G: Gate>(
     driven: &mut Driven,
 ) -> Status
     requires { IfOk made IsExecuted }
-    ensures { Ends driven_by stages (made_of (λ e. summed e (summary e)) made) (K.sunk out.old)
+    ensures { Ends driven_by performed (made_of (λ e. summed e (summary e)) made) (K.sunk out.old)
         (K.sunk out.new) driven.old driven.new (ending_of result) }
 {
     match made {

@@ -4,7 +4,7 @@ ghost use Rattle.syndex_program.specs.Stopped as windows;
 ghost use Rattle.word_rule.specs.Driven.{driven_by};
 ghost use Rattle.top_plans.specs.Run.{Ends, Performs};
 ghost use Rattle.top_plans.specs.Status.{Refusal, ending_of};
-ghost use Rattle.top_plans.specs.Given.{printed, stages};
+ghost use Rattle.top_plans.specs.Given.{printed, stages, performed};
 ghost use Rattle.top_plans.specs.Plans.{head};
 ghost use Rattle.syndex_program.specs.Executes.{IsExecuted, executed, made_of};
 
@@ -29,7 +29,7 @@ pub fn finish_run<R: Threads + Wait + Sync, K: Sink, G: Gate>(
     driven: &mut Driven,
 ) -> Status
     requires { IfOk made IsExecuted }
-    ensures { Ends driven_by stages (made_of (λ e. printed (head e) e) made) (K.sunk out.old)
+    ensures { Ends driven_by performed (made_of (λ e. printed (head e) e) made) (K.sunk out.old)
         (K.sunk out.new) driven.old driven.new (ending_of result) }
 {
     match made {

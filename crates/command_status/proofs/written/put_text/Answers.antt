@@ -1,4 +1,4 @@
-use Rattle.lab_program.proofs.commands.put_text.Goals as goal
+use Rattle.command_status.proofs.written.put_text.Goals as goal
 
 pub returns-in-Ok : goal.returns-in-Ok
 returns-in-Ok g c = c.in-Ok.ensures
