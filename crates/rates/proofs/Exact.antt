@@ -1,6 +1,6 @@
 -- Some rate is exact: from no ticks on, each cycle that is over a rate gives a higher one, and there are finitely many.
 use Rattle.std.proofs.Common.{◌≡◌, ℕ, zero, suc, ◌+◌, ◌*◌, ◌<◌, ◌≤◌, ◌⊎◌, List, [], ◌∷◌, ◌++◌, length, map, take, Option, Some, None, refl, ap, inl, inr, arith}
-use Rattle.std.specs.Prelude.{slice_get, ◌-◌, ◌/◌, ◌%◌}
+use Rattle.std.specs.Prelude.{slice_get, ◌-◌, ◌/◌}
 use Rattle.std.proofs.lemmas.Bool.{cases_lt}
 use Rattle.std.proofs.lemmas.Nat.{div-add-mod', le-div, mul-le}
 use Rattle.std.proofs.lemmas.Option.{same_Some}
@@ -30,7 +30,7 @@ above bound t r t' r' q some low less at = elim (cases_lt (bound * t') ((q + 1) 
   | inr z ↦ z
 ]
 
-quotient_rises : (bound t r t' r' : ℕ) → 0 < r → 0 < r' → r * r' ≤ bound → t * r' < t' * r → bound * t / r < bound * t' / r'
+pub quotient_rises : (bound t r t' r' : ℕ) → 0 < r → 0 < r' → r * r' ≤ bound → t * r' < t' * r → bound * t / r < bound * t' / r'
 quotient_rises bound t r t' r' some some' low less =
     let parts = div-add-mod' (bound * t) r in
     let at : bound * t / r * r ≤ bound * t = omega arith in
@@ -38,7 +38,7 @@ quotient_rises bound t r t' r' some some' low less =
     omega arith
 
 -- a quotient is no greater than what is divided
-quotient_low : (n r : ℕ) → 0 < r → n / r ≤ n
+pub quotient_low : (n r : ℕ) → 0 < r → n / r ≤ n
 quotient_low n r some =
     let parts = div-add-mod' n r in
     let one : 1 ≤ r = omega arith in

@@ -13,7 +13,8 @@ use Rattle.rates.specs.Arcs.{arcs}
 use Rattle.rates.specs.Rates.{IsCycle, IsWayTo, Precedes, Sustains, begin_or, has_room, is_sustained, is_sustained_from, lags, length_over}
 use Rattle.rates.proofs.Arced.{to_need}
 use Rattle.rates.proofs.Cycles.{takes_reactions}
-use Rattle.rates.proofs.Searching.{Avoids, Back, IsClosed, IsSearch, IsWay, Leads, at_first, closed, meets, offsets_low, part_back, raised, short, turned, turned_size}
+use Rattle.rates.specs.Search.{Avoids, Back, turned}
+use Rattle.rates.proofs.Searching.{IsClosed, IsSearch, IsWay, at_first, closed, meets, offsets_low, part_back, raised, short, turned_size}
 use Rattle.rates.proofs.Tested.{tested}
 
 -- a table, by number, with one entry put
@@ -39,7 +40,7 @@ total_low long (suc m) i l = elim (cases_eq m i) [
 ]
 
 -- how much is left below a bound, of the first numbers together
-abbrev left : ℕ → (ℕ → ℕ) → ℕ → ℕ
+abbrev pub left : ℕ → (ℕ → ℕ) → ℕ → ℕ
 left cap f zero = 0
 left cap f (suc m) = (cap - f m) + left cap f m
 
@@ -47,7 +48,7 @@ left_same : (cap : ℕ) (f g : ℕ → ℕ) (m : ℕ) → ((j : ℕ) → j < m �
 left_same cap f g zero h = refl
 left_same cap f g (suc m) h = let one = h m (omega arith) in let rest = left_same cap f g m (λ j l. h j (omega arith)) in omega arith
 
-left_less : (cap : ℕ) (f g : ℕ → ℕ) (i : ℕ) → f i < g i → g i ≤ cap → ((j : ℕ) → (j ≡ i → ⊥) → g j ≡ f j) → (m : ℕ) → i < m → left cap g m < left cap f m
+pub left_less : (cap : ℕ) (f g : ℕ → ℕ) (i : ℕ) → f i < g i → g i ≤ cap → ((j : ℕ) → (j ≡ i → ⊥) → g j ≡ f j) → (m : ℕ) → i < m → left cap g m < left cap f m
 left_less cap f g i up low other zero l = absurd (omega arith)
 left_less cap f g i up low other (suc m) l = elim (cases_eq m i) [
   | inl e ↦ (

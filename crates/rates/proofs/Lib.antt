@@ -8,7 +8,9 @@ pub mod Clocked
 pub mod Tabled
 pub mod Searching
 pub mod Exceeded
+pub mod Searches
 pub mod Exact
+pub mod Rising
 pub mod Single
 pub mod Whole
 pub mod WorkedArcs

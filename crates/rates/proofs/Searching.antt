@@ -1,6 +1,6 @@
 -- The search for offsets that fit a rate: of each act an offset so far, and the arc that gave it. Without a cycle of such arcs no offset is large;
 -- an arc that would close one shows a cycle that is over the rate.
-use Rattle.std.proofs.Common.{◌≡◌, ◌≢◌, ℕ, zero, suc, ◌+◌, ◌*◌, ◌<◌, ◌≤◌, ◌⊎◌, List, [], ◌∷◌, length, Option, Some, None, refl, sym, ap, subst, inl, inr, arith, ◌∙◌}
+use Rattle.std.proofs.Common.{◌≡◌, ℕ, zero, suc, ◌+◌, ◌*◌, ◌<◌, ◌≤◌, ◌⊎◌, List, [], ◌∷◌, length, Option, Some, None, refl, sym, ap, subst, inl, inr, arith, ◌∙◌}
 use Rattle.std.specs.Prelude.{slice_get}
 use Rattle.std.proofs.lemmas.Bool.{cases_eq}
 use Rattle.std.proofs.lemmas.Nat.{mul-le}
@@ -10,27 +10,7 @@ use Rattle.std.proofs.Math.Nat.{mul-le-mul_left}
 use Rattle.self_timed.proofs.Counted.{pigeons}
 use Rattle.rates.specs.declared.table.Arc.{Arc}
 use Rattle.rates.specs.Rates.{begin_or, lags, length_over}
-
--- Of each act the arc that gave its offset, if it is not the first one that it had.
-module _ (given : ℕ → Option Arc) where
-  -- the arcs from act i back to an act whose offset is its first
-  abbrev pub Back : ℕ → List Arc → Type 0
-  Back i [] = given i ≡ None
-  Back i (a ∷ w) = (given i ≡ Some a) × Back a.act w
-
-  -- the arcs from act i back to act j
-  abbrev pub Leads : ℕ → List Arc → ℕ → Type 0
-  Leads i [] j = i ≡ j
-  Leads i (a ∷ w) j = (given i ≡ Some a) × Leads a.act w j
-
--- the acts on the way back
-abbrev pub acts_back : ℕ → List Arc → List ℕ
-acts_back i [] = i ∷ []
-acts_back i (a ∷ w) = i ∷ acts_back a.act w
-
--- act j is none of them
-abbrev pub Avoids : ℕ → ℕ → List Arc → Type 0
-Avoids j i w = (p : ℕ) → slice_get (acts_back i w) p ≡ Some j → ⊥
+use Rattle.rates.specs.Search.{Avoids, Back, Leads, acts_back, turned}
 
 acts_length : (i : ℕ) (w : List Arc) → length (acts_back i w) ≡ suc (length w)
 acts_length i [] = omega arith
@@ -93,11 +73,6 @@ module _ (given : ℕ → Option Arc) where
       let same : a ≡ b = same_Some a b (sym p.0 ∙ q.0) in
       let rest = part_back a.act u w j p.1 (subst (λ (c : Arc). Back given c.act w) (sym same) q.1) in
       omega arith
-
--- a way back, in the other order, before other arcs
-abbrev pub turned : List Arc → List Arc → List Arc
-turned [] after = after
-turned (a ∷ u) after = turned u (a ∷ after)
 
 pub turned_size : (u after : List Arc) → length (turned u after) ≡ length u + length after
 turned_size [] after = omega arith

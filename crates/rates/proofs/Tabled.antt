@@ -8,8 +8,8 @@ use Rattle.self_timed.proofs.Lists.{all_at}
 use Rattle.self_timed.proofs.Reading.{any_of, any_at}
 use Rattle.rates.specs.declared.table.Arc.{Arc}
 use Rattle.rates.specs.Arcs.{arcs}
-use Rattle.rates.specs.Rates.{begin_or, has_arc, has_room, is_critical_cycle, is_cycle, is_sustained, is_sustained_from, is_way_to, lags, length_over, same_arc}
-use Rattle.rates.specs.Tables.{IsTableOf, is_critical_in, is_cycle_in, is_in_row, is_way_in, row_fits, row_of, rows_fit, rows_fit_from}
+use Rattle.rates.specs.Rates.{begin_or, has_arc, has_room, is_critical_cycle, is_sustained, is_sustained_from, is_way_to, lags, length_over, same_arc}
+use Rattle.rates.specs.Tables.{IsTableOf, is_critical_in, is_in_row, is_way_in, row_of, rows_fit, rows_fit_from}
 use Rattle.rates.proofs.Tested.{all_pass}
 
 -- each is true if the other one is

@@ -1,5 +1,5 @@
 -- Rates computed on worked examples: one operator, a chain, a delay, operators that wait for nothing; two operators on a bus, faster than the chart repeated; and two operators that wait for each other over two media, two reactions in fifteen ticks.
-use Rattle.std.proofs.Common.{◌≡◌, ◌≤◌, ◌*◌, ℕ, Bool, true, false, List, [], ◌∷◌, Option, Some, refl, ap, arith}
+use Rattle.std.proofs.Common.{◌≡◌, ◌≤◌, ◌*◌, ℕ, Bool, true, false, List, [], ◌∷◌, Option, Some, refl, ap, inl, inr, arith}
 use Rattle.std.specs.Prelude.{slice_get, slice_index_or}
 use Rattle.self_timed.specs.Graph.{Graph}
 use Rattle.self_timed.specs.declared.Medium.{Medium}
@@ -14,6 +14,8 @@ use Rattle.self_timed.specs.Laws.{NoLaterThanStated}
 use Rattle.rates.specs.declared.table.Arc.{Arc}
 use Rattle.rates.specs.Arcs.{arc}
 use Rattle.rates.specs.Rates.{stated_at, Sustains, is_sustained, is_cycle, is_critical_cycle}
+use Rattle.std.proofs.lemmas.Nat.Gcd.{IsGcd-from_mod, IsGcd-from_zero, IsGcd-swap}
+use Rattle.rates.specs.ExactRates.{IsExactIn}
 use Rattle.rates.specs.Tables.{at, is_critical_in, rows_fit}
 use Rattle.rates.proofs.WorkedArcs.{chain_schedule, delay_graph, delay_schedule, lone_schedule}
 use Rattle.rates.proofs.Whole.{rates_are_sustained, chart_is_sustained, no_rate_is_below_a_cycle, cycle_is_tested}
@@ -54,6 +56,28 @@ chain_long i = at (2 ∷ 3 ∷ 7 ∷ []) i
 chain_fits : (rows_fit chain_long 10 1 (at (2 ∷ 5 ∷ 12 ∷ [])) chain_table ≡ true) × (rows_fit chain_long 9 1 (at (2 ∷ 5 ∷ 12 ∷ [])) chain_table ≡ false)
     × (is_critical_in chain_table chain_long 10 1 1 (arc 0 1 ∷ arc 1 2 ∷ []) ≡ true) × (is_critical_in chain_table chain_long 10 1 2 (arc 0 1 ∷ arc 1 2 ∷ []) ≡ false)
 chain_fits = (refl, refl, refl, refl)
+
+-- the exact rate over this table is ten ticks for one reaction, with its certificate
+chain_exact : IsExactIn chain_table chain_long (record { rate = record { ticks = 10; reactions = 1 }; offsets = 2 ∷ 5 ∷ 12 ∷ []; act = 1; way = arc 0 1 ∷ arc 1 2 ∷ [] })
+chain_exact = record { some = omega arith; lowest = IsGcd-from_mod 10 1 1 (IsGcd-from_zero 1 0 refl); sustained = refl; exact = inr refl }
+
+-- Two acts that wait for each other over two reactions last 3 and 4: seven ticks for two reactions, and neither six nor thirteen for four.
+abbrev turn_table : List (List Arc)
+turn_table = (arc 2 1 ∷ []) ∷ (arc 0 0 ∷ []) ∷ []
+
+abbrev turn_long : ℕ → ℕ
+turn_long i = at (3 ∷ 4 ∷ []) i
+
+turn_exact : IsExactIn turn_table turn_long (record { rate = record { ticks = 7; reactions = 2 }; offsets = 6 ∷ 14 ∷ []; act = 0; way = arc 0 0 ∷ arc 2 1 ∷ [] })
+turn_exact = record { some = omega arith; lowest = IsGcd-from_mod 7 2 1 (IsGcd-from_mod 2 1 1 (IsGcd-from_zero 1 0 refl)); sustained = refl; exact = inr refl }
+
+turn_others : (rows_fit turn_long 6 2 (at (6 ∷ 14 ∷ [])) turn_table ≡ false) × (rows_fit turn_long 13 4 (at (12 ∷ 28 ∷ [])) turn_table ≡ false)
+    × (is_critical_in turn_table turn_long 7 1 0 (arc 0 0 ∷ arc 2 1 ∷ []) ≡ false) × (is_critical_in turn_table turn_long 14 4 1 (arc 2 1 ∷ arc 0 0 ∷ []) ≡ true)
+turn_others = (refl, refl, refl, refl)
+
+-- nothing that lasts no time needs a cycle
+idle_exact : IsExactIn turn_table (λ i. 0) (record { rate = record { ticks = 0; reactions = 1 }; offsets = []; act = 0; way = [] })
+idle_exact = record { some = omega arith; lowest = IsGcd-swap 1 0 1 (IsGcd-from_zero 1 0 refl); sustained = refl; exact = inl refl }
 
 -- A delay: with one place function and transfer take turns, 12 ticks, with two the first operator is never idle, 11 ticks. The chart's own
 -- ends do not fit: the get half has to wait for the set half of the reaction before, which ends at 13.

@@ -49,7 +49,7 @@ fn all_have_room(row: &[Arc], needed: u128, offset: u128, ticks: u64, offsets: &
 
 /// Whether the first two together are at most the last two together. The sums may be above the
 /// word.
-fn has_room(before: u128, needed: u128, offset: u128, later: u128) -> bool
+pub(crate) fn has_room(before: u128, needed: u128, offset: u128, later: u128) -> bool
     ensures { result ≡ nat_le (before + needed) (offset + later) }
 {
     if needed <= later {
@@ -60,14 +60,14 @@ fn has_room(before: u128, needed: u128, offset: u128, later: u128) -> bool
 }
 
 /// How many ticks the act lasts, 0 if the list lacks it.
-fn ticks_of(long: &[u64], act: usize) -> u64
+pub(crate) fn ticks_of(long: &[u64], act: usize) -> u64
     ensures { result ≡ at long.now act }
 {
     if act < long.len() { long[act] } else { 0 }
 }
 
 /// The offset of the act, 0 if the list lacks it.
-fn offset_of(offsets: &[u128], act: usize) -> u128
+pub(crate) fn offset_of(offsets: &[u128], act: usize) -> u128
     ensures { result ≡ at offsets.now act }
 {
     if act < offsets.len() { offsets[act] } else { 0 }
@@ -116,7 +116,7 @@ fn begin_at(way: &[Arc], place: usize, act: u32) -> u32
 }
 
 /// How many ticks the acts to which these arcs lead last together.
-fn ticks_over(long: &[u64], way: &[Arc]) -> u128
+pub(crate) fn ticks_over(long: &[u64], way: &[Arc]) -> u128
     requires few { length way.now < 2 ^ 32 }
     ensures value { result ≡ length_over (at long.now) way.now }
     ensures bound { result < 2 ^ 96 }
@@ -129,7 +129,7 @@ fn ticks_over(long: &[u64], way: &[Arc]) -> u128
 }
 
 /// The number of reactions over which these arcs lead together.
-fn lags_over(way: &[Arc]) -> u128
+pub(crate) fn lags_over(way: &[Arc]) -> u128
     requires few { length way.now < 2 ^ 32 }
     ensures value { result ≡ lags way.now }
     ensures bound { result < 2 ^ 64 }
