@@ -1,0 +1,11 @@
+pub mod Each
+pub mod Words
+pub mod Writing
+pub mod Joining
+pub mod Tables
+pub mod Outputs
+pub mod Running
+pub mod Firing
+pub mod Compiling
+pub mod Ready
+pub mod Worked
