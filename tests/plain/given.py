@@ -1,25 +1,38 @@
 """What the words of a command line ask for, as docs/MANUAL.md says: a command, its plain words, and its options."""
+import os
+import re
+
 from plain.words import NUMBER, Refused
 
-# The least and the most plain words of each command, and its options.
-SYNDEX = {
-    "check": (1, 2, ()), "flat": (1, 1, ()), "chart": (2, 2, ()), "code": (2, 2, ()), "dates": (4, 4, ()),
-    "sim": (2, 2, ()), "run": (3, 3, ("workers",)), "exec": (4, 4, ("workers",)), "load": (1, 1, ()),
-}
+MANUAL = os.path.join(os.path.dirname(os.path.realpath(__file__)), "../../docs/MANUAL.md")
+# The options that the manual calls OPTIONS.
 SEARCH = ("tries", "seed", "for")
-LAB = {
-    "chart": (2, 2, SEARCH), "trace": (2, 4, SEARCH), "flat": (2, 2, SEARCH), "code": (2, 2, SEARCH),
-    "report": (2, 3, SEARCH), "dates": (4, 4, SEARCH), "graph": (1, 1, ()), "table": (1, 1, ()), "lint": (1, 2, ()),
-    "why": (3, 3, ()), "plot": (2, 2, ()), "help": (0, 0, ()), "--help": (0, 0, ()),
-}
-COMMANDS = {"syndex": SYNDEX, "syndex_lab": LAB}
-# The greatest value of an option, and the place of the number N among the plain words, if it is there.
+
+
+def form_of(form):
+    """How many plain words a form has, without and with those in brackets, its options, and the place of the number N."""
+    options = SEARCH if "[OPTIONS]" in form else tuple(re.findall(r"--([a-z]+)", form))
+    plain = re.sub(r"\[(--[^]]*|OPTIONS)\]", "", form)
+    counts = [len(re.sub(r"\[[^]]*\]", "", plain).split())]
+    for together in re.findall(r"\[([^]]*)\]", plain):
+        counts.append(counts[-1] + len(together.split()))
+    words = re.sub(r"[][]", "", plain).split()
+    return counts, options, words.index("N") if "N" in words else None
+
+
+def forms():
+    """The commands of each program by their names, as the two tables of the manual have them."""
+    with open(MANUAL, encoding="utf-8") as file:
+        parts = file.read().split("| command | what it writes |\n")[1:]
+    found = [dict(re.findall(r"^\| `(\w+)([^`]*)` \|", it.split("\n\n")[0], re.M)) for it in parts]
+    return [{name: form_of(form) for name, form in it.items()} for it in found]
+
+
+SYNDEX, LAB = forms()
+COMMANDS = {"syndex": SYNDEX, "syndex_lab": {**LAB, "--help": LAB["help"]}}
+# The greatest value of an option.
 MOST = {"workers": 80, "tries": 1_000_000, "seed": 1_000_000}
 GOALS = ("length", "period")
-NUMBERS = {
-    ("syndex", "dates"): 3, ("syndex", "load"): 0, ("syndex_lab", "dates"): 3, ("syndex_lab", "trace"): 3,
-    ("syndex_lab", "report"): 2,
-}
 
 
 def hold(fact):
@@ -43,7 +56,7 @@ def given(program, words):
     """The command, its plain words, and the values of its options by name."""
     hold(words and words[0] in COMMANDS[program])
     command, rest = words[0], list(words[1:])
-    least, most, known = COMMANDS[program][command]
+    counts, known, place = COMMANDS[program][command]
     plain, options = [], {}
     while rest:
         word = rest.pop(0)
@@ -60,8 +73,7 @@ def given(program, words):
             value = rest.pop(0)
         options[option] = value
         hold_value(option, value)
-    hold(least <= len(plain) <= most and (command != "trace" or len(plain) != 3))
-    place = NUMBERS.get((program, command))
+    hold(len(plain) in counts)
     if place is not None and place < len(plain):
         hold_number(plain[place], 1000)
     return command, plain, options

@@ -1,34 +1,35 @@
 -- clap accepts exactly the words of the commands, with their arguments.
-use Rattle.std.proofs.Common.{◌≡◌, ◌∙◌, List, [], ◌∷◌, true, false, Option, Some, None, inl, inr, refl, sym, subst, ap, codes}
+use Rattle.std.proofs.Common.{◌≡◌, ◌∙◌, List, [], ◌∷◌, true, false, Option, Some, None, refl, sym, subst, ap}
 use Rattle.std.specs.Prelude.{option_and_then}
-use Rattle.std.specs.Str.{bytes_eq, IsUtf8}
-use Rattle.std.proofs.lemmas.Slice.Eq.{bytes_eq-Decides}
+use Rattle.std.specs.Str.{IsUtf8}
 use Rattle.clap.specs.Walk.{Row, nothing_held}
-use Rattle.clap.specs.Simple.{Shape, subcommand_of}
+use Rattle.clap.specs.Simple.{subcommand_of}
 use Rattle.clap.specs.Faults.{fault_of}
-use Rattle.command_words.specs.Command.{plain_by, arguments_of, command_of}
-use Rattle.command_words.specs.Plain.{command_without_options, command_by_words}
+use Rattle.command_words.specs.Table.{table, kind_named}
+use Rattle.command_words.specs.Command.{Command, check, sim, one, two, one_or_two, four, loaded, dated, number_up_to, algorithm_text, schedule_text, plain, plainly, arguments_of, command_of_kind, command_of}
+use Rattle.command_words.specs.Plain.{plain_words, command_with, command_named}
 use Rattle.command_words.specs.Answer.{Tells}
-use Rattle.command_words.specs.App.{the_app, one_app, two_app, four_app}
+use Rattle.command_words.specs.App.{the_app}
+use Rattle.command_words.specs.declared.table.CommandKind.{CommandKind}
+use Rattle.command_words.specs.declared.table.CommandKind.TheVariants.{Check, Sim, Algorithm, Schedule, Run, Load, Exec, Dates}
 use Rattle.command_words.proofs.Behind.{behind, given, behind_first}
-use Rattle.command_words.proofs.Table.{Text, plain_from, answered}
-use Rattle.command_words.proofs.Looks.{two_ways}
+use Rattle.command_words.proofs.PlainWords.{Text, plain_from, answered}
 use Rattle.command_words.proofs.Leaf.{IsRefused, at}
 use Rattle.command_words.proofs.Stages.{AreTexts, Fits}
-use Rattle.command_words.proofs.Leaves.{leaf, wants_one, single_reads, wants_two, both_read, one_or_two_read, wants_four, four_read, four_rows, rows}
+use Rattle.command_words.proofs.Leaves.{wants_one, single_reads, wants_two, both_read, one_or_two_read, wants_four, four_read, four_rows, rows}
 use Rattle.command_words.proofs.RunWords as walk
 use Rattle.command_words.proofs.RunWords.{Fate, working_by, working_read}
-use Rattle.command_words.proofs.Whole.{Behaves, at_check, at_sim, at_flat, at_chart, at_code, at_load, at_dates, at_run, at_exec, no_word, nothing, IsOther, no_name}
+use Rattle.command_words.proofs.Whole.{Behaves, behaves, leaf_of, no_word, nothing, no_name}
 
 pub data Exact (words : List Text) : Type 0 where
   refused : IsRefused (fault_of the_app words) → command_of words ≡ None → Exact words
   accepted : (name a : Text) (b c d w : Option Text) (rs : List Row) → fault_of the_app words ≡ [] → subcommand_of the_app words ≡ Some (name, rs) → Tells rs a b c d w
-      → command_of words ≡ command_by_words name a b c d w → Exact words
+      → command_of words ≡ command_named name (plain_words a b c d) w → Exact words
 
 -- what is wanted of the plain words is what the command takes
-abbrev Told : Option (List Row) → Text → List Text → Type 0
-Told None name us = command_without_options name us ≡ None
-Told (Some r) name us = (a : Text) × (b c d : Option Text) × Tells r a b c d None × (command_without_options name us ≡ command_by_words name a b c d None)
+abbrev Told : Option (List Row) → (List Text → Option Command) → List Text → Type 0
+Told None go us = go us ≡ None
+Told (Some r) go us = (a : Text) × (b c d : Option Text) × Tells r a b c d None × (us ≡ plain_words a b c d)
 
 tells_rows : (a : Text) (b : Option Text) → Tells (rows a b) a b None None None
 tells_rows a None = record { first = refl; second = refl; third = refl; fourth = refl; workers = refl }
@@ -37,177 +38,112 @@ tells_rows a (Some b) = record { first = refl; second = refl; third = refl; four
 tells_four : (a b c d : Text) → Tells (four_rows a b c d) a (Some b) (Some c) (Some d) None
 tells_four a b c d = record { first = refl; second = refl; third = refl; fourth = refl; workers = refl }
 
--- a name whose command takes plain arguments alone
-abbrev IsPlain : Text → Type 0
-IsPlain name = (program : Text) (ws : List Text) → command_of (program ∷ name ∷ ws) ≡ plain_by (command_without_options name) (arguments_of false false ws)
+module _ (name : Text) where
+  told_one : (go : Text → Option Command) (us : List Text) → Told (wants_one name us) (one go) us
+  told_one go [] = refl
+  told_one go (a ∷ []) = (a, None, None, None, tells_rows a None, refl)
+  told_one go (a ∷ b ∷ us) = refl
 
-module _ (program name : Text) (s : Shape) (wants : List Text → Option (List Row)) (behaves : Behaves name s) (plain : IsPlain name) (told : (us : List Text) → Told (wants us) name us) (ws : List Text) where
-  is_said : command_of (program ∷ name ∷ ws) ≡ option_and_then (command_without_options name) (plain_from false ws)
-  is_said = plain program ws ∙ answered (command_without_options name) ws
+  told_one_or_two : (go : Text → Option Text → Option Command) (us : List Text) → Told (wants_two name false us) (one_or_two go) us
+  told_one_or_two go [] = refl
+  told_one_or_two go (a ∷ []) = (a, None, None, None, tells_rows a None, refl)
+  told_one_or_two go (a ∷ b ∷ []) = (a, Some b, None, None, tells_rows a (Some b), refl)
+  told_one_or_two go (a ∷ b ∷ c ∷ us) = refl
 
-  by_rows : (us : List Text) → plain_from false ws ≡ Some us → (r : Option (List Row)) → Told r name us → Fits s (at nothing_held 1 false) ws r → Exact (program ∷ name ∷ ws)
-  by_rows us p None t f = refused (subst IsRefused (sym (behaves.faults program ws)) f) (is_said ∙ ap (option_and_then (command_without_options name)) p ∙ t)
-  by_rows us p (Some r) t f =
-      accepted name t.0 t.1 t.2 t.3 None r (behaves.faults program ws ∙ f.0) (behaves.rows program ws ∙ ap (λ (rs : List Row). Some (name, rs)) f.1) t.4
-      (is_said ∙ ap (option_and_then (command_without_options name)) p ∙ t.5)
+  told_two : (go : Text → Text → Option Command) (us : List Text) → Told (wants_two name true us) (two go) us
+  told_two go [] = refl
+  told_two go (a ∷ []) = refl
+  told_two go (a ∷ b ∷ []) = (a, Some b, None, None, tells_rows a (Some b), refl)
+  told_two go (a ∷ b ∷ c ∷ us) = refl
 
-  by_words : (o : Option (List Text)) → plain_from false ws ≡ o → Fits s (at nothing_held 1 false) ws (option_and_then wants o) → Exact (program ∷ name ∷ ws)
-  by_words None p f = refused (subst IsRefused (sym (behaves.faults program ws)) f) (is_said ∙ ap (option_and_then (command_without_options name)) p)
-  by_words (Some us) p f = by_rows us p (wants us) (told us) f
+  told_four : (go : Text → Text → Text → Text → Option Command) (us : List Text) → Told (wants_four name us) (four go) us
+  told_four go [] = refl
+  told_four go (a ∷ []) = refl
+  told_four go (a ∷ b ∷ []) = refl
+  told_four go (a ∷ b ∷ c ∷ []) = refl
+  told_four go (a ∷ b ∷ c ∷ d ∷ []) = (a, Some b, Some c, Some d, tells_four a b c d, refl)
+  told_four go (a ∷ b ∷ c ∷ d ∷ e ∷ us) = refl
 
-  named : Fits s (at nothing_held 1 false) ws (option_and_then wants (plain_from false ws)) → Exact (program ∷ name ∷ ws)
-  named f = by_words (plain_from false ws) refl f
+-- The words after the name of a command of this kind.
+module _ (program name : Text) (ws : List Text) (kind : CommandKind) (is : kind_named table name ≡ Some kind) where
+  clap : Behaves name (leaf_of (name, kind))
+  clap = behaves name kind is
 
-plain_check : IsPlain (codes "check")
-plain_check program ws = refl
+  of_kind : command_of (program ∷ name ∷ ws) ≡ command_of_kind kind ws
+  of_kind = ap (option_and_then (λ (k : CommandKind). command_of_kind k ws)) is
 
-plain_sim : IsPlain (codes "sim")
-plain_sim program ws = refl
+  as_named : (us : List Text) (w : Option Text) → command_with kind us w ≡ command_named name us w
+  as_named us w = sym (ap (option_and_then (λ (k : CommandKind). command_with k us w)) is)
 
-plain_flat : IsPlain (codes "flat")
-plain_flat program ws = refl
+  -- one that takes plain arguments alone
+  module _ (go : List Text → Option Command) (by : command_of_kind kind ws ≡ plainly go ws) (goes : (us : List Text) → go us ≡ command_with kind us None) (wants : List Text → Option (List Row))
+      (told : (us : List Text) → Told (wants us) go us) where
+    is_said : command_of (program ∷ name ∷ ws) ≡ option_and_then go (plain_from false ws)
+    is_said = of_kind ∙ by ∙ answered go ws
 
-plain_chart : IsPlain (codes "chart")
-plain_chart program ws = refl
+    by_rows : (us : List Text) → plain_from false ws ≡ Some us → (r : Option (List Row)) → Told r go us → Fits (leaf_of (name, kind)) (at nothing_held 1 false) ws r → Exact (program ∷ name ∷ ws)
+    by_rows us p None t f = refused (subst IsRefused (sym (clap.faults program ws)) f) (is_said ∙ ap (option_and_then go) p ∙ t)
+    by_rows us p (Some r) t f =
+        accepted name t.0 t.1 t.2 t.3 None r (clap.faults program ws ∙ f.0) (clap.rows program ws ∙ ap (λ (rs : List Row). Some (name, rs)) f.1) t.4
+        (is_said ∙ ap (option_and_then go) p ∙ ap go t.5 ∙ goes (plain_words t.0 t.1 t.2 t.3) ∙ as_named (plain_words t.0 t.1 t.2 t.3) None)
 
-plain_code : IsPlain (codes "code")
-plain_code program ws = refl
+    by_words : (o : Option (List Text)) → plain_from false ws ≡ o → Fits (leaf_of (name, kind)) (at nothing_held 1 false) ws (option_and_then wants o) → Exact (program ∷ name ∷ ws)
+    by_words None p f = refused (subst IsRefused (sym (clap.faults program ws)) f) (is_said ∙ ap (option_and_then go) p)
+    by_words (Some us) p f = by_rows us p (wants us) (told us) f
 
-plain_load : IsPlain (codes "load")
-plain_load program ws = refl
+    takes_plain : Fits (leaf_of (name, kind)) (at nothing_held 1 false) ws (option_and_then wants (plain_from false ws)) → Exact (program ∷ name ∷ ws)
+    takes_plain f = by_words (plain_from false ws) refl f
 
-plain_dates : IsPlain (codes "dates")
-plain_dates program ws = refl
-
-told_check : (us : List Text) → Told (wants_two (codes "check") false us) (codes "check") us
-told_check [] = refl
-told_check (a ∷ []) = (a, None, None, None, tells_rows a None, refl)
-told_check (a ∷ b ∷ []) = (a, Some b, None, None, tells_rows a (Some b), refl)
-told_check (a ∷ b ∷ c ∷ us) = refl
-
-told_sim : (us : List Text) → Told (wants_two (codes "sim") true us) (codes "sim") us
-told_sim [] = refl
-told_sim (a ∷ []) = refl
-told_sim (a ∷ b ∷ []) = (a, Some b, None, None, tells_rows a (Some b), refl)
-told_sim (a ∷ b ∷ c ∷ us) = refl
-
-told_flat : (us : List Text) → Told (wants_one (codes "flat") us) (codes "flat") us
-told_flat [] = refl
-told_flat (a ∷ []) = (a, None, None, None, tells_rows a None, refl)
-told_flat (a ∷ b ∷ us) = refl
-
-told_chart : (us : List Text) → Told (wants_two (codes "chart") true us) (codes "chart") us
-told_chart [] = refl
-told_chart (a ∷ []) = refl
-told_chart (a ∷ b ∷ []) = (a, Some b, None, None, tells_rows a (Some b), refl)
-told_chart (a ∷ b ∷ c ∷ us) = refl
-
-told_code : (us : List Text) → Told (wants_two (codes "code") true us) (codes "code") us
-told_code [] = refl
-told_code (a ∷ []) = refl
-told_code (a ∷ b ∷ []) = (a, Some b, None, None, tells_rows a (Some b), refl)
-told_code (a ∷ b ∷ c ∷ us) = refl
-
-told_load : (us : List Text) → Told (wants_one (codes "load") us) (codes "load") us
-told_load [] = refl
-told_load (a ∷ []) = (a, None, None, None, tells_rows a None, refl)
-told_load (a ∷ b ∷ us) = refl
-
-told_dates : (us : List Text) → Told (wants_four (codes "dates") us) (codes "dates") us
-told_dates [] = refl
-told_dates (a ∷ []) = refl
-told_dates (a ∷ b ∷ []) = refl
-told_dates (a ∷ b ∷ c ∷ []) = refl
-told_dates (a ∷ b ∷ c ∷ d ∷ []) = (a, Some b, Some c, Some d, tells_four a b c d, refl)
-told_dates (a ∷ b ∷ c ∷ d ∷ e ∷ us) = refl
-
-module _ (program : Text) (ws : List Text) (u : AreTexts ws) where
-  is_check : Exact (program ∷ codes "check" ∷ ws)
-  is_check = named program (codes "check") (leaf (two_app false (codes "check"))) (wants_two (codes "check") false) at_check plain_check told_check ws (one_or_two_read (codes "check") false ws u)
-
-  is_sim : Exact (program ∷ codes "sim" ∷ ws)
-  is_sim = named program (codes "sim") (leaf (two_app true (codes "sim"))) (wants_two (codes "sim") true) at_sim plain_sim told_sim ws (both_read (codes "sim") false ws u)
-
-  is_flat : Exact (program ∷ codes "flat" ∷ ws)
-  is_flat = named program (codes "flat") (leaf (one_app (codes "flat"))) (wants_one (codes "flat")) at_flat plain_flat told_flat ws (single_reads (codes "flat") false ws u)
-
-  is_chart : Exact (program ∷ codes "chart" ∷ ws)
-  is_chart = named program (codes "chart") (leaf (two_app true (codes "chart"))) (wants_two (codes "chart") true) at_chart plain_chart told_chart ws (both_read (codes "chart") false ws u)
-
-  is_code : Exact (program ∷ codes "code" ∷ ws)
-  is_code = named program (codes "code") (leaf (two_app true (codes "code"))) (wants_two (codes "code") true) at_code plain_code told_code ws (both_read (codes "code") false ws u)
-
-  is_load : Exact (program ∷ codes "load" ∷ ws)
-  is_load = named program (codes "load") (leaf (one_app (codes "load"))) (wants_one (codes "load")) at_load plain_load told_load ws (single_reads (codes "load") false ws u)
-
-  is_dates : Exact (program ∷ codes "dates" ∷ ws)
-  is_dates = named program (codes "dates") (leaf (four_app true (codes "dates"))) (wants_four (codes "dates")) at_dates plain_dates told_dates ws (four_read (codes "dates") false ws u)
-
-  is_run : Exact (program ∷ codes "run" ∷ ws)
-  is_run = by (working_read false (codes "run") ws u)
+module _ (program name : Text) (ws : List Text) (u : AreTexts ws) where
+  takes_workers : (is : kind_named table name ≡ Some Run) → Exact (program ∷ name ∷ ws)
+  takes_workers is = by (working_read false name ws u)
     where
-      whole : working_by false (arguments_of true false ws) ≡ working_by false (behind (given [] []) (arguments_of true false ws))
-      whole = ap (working_by false) (sym (behind_first (arguments_of true false ws)))
+      whole : command_of (program ∷ name ∷ ws) ≡ working_by false (behind (given [] []) (arguments_of true false ws))
+      whole = of_kind program name ws Run is ∙ ap (working_by false) (sym (behind_first (arguments_of true false ws)))
 
-      by : Fate false (codes "run") (at nothing_held 1 false) ws (behind (given [] []) (arguments_of true false ws)) → Exact (program ∷ codes "run" ∷ ws)
-      by (walk.refused r n) = refused (subst IsRefused (sym (at_run.faults program ws)) r) (whole ∙ n)
+      by : Fate false name (at nothing_held 1 false) ws (behind (given [] []) (arguments_of true false ws)) → Exact (program ∷ name ∷ ws)
+      by (walk.refused r n) = refused (subst IsRefused (sym ((behaves name Run is).faults program ws)) r) (whole ∙ n)
       by (walk.accepted a b c d n k t m) =
-          accepted (codes "run") a (Some b) (Some c) d n _ (at_run.faults program ws ∙ k) (at_run.rows program ws) t (whole ∙ m)
+          accepted name a (Some b) (Some c) d n _ ((behaves name Run is).faults program ws ∙ k) ((behaves name Run is).rows program ws) t
+          (whole ∙ m ∙ as_named program name ws Run is (plain_words a (Some b) (Some c) d) n)
 
-  is_exec : Exact (program ∷ codes "exec" ∷ ws)
-  is_exec = by (working_read true (codes "exec") ws u)
+  takes_code : (is : kind_named table name ≡ Some Exec) → Exact (program ∷ name ∷ ws)
+  takes_code is = by (working_read true name ws u)
     where
-      whole : working_by true (arguments_of true false ws) ≡ working_by true (behind (given [] []) (arguments_of true false ws))
-      whole = ap (working_by true) (sym (behind_first (arguments_of true false ws)))
+      whole : command_of (program ∷ name ∷ ws) ≡ working_by true (behind (given [] []) (arguments_of true false ws))
+      whole = of_kind program name ws Exec is ∙ ap (working_by true) (sym (behind_first (arguments_of true false ws)))
 
-      by : Fate true (codes "exec") (at nothing_held 1 false) ws (behind (given [] []) (arguments_of true false ws)) → Exact (program ∷ codes "exec" ∷ ws)
-      by (walk.refused r n) = refused (subst IsRefused (sym (at_exec.faults program ws)) r) (whole ∙ n)
+      by : Fate true name (at nothing_held 1 false) ws (behind (given [] []) (arguments_of true false ws)) → Exact (program ∷ name ∷ ws)
+      by (walk.refused r n) = refused (subst IsRefused (sym ((behaves name Exec is).faults program ws)) r) (whole ∙ n)
       by (walk.accepted a b c d n k t m) =
-          accepted (codes "exec") a (Some b) (Some c) d n _ (at_exec.faults program ws ∙ k) (at_exec.rows program ws) t (whole ∙ m)
+          accepted name a (Some b) (Some c) d n _ ((behaves name Exec is).faults program ws ∙ k) ((behaves name Exec is).rows program ws) t
+          (whole ∙ m ∙ as_named program name ws Exec is (plain_words a (Some b) (Some c) d) n)
 
-  -- the words after the program's name begin with another word than this name
-  named_or : (name word : Text) → Exact (program ∷ name ∷ ws) → (bytes_eq name word ≡ false → Exact (program ∷ word ∷ ws)) → Exact (program ∷ word ∷ ws)
-  named_or name word here other =
-      elim (two_ways (bytes_eq name word)) [
-        | inl e ↦ subst (λ (w : Text). Exact (program ∷ w ∷ ws)) ((bytes_eq-Decides name word).0 e) here
-        | inr e ↦ other e
-      ]
+  of_this : (kind : CommandKind) → kind_named table name ≡ Some kind → Exact (program ∷ name ∷ ws)
+  of_this Check is =
+      takes_plain program name ws Check is (one_or_two (λ a h. Some (plain (check a h)))) refl (λ us. refl) (wants_two name false) (told_one_or_two name (λ a h. Some (plain (check a h)))) (one_or_two_read name false ws u)
+  of_this Sim is =
+      takes_plain program name ws Sim is (two (λ a s. Some (plain (sim a s)))) refl (λ us. refl) (wants_two name true) (told_two name (λ a s. Some (plain (sim a s)))) (both_read name false ws u)
+  of_this (Algorithm text) is =
+      takes_plain program name ws (Algorithm text) is (one (λ a. Some (plain (algorithm_text text a)))) refl (λ us. refl) (wants_one name) (told_one name (λ a. Some (plain (algorithm_text text a)))) (single_reads name false ws u)
+  of_this (Schedule text) is =
+      takes_plain program name ws (Schedule text) is (two (λ a h. Some (plain (schedule_text text a h)))) refl (λ us. refl) (wants_two name true) (told_two name (λ a h. Some (plain (schedule_text text a h)))) (both_read name false ws u)
+  of_this Run is = takes_workers is
+  of_this Load is =
+      takes_plain program name ws Load is (one (λ n. loaded (number_up_to 1000 n))) refl (λ us. refl) (wants_one name) (told_one name (λ n. loaded (number_up_to 1000 n))) (single_reads name false ws u)
+  of_this Exec is = takes_code is
+  of_this Dates is =
+      takes_plain program name ws Dates is (four (λ a h g n. dated a h g (number_up_to 1000 n))) refl (λ us. refl) (wants_four name) (told_four name (λ a h g n. dated a h g (number_up_to 1000 n)))
+      (four_read name false ws u)
 
-flip : (v w : Text) → bytes_eq v w ≡ false → bytes_eq w v ≡ false
-flip v w e =
-    elim (two_ways (bytes_eq w v)) [
-      | inl t ↦ let s : bytes_eq v w ≡ true = (bytes_eq-Decides v w).1 (sym ((bytes_eq-Decides w v).0 t)) in let bad : true ≡ false = sym s ∙ e in cc
-      | inr f ↦ f
-    ]
+  unnamed : IsUtf8 name → kind_named table name ≡ None → Exact (program ∷ name ∷ ws)
+  unnamed v none = refused (no_name name none program ws v) (ap (option_and_then (λ (k : CommandKind). command_of_kind k ws)) none)
 
-no_command : (program word : Text) (ws : List Text) → IsOther word → command_of (program ∷ word ∷ ws) ≡ None
-no_command program word ws n =
-    rw (flip (codes "check") word n.no_check, flip (codes "sim") word n.no_sim, flip (codes "flat") word n.no_flat, flip (codes "chart") word n.no_chart, flip (codes "code") word n.no_code, flip (codes "load") word n.no_load, flip (codes "dates") word n.no_dates, flip (codes "run") word n.no_run, flip (codes "exec") word n.no_exec) refl
-
-unnamed : (program word : Text) (ws : List Text) → IsUtf8 word → IsOther word → Exact (program ∷ word ∷ ws)
-unnamed program word ws u n = refused (no_name word n program ws u) (no_command program word ws n)
+  by_name : IsUtf8 name → (o : Option CommandKind) → kind_named table name ≡ o → Exact (program ∷ name ∷ ws)
+  by_name v None e = unnamed v e
+  by_name v (Some kind) e = of_this kind e
 
 pub exact : (words : List Text) → AreTexts words → Exact words
 exact [] u = refused nothing refl
 exact (program ∷ []) u = refused (no_word program) refl
-exact (program ∷ word ∷ ws) u =
-    named_or program ws u.1.1 (codes "check") word (is_check program ws u.1.1) (λ check.
-    named_or program ws u.1.1 (codes "sim") word (is_sim program ws u.1.1) (λ sim.
-    named_or program ws u.1.1 (codes "flat") word (is_flat program ws u.1.1) (λ flat.
-    named_or program ws u.1.1 (codes "chart") word (is_chart program ws u.1.1) (λ chart.
-    named_or program ws u.1.1 (codes "code") word (is_code program ws u.1.1) (λ code.
-    named_or program ws u.1.1 (codes "load") word (is_load program ws u.1.1) (λ load.
-    named_or program ws u.1.1 (codes "dates") word (is_dates program ws u.1.1) (λ dates.
-    named_or program ws u.1.1 (codes "run") word (is_run program ws u.1.1) (λ run.
-    named_or program ws u.1.1 (codes "exec") word (is_exec program ws u.1.1) (λ exec.
-    unnamed program word ws u.1.0 (record {
-      no_check = check;
-      no_sim = sim;
-      no_flat = flat;
-      no_chart = chart;
-      no_code = code;
-      no_load = load;
-      no_dates = dates;
-      no_run = run;
-      no_exec = exec;
-    }))))))))))
+exact (program ∷ name ∷ ws) u = by_name program name ws u.1.1 u.1.0 (kind_named table name) refl

@@ -7,7 +7,7 @@ use Rattle.clap.specs.Simple.{Shape}
 use Rattle.clap.specs.Kinds.{Kinds, or_else}
 use Rattle.clap.specs.Faults.{word_fault, flags_fault}
 use Rattle.clap.specs.declared.error.kind.ErrorKind.TheVariants as kind
-use Rattle.command_words.proofs.Table.{Text, is_escape, is_dashed}
+use Rattle.command_words.proofs.PlainWords.{Text, is_escape, is_dashed}
 use Rattle.command_words.proofs.Looks.{plain_long, plain_short, long, short, dashed_looks, first_char}
 
 abbrev pub IsRefused : Kinds → Type 0

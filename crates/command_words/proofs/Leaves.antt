@@ -2,7 +2,7 @@
 use Rattle.std.proofs.Common.{◌≡◌, List, [], ◌∷◌, Bool, true, false, Option, Some, None, refl, codes}
 use Rattle.clap.specs.Walk.{Held, Row, nothing_held, arg_by_index, to_positional, reading_by}
 use Rattle.clap.specs.Simple.{Shape, App, built_leaf, inherited, with_leaf_noted, marked_built}
-use Rattle.command_words.proofs.Table.{Text}
+use Rattle.command_words.proofs.PlainWords.{Text}
 use Rattle.command_words.specs.App.{the_app, one_app, two_app, four_app, argument}
 use Rattle.command_words.proofs.Leaf.{IsRefused, NoOptions, at}
 use Rattle.clap.specs.Kinds.{Kinds}

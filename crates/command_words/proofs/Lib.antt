@@ -1,7 +1,7 @@
 pub mod Words
 pub mod Behind
 pub mod Numbers
-pub mod Table
+pub mod PlainWords
 pub mod Looks
 pub mod Rows
 pub mod OptionWords

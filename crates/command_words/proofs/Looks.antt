@@ -5,7 +5,7 @@ use Rattle.std.specs.Prelude.{◌==◌}
 use Rattle.std.specs.Str.{chars, IsUtf8}
 use Rattle.std.proofs.lemmas.Str.{IsUtf8-drop, IsCharBoundary-after_ascii, encodes-chars}
 use Rattle.clap.specs.Lexer.{long_of, short_of, name_and_value}
-use Rattle.command_words.proofs.Table.{Text, is_escape, is_dashed}
+use Rattle.command_words.proofs.PlainWords.{Text, is_escape, is_dashed}
 
 pub two_ways : (b : Bool) → (b ≡ true) ⊎ (b ≡ false)
 two_ways true = inl refl

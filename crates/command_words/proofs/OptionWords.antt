@@ -6,7 +6,7 @@ use Rattle.std.specs.List.{before_first, position_or_len}
 use Rattle.std.proofs.lemmas.Slice.Eq.{bytes_eq-Decides}
 use Rattle.clap.specs.Lexer.{long_of, name_and_value}
 use Rattle.command_words.specs.Command.{is_joined}
-use Rattle.command_words.proofs.Table.{Text}
+use Rattle.command_words.proofs.PlainWords.{Text}
 use Rattle.command_words.proofs.Looks.{two_ways}
 
 abbrev is_mark : ℕ → Bool

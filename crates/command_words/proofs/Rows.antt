@@ -8,7 +8,7 @@ use Rattle.clap.specs.Walk.{Row, at_row, without, has_row, first_of, with_values
 use Rattle.clap.specs.Takes.{is_given}
 use Rattle.clap.specs.declared.parser.matches.ValueSource.TheVariants.{CommandLine}
 use Rattle.command_words.specs.App.{argument}
-use Rattle.command_words.proofs.Table.{Text}
+use Rattle.command_words.proofs.PlainWords.{Text}
 use Rattle.command_words.proofs.Looks.{two_ways}
 use Rattle.command_words.proofs.Leaves.{row}
 

@@ -6,11 +6,11 @@ use Rattle.std.specs.Str.{bytes_eq, IsUtf8}
 use Rattle.std.proofs.lemmas.Slice.Eq.{bytes_eq-Decides}
 use Rattle.clap.specs.Walk.{Held, Row, Walk, Waiting, idle, option, value, walked, arg_by_index, to_positional, nothing_held}
 use Rattle.clap.specs.Faults.{turn_fault, step_fault, settle_fault, walk_fault}
-use Rattle.command_words.specs.Command.{Command, Arguments, with_plain, with_workers, is_option, is_joined, arguments_of, number_up_to, counted, with_count, three, four, run, exec, run_by, exec_by}
-use Rattle.command_words.specs.Plain.{run_with, run_given, exec_with, exec_given}
+use Rattle.command_words.specs.Command.{Command, Arguments, with_plain, with_workers, is_option, is_joined, arguments_of, number_up_to, counted, with_count, three, four, job, run, exec, run_by, exec_by}
+use Rattle.command_words.specs.Plain.{plain_words, run_with, run_given, exec_with, exec_given}
 use Rattle.command_words.specs.Answer.{Tells}
 use Rattle.command_words.proofs.Behind.{behind, given, behind_plain, behind_workers}
-use Rattle.command_words.proofs.Table.{Text, is_escape, is_dashed}
+use Rattle.command_words.proofs.PlainWords.{Text, is_escape, is_dashed}
 use Rattle.command_words.proofs.Looks.{two_ways}
 use Rattle.command_words.proofs.OptionWords.{joined_is}
 use Rattle.command_words.proofs.Rows.{Has, more, first_value_of, stays, is_added}
@@ -24,8 +24,8 @@ working_by false o = run_by o
 working_by true o = exec_by o
 
 abbrev pub working_with : Bool → Text → Text → Text → Option Text → Option Text → Option Command
-working_with false a b c d n = run_given a (Some b) (Some c) d n
-working_with true a b c d n = exec_given a (Some b) (Some c) d n
+working_with false a b c d n = run_given (plain_words a (Some b) (Some c) d) n
+working_with true a b c d n = exec_given (plain_words a (Some b) (Some c) d) n
 
 module _ (needed : Bool) (name : Text) where
   -- what becomes of the words from a walk on, where they say o
@@ -176,8 +176,8 @@ second_none false ps w x (Some r) = refl
 bad_value_none : (needed : Bool) (ps us : List Text) (x : Text) (o : Option Arguments) → IsAtMostOne us → number_up_to 80 x ≡ None → working_by needed (behind (given ps us) (with_workers x o)) ≡ None
 bad_value_none true ps [] x None l e = refl
 bad_value_none false ps [] x None l e = refl
-bad_value_none true ps [] x (Some r) l e = bad_count (λ n. four (λ a h c s. Some (exec a h c s n)) (ps ++ r.plain)) x r.workers e
-bad_value_none false ps [] x (Some r) l e = bad_count (λ n. three (λ a h s. Some (run a h s n)) (ps ++ r.plain)) x r.workers e
+bad_value_none true ps [] x (Some r) l e = bad_count (λ n. four (λ a h c s. Some (job (exec a h c s n))) (ps ++ r.plain)) x r.workers e
+bad_value_none false ps [] x (Some r) l e = bad_count (λ n. three (λ a h s. Some (job (run a h s n))) (ps ++ r.plain)) x r.workers e
 bad_value_none needed ps (w ∷ []) x o l e = second_none needed ps w x o
 bad_value_none needed ps (w ∷ v ∷ vs) x o l e = absurd l
 

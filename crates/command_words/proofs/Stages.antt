@@ -6,7 +6,7 @@ use Rattle.clap.specs.Walk.{Held, Row, Walk, value, walked, arg_by_index, to_pos
 use Rattle.clap.specs.Simple.{Shape}
 use Rattle.clap.specs.Kinds.{Kinds, or_else}
 use Rattle.clap.specs.Faults.{turn_fault, walk_fault, step_fault, settle_fault, defaults_fault, check_fault}
-use Rattle.command_words.proofs.Table.{Text, is_escape, is_dashed, plain_from}
+use Rattle.command_words.proofs.PlainWords.{Text, is_escape, is_dashed, plain_from}
 use Rattle.command_words.proofs.Looks.{two_ways}
 use Rattle.command_words.proofs.Leaf.{IsRefused, refused_first, NoOptions, at, met_plain, met_escape, word_plain, word_escape, word_dashed}
 

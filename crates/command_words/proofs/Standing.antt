@@ -10,7 +10,7 @@ use Rattle.clap.specs.Faults.{turn_fault, word_fault, step_fault, settle_fault, 
 use Rattle.clap.specs.declared.error.kind.ErrorKind.TheVariants as kind
 use Rattle.command_words.specs.Command.{is_joined}
 use Rattle.command_words.specs.App.{working_app, argument}
-use Rattle.command_words.proofs.Table.{Text, is_escape, is_dashed}
+use Rattle.command_words.proofs.PlainWords.{Text, is_escape, is_dashed}
 use Rattle.command_words.proofs.Looks.{two_ways, plain_long, plain_short}
 use Rattle.command_words.proofs.Rows.{Has, more, has_value, has_none, first_use, value_given, none_given}
 use Rattle.command_words.proofs.OptionWords.{is_given, joined_is}

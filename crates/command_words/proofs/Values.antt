@@ -18,11 +18,11 @@ use Rattle.clap.specs.declared.parser.matches.ArgMatches.TheViews.{out-ArgMatche
 use Rattle.clap.specs.declared.parser.matches.Found.{Found}
 use Rattle.clap.proofs.WalkLemmas.{first_value-rows}
 use Rattle.command_words.specs.Command.{command_of}
-use Rattle.command_words.specs.Plain.{command_by_words}
+use Rattle.command_words.specs.Plain.{plain_words, command_named}
 use Rattle.command_words.specs.App.{the_app}
 use Rattle.command_words.specs.Answer.{wants_memory, Tells, Gives, Is}
 use Rattle.command_words.specs.declared.given.Given.{Given}
-use Rattle.command_words.proofs.Table.{Text}
+use Rattle.command_words.proofs.PlainWords.{Text}
 use Rattle.command_words.proofs.Stages.{AreTexts}
 use Rattle.command_words.proofs.Whole.{simple, simple_too}
 use Rattle.command_words.proofs.Exact.{Exact, refused, accepted, exact}
@@ -45,7 +45,7 @@ module _ {Z : Type 0} where
   texts [] = tt
   texts (w ∷ ws) = (IsUtf8-string_bytes w, texts ws)
 
-gives : (words : List Text) (name a : Text) (b c d w : Option Text) → command_of words ≡ command_by_words name a b c d w → (r : Option Given) → IsSomeAnd r (Is name a b c d w) → Gives words r
+gives : (words : List Text) (name a : Text) (b c d w : Option Text) → command_of words ≡ command_named name (plain_words a b c d) w → (r : Option Given) → IsSomeAnd r (Is name a b c d w) → Gives words r
 gives words name a b c d w e None h = absurd h
 gives words name a b c d w e (Some g) h = e ∙ rw (sym h.0, sym h.1, sym h.2, sym h.3, sym h.4, sym h.5) refl
 

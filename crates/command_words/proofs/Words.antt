@@ -1,7 +1,16 @@
 -- Which commands worked words are.
 use Rattle.std.proofs.Common.{◌≡◌, refl, List, [], ◌∷◌, Option, Some, None, codes}
 use Rattle.syn_base.specs.Bytes.{Bytes}
-use Rattle.command_words.specs.Command.{Command, check, sim, flat, chart, code, run, load, exec, dates, command_of}
+use Rattle.command_words.specs.Table.{table}
+use Rattle.command_words.specs.Command.{Command, plain, job, check, algorithm_text, schedule_text, dates, sim, run, exec, load, command_of}
+use Rattle.command_words.specs.declared.table.AlgorithmText.TheVariants.{Listing}
+use Rattle.command_words.specs.declared.table.ScheduleText.TheVariants.{Chart, Code}
+use Rattle.command_words.specs.declared.table.CommandKind.TheVariants.{Check, Sim, Algorithm, Schedule, Run, Load, Exec, Dates}
+
+-- the table of the code has these commands
+rows : table ≡ (codes "check", Check) ∷ (codes "flat", Algorithm Listing) ∷ (codes "chart", Schedule Chart) ∷ (codes "code", Schedule Code) ∷ (codes "dates", Dates)
+    ∷ (codes "sim", Sim) ∷ (codes "run", Run) ∷ (codes "exec", Exec) ∷ (codes "load", Load) ∷ []
+rows = refl
 
 abbrev a : Bytes
 a = codes "a"
@@ -18,13 +27,13 @@ of ws = command_of (codes "syndex" ∷ ws)
 no_words : (command_of [] ≡ None) × (of [] ≡ None)
 no_words = (refl, refl)
 
-plainest : of (codes "sim" ∷ a ∷ s ∷ []) ≡ Some (sim a s)
+plainest : of (codes "sim" ∷ a ∷ s ∷ []) ≡ Some (plain (sim a s))
 plainest = refl
 
-checks : (of (codes "check" ∷ a ∷ []) ≡ Some (check a None)) × (of (codes "check" ∷ a ∷ h ∷ []) ≡ Some (check a (Some h))) × (of (codes "check" ∷ a ∷ h ∷ s ∷ []) ≡ None)
+checks : (of (codes "check" ∷ a ∷ []) ≡ Some (plain (check a None))) × (of (codes "check" ∷ a ∷ h ∷ []) ≡ Some (plain (check a (Some h)))) × (of (codes "check" ∷ a ∷ h ∷ s ∷ []) ≡ None)
 checks = (refl, refl, refl)
 
-others : (of (codes "flat" ∷ a ∷ []) ≡ Some (flat a)) × (of (codes "chart" ∷ a ∷ h ∷ []) ≡ Some (chart a h)) × (of (codes "code" ∷ a ∷ h ∷ []) ≡ Some (code a h))
+others : (of (codes "flat" ∷ a ∷ []) ≡ Some (plain (algorithm_text Listing a))) × (of (codes "chart" ∷ a ∷ h ∷ []) ≡ Some (plain (schedule_text Chart a h))) × (of (codes "code" ∷ a ∷ h ∷ []) ≡ Some (plain (schedule_text Code a h)))
 others = (refl, refl, refl)
 
 -- no abbreviation, and no other spelling
@@ -34,13 +43,13 @@ unknown = (refl, refl, refl, refl, refl)
 abbrev workers : List Bytes → List Bytes
 workers ws = codes "run" ∷ a ∷ h ∷ s ∷ ws
 
-runs : (of (workers []) ≡ Some (run a h s None)) × (of (codes "run" ∷ a ∷ h ∷ []) ≡ None)
+runs : (of (workers []) ≡ Some (job (run a h s None))) × (of (codes "run" ∷ a ∷ h ∷ []) ≡ None)
 runs = (refl, refl)
 
 -- in both forms, anywhere after the command, with leading zeros
-given : (of (workers (codes "--workers" ∷ codes "80" ∷ [])) ≡ Some (run a h s (Some 80)))
-    × (of (workers (codes "--workers=04" ∷ [])) ≡ Some (run a h s (Some 4)))
-    × (of (codes "run" ∷ codes "--workers" ∷ codes "1" ∷ a ∷ h ∷ s ∷ []) ≡ Some (run a h s (Some 1)))
+given : (of (workers (codes "--workers" ∷ codes "80" ∷ [])) ≡ Some (job (run a h s (Some 80))))
+    × (of (workers (codes "--workers=04" ∷ [])) ≡ Some (job (run a h s (Some 4))))
+    × (of (codes "run" ∷ codes "--workers" ∷ codes "1" ∷ a ∷ h ∷ s ∷ []) ≡ Some (job (run a h s (Some 1))))
 given = (refl, refl, refl)
 
 not_given : (of (workers (codes "--workers" ∷ codes "0" ∷ [])) ≡ None) × (of (workers (codes "--workers" ∷ codes "81" ∷ [])) ≡ None) × (of (workers (codes "--workers" ∷ [])) ≡ None)
@@ -55,22 +64,22 @@ elsewhere : (of (codes "sim" ∷ a ∷ s ∷ codes "--workers=1" ∷ []) ≡ Non
 elsewhere = (refl, refl)
 
 -- after `--` each word is plain, a second `--` too; before the command there is none
-ended : (of (codes "run" ∷ a ∷ codes "--" ∷ codes "--workers" ∷ codes "--" ∷ []) ≡ Some (run a (codes "--workers") (codes "--") None)) × (of (codes "--" ∷ codes "sim" ∷ a ∷ s ∷ []) ≡ None)
+ended : (of (codes "run" ∷ a ∷ codes "--" ∷ codes "--workers" ∷ codes "--" ∷ []) ≡ Some (job (run a (codes "--workers") (codes "--") None))) × (of (codes "--" ∷ codes "sim" ∷ a ∷ s ∷ []) ≡ None)
 ended = (refl, refl)
 
 -- `-` and the empty word are names of files; other words that begin so are none
-hyphens : (of (codes "sim" ∷ codes "-" ∷ [] ∷ []) ≡ Some (sim (codes "-") [])) × (of (codes "sim" ∷ codes "-a" ∷ s ∷ []) ≡ None)
+hyphens : (of (codes "sim" ∷ codes "-" ∷ [] ∷ []) ≡ Some (plain (sim (codes "-") []))) × (of (codes "sim" ∷ codes "-a" ∷ s ∷ []) ≡ None)
 hyphens = (refl, refl)
 
-loads : (of (codes "load" ∷ codes "1000" ∷ []) ≡ Some (load 1000)) × (of (codes "load" ∷ codes "0001" ∷ []) ≡ Some (load 1)) × (of (codes "load" ∷ codes "0" ∷ []) ≡ None) × (of (codes "load" ∷ codes "1001" ∷ []) ≡ None)
+loads : (of (codes "load" ∷ codes "1000" ∷ []) ≡ Some (job (load 1000))) × (of (codes "load" ∷ codes "0001" ∷ []) ≡ Some (job (load 1))) × (of (codes "load" ∷ codes "0" ∷ []) ≡ None) × (of (codes "load" ∷ codes "1001" ∷ []) ≡ None)
 loads = (refl, refl, refl, refl)
 
 -- macro-code takes workers as a run does, and needs four files
 abbrev c : Bytes
 c = codes "c"
 
-execs : (of (codes "exec" ∷ a ∷ h ∷ c ∷ s ∷ []) ≡ Some (exec a h c s None)) × (of (codes "exec" ∷ a ∷ codes "--workers" ∷ codes "80" ∷ h ∷ c ∷ s ∷ []) ≡ Some (exec a h c s (Some 80)))
-    × (of (codes "exec" ∷ a ∷ h ∷ c ∷ s ∷ codes "--workers=007" ∷ []) ≡ Some (exec a h c s (Some 7))) × (of (codes "exec" ∷ a ∷ h ∷ codes "--" ∷ codes "-" ∷ codes "--workers" ∷ []) ≡ Some (exec a h (codes "-") (codes "--workers") None))
+execs : (of (codes "exec" ∷ a ∷ h ∷ c ∷ s ∷ []) ≡ Some (job (exec a h c s None))) × (of (codes "exec" ∷ a ∷ codes "--workers" ∷ codes "80" ∷ h ∷ c ∷ s ∷ []) ≡ Some (job (exec a h c s (Some 80))))
+    × (of (codes "exec" ∷ a ∷ h ∷ c ∷ s ∷ codes "--workers=007" ∷ []) ≡ Some (job (exec a h c s (Some 7)))) × (of (codes "exec" ∷ a ∷ h ∷ codes "--" ∷ codes "-" ∷ codes "--workers" ∷ []) ≡ Some (job (exec a h (codes "-") (codes "--workers") None)))
 execs = (refl, refl, refl, refl)
 
 no_execs : (of (codes "exec" ∷ a ∷ h ∷ s ∷ []) ≡ None) × (of (codes "exec" ∷ a ∷ h ∷ c ∷ s ∷ c ∷ []) ≡ None) × (of (codes "exec" ∷ a ∷ h ∷ c ∷ s ∷ codes "--workers=81" ∷ []) ≡ None)
@@ -78,7 +87,7 @@ no_execs : (of (codes "exec" ∷ a ∷ h ∷ s ∷ []) ≡ None) × (of (codes "
 no_execs = (refl, refl, refl, refl, refl)
 
 -- 1 to 1,000 reactions are dated, and there is no option
-dated : (of (codes "dates" ∷ a ∷ h ∷ h ∷ codes "2" ∷ []) ≡ Some (dates a h h 2)) × (of (codes "dates" ∷ a ∷ h ∷ h ∷ codes "01000" ∷ []) ≡ Some (dates a h h 1000))
+dated : (of (codes "dates" ∷ a ∷ h ∷ h ∷ codes "2" ∷ []) ≡ Some (plain (dates a h h 2))) × (of (codes "dates" ∷ a ∷ h ∷ h ∷ codes "01000" ∷ []) ≡ Some (plain (dates a h h 1000)))
     × (of (codes "dates" ∷ a ∷ h ∷ h ∷ codes "0" ∷ []) ≡ None) × (of (codes "dates" ∷ a ∷ h ∷ h ∷ codes "1001" ∷ []) ≡ None)
 dated = (refl, refl, refl, refl)
 

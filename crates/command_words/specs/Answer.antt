@@ -5,7 +5,7 @@ use Rattle.clap.specs.declared.error.kind.ErrorKind.{ErrorKind}
 use Rattle.clap.specs.declared.error.kind.ErrorKind.TheVariants as kind
 use Rattle.syn_base.specs.Bytes.{Bytes}
 use Rattle.command_words.specs.Command.{Command, command_of}
-use Rattle.command_words.specs.Plain.{command_without_options, plain_words, run_given, exec_given, command_by_words}
+use Rattle.command_words.specs.Plain.{plain_words, command_named}
 use Rattle.command_words.specs.declared.given.Given.{Given}
 
 abbrev pub wants_memory : ErrorKind → Bool
@@ -20,26 +20,11 @@ pub record Tells (rs : List Row) (a : Bytes) (b c d w : Option Bytes) : Type 0 w
   pub fourth : first_of (codes "fourth") rs ≡ d
   pub workers : first_of (codes "workers") rs ≡ w
 
--- the commands of what was found: a run, a code that is executed, one that takes plain arguments alone, and any
-abbrev pub run_of : Given → Option Command
-run_of g =
-    run_given g.first.now (option_map (λ w. w.now) g.second) (option_map (λ w. w.now) g.third)
-    (option_map (λ w. w.now) g.fourth) (option_map (λ w. w.now) g.workers)
-
-abbrev pub exec_of : Given → Option Command
-exec_of g =
-    exec_given g.first.now (option_map (λ w. w.now) g.second) (option_map (λ w. w.now) g.third)
-    (option_map (λ w. w.now) g.fourth) (option_map (λ w. w.now) g.workers)
-
-abbrev pub plain_of : Given → Option Command
-plain_of g =
-    command_without_options g.name.now (plain_words g.first.now (option_map (λ w. w.now) g.second)
-    (option_map (λ w. w.now) g.third) (option_map (λ w. w.now) g.fourth))
-
+-- the command of what was found: the one of its name, with its arguments
 abbrev pub command_given : Given → Option Command
 command_given g =
-    command_by_words g.name.now g.first.now (option_map (λ w. w.now) g.second) (option_map (λ w. w.now) g.third)
-    (option_map (λ w. w.now) g.fourth) (option_map (λ w. w.now) g.workers)
+    command_named g.name.now (plain_words g.first.now (option_map (λ w. w.now) g.second)
+    (option_map (λ w. w.now) g.third) (option_map (λ w. w.now) g.fourth)) (option_map (λ w. w.now) g.workers)
 
 -- the words' command is that of what was found, and where nothing was there is no command
 abbrev pub Gives : List Bytes → Option Given → Type 0

@@ -3,6 +3,9 @@ use Rattle.std.specs.Prelude.{Bool, List, [], ◌∷◌, true, false, codes, Som
 use Rattle.clap.specs.Walk.{Rule}
 use Rattle.clap.specs.Simple.{App, new_app, new_rule, with_rule, with_subcommand, on_top}
 use Rattle.syn_base.specs.Bytes.{Bytes}
+use Rattle.command_words.specs.Table.{Row, table}
+use Rattle.command_words.specs.declared.table.CommandKind.{CommandKind}
+use Rattle.command_words.specs.declared.table.CommandKind.TheVariants as kind
 use Rattle.command_words.specs.declared.given.Form.{Form}
 use Rattle.command_words.specs.declared.given.Form.TheVariants.{One, Two, Four, Working}
 
@@ -28,31 +31,39 @@ workers_rule = record (new_rule (codes "workers")) { long = Some (codes "workers
 abbrev pub working_app : Bool → Bytes → App
 working_app needed name = with_rule (four_app needed name) workers_rule
 
--- the command of this form and name
+-- The command of this form and name.
 abbrev pub form_app : Form → Bytes → App
 form_app One name = one_app name
 form_app (Two needed) name = two_app needed name
 form_app (Four needed) name = four_app needed name
 form_app (Working needed) name = working_app needed name
 
+-- Which words a command of this kind takes.
+abbrev pub form_of : CommandKind → Form
+form_of kind.Check = Two false
+form_of kind.Sim = Two true
+form_of (kind.Algorithm text) = One
+form_of (kind.Schedule text) = Two true
+form_of kind.Run = Working false
+form_of kind.Load = One
+form_of kind.Exec = Working true
+form_of kind.Dates = Four true
+
+-- The command of this row.
+abbrev pub row_app : Row → App
+row_app r = form_app (form_of r.1) r.0
+
+-- The program without its commands. It has no help of its own, and it requires a command.
 abbrev pub bare_app : App
 bare_app =
     on_top (λ s. record s { disable_help_flag = true; disable_help_subcommand = true; subcommand_required = true })
     (new_app (codes "syndex"))
 
--- with commands of these names and forms added one after another
-abbrev pub with_forms : App → List (Bytes × Form) → App
-with_forms a [] = a
-with_forms a (c ∷ cs) = with_forms (with_subcommand a (form_app c.1 c.0).top) cs
+-- with the commands of these rows added one after another
+abbrev pub with_commands : App → List Row → App
+with_commands a [] = a
+with_commands a (r ∷ rs) = with_commands (with_subcommand a (row_app r).top) rs
 
-abbrev pub texts_app : App
-texts_app =
-    with_subcommand (with_subcommand (with_subcommand (with_subcommand (with_subcommand bare_app
-    (two_app false (codes "check")).top) (two_app true (codes "sim")).top) (one_app (codes "flat")).top)
-    (two_app true (codes "chart")).top) (two_app true (codes "code")).top
-
+-- the program
 abbrev pub the_app : App
-the_app =
-    with_subcommand (with_subcommand (with_subcommand (with_subcommand texts_app
-    (one_app (codes "load")).top) (four_app true (codes "dates")).top) (working_app false (codes "run")).top)
-    (working_app true (codes "exec")).top
+the_app = with_commands bare_app table

@@ -16,6 +16,7 @@ use Rattle.std.specs.Prelude.{
   Option,
   Some,
   None,
+  option_and_then,
   if◌then◌else◌,
   codes,
 }
@@ -24,23 +25,47 @@ use Rattle.std.specs.Str.{bytes_eq}
 use Rattle.syn_base.specs.Bytes.{Bytes}
 use Rattle.syn_base.specs.Name.{is_digit}
 use Rattle.syn_base.specs.Integer.{number_of}
+use Rattle.command_words.specs.Table.{table, kind_named}
+use Rattle.command_words.specs.declared.table.AlgorithmText.{AlgorithmText}
+use Rattle.command_words.specs.declared.table.ScheduleText.{ScheduleText}
+use Rattle.command_words.specs.declared.table.CommandKind.{CommandKind}
+use Rattle.command_words.specs.declared.table.CommandKind.TheVariants.{
+  Check,
+  Sim,
+  Algorithm,
+  Schedule,
+  Run,
+  Load,
+  Exec,
+  Dates,
+}
 
--- files go by their names
-pub data Command : Type 0 where
+-- A command that runs no job. Files go by their names.
+pub data PlainCommand : Type 0 where
   -- the algorithm, and the architecture if there is one
-  check : Bytes → Option Bytes → Command
-  -- the algorithm and the sensor table
-  sim : Bytes → Bytes → Command
-  flat : Bytes → Command
+  check : Bytes → Option Bytes → PlainCommand
+  -- the algorithm
+  algorithm_text : AlgorithmText → Bytes → PlainCommand
   -- the algorithm and the architecture
-  chart code : Bytes → Bytes → Command
-  -- the algorithm, the architecture and the sensor table, and the number of workers if it is given
-  run : Bytes → Bytes → Bytes → Option ℕ → Command
-  load : ℕ → Command
-  -- the algorithm, the architecture, the code and the sensor table, and the number of workers if it is given
-  exec : Bytes → Bytes → Bytes → Bytes → Option ℕ → Command
+  schedule_text : ScheduleText → Bytes → Bytes → PlainCommand
   -- the algorithm, the architecture, the durations that really occur, and the number of reactions
-  dates : Bytes → Bytes → Bytes → ℕ → Command
+  dates : Bytes → Bytes → Bytes → ℕ → PlainCommand
+  -- the algorithm and the sensor table
+  sim : Bytes → Bytes → PlainCommand
+
+-- A command that runs jobs.
+pub data JobCommand : Type 0 where
+  -- the algorithm, the architecture and the sensor table, and the number of workers if it is given
+  run : Bytes → Bytes → Bytes → Option ℕ → JobCommand
+  -- the algorithm, the architecture, the code and the sensor table, and the number of workers if it is given
+  exec : Bytes → Bytes → Bytes → Bytes → Option ℕ → JobCommand
+  -- the number of layers
+  load : ℕ → JobCommand
+
+-- A command, which runs no job or runs jobs.
+pub data Command : Type 0 where
+  plain : PlainCommand → Command
+  job : JobCommand → Command
 
 -- one or more digits, which give a number from 1 up to this one
 abbrev pub number_up_to : ℕ → Bytes → Option ℕ
@@ -117,13 +142,13 @@ four go _ = None
 -- The command `load` with this number, and None if there is no number.
 abbrev pub loaded : Option ℕ → Option Command
 loaded None = None
-loaded (Some n) = Some (load n)
+loaded (Some n) = Some (job (load n))
 
 -- The command `dates` of these three files and this number of reactions, and None if there is no
 -- number.
 abbrev pub dated : Bytes → Bytes → Bytes → Option ℕ → Option Command
 dated a h g None = None
-dated a h g (Some n) = Some (dates a h g n)
+dated a h g (Some n) = Some (plain (dates a h g n))
 
 -- The command with this number of workers, and None if there is no number.
 abbrev pub with_count : (Option ℕ → Option Command) → Option ℕ → Option Command
@@ -146,33 +171,36 @@ plain_by go (Some a) = go a.plain
 abbrev pub run_by : Option Arguments → Option Command
 run_by None = None
 run_by (Some a) =
-    counted (λ workers. three (λ alg archi sensors. Some (run alg archi sensors workers)) a.plain) a.workers
+    counted (λ workers. three (λ alg archi sensors. Some (job (run alg archi sensors workers))) a.plain) a.workers
 
 -- The command `exec` of these arguments: four files, and a number of workers if one is given. It is
 -- None if the arguments are others.
 abbrev pub exec_by : Option Arguments → Option Command
 exec_by None = None
 exec_by (Some a) =
-    counted (λ workers. four (λ alg archi code sensors. Some (exec alg archi code sensors workers)) a.plain) a.workers
+    counted (λ workers. four (λ alg archi code sensors. Some (job (exec alg archi code sensors workers))) a.plain)
+    a.workers
 
 -- The command of the words after its name, for one that takes plain arguments only. It is None if a
 -- word is taken for an option.
-abbrev pub plain : (List Bytes → Option Command) → List Bytes → Option Command
-plain go ws = plain_by go (arguments_of false false ws)
+abbrev pub plainly : (List Bytes → Option Command) → List Bytes → Option Command
+plainly go ws = plain_by go (arguments_of false false ws)
 
--- The command of this name and of the words after it, and None if they are no command.
+-- Which command words are that stand after the name of one of this kind, and None if they are none of
+-- it.
+abbrev pub command_of_kind : CommandKind → List Bytes → Option Command
+command_of_kind Check ws = plainly (one_or_two (λ a h. Some (plain (check a h)))) ws
+command_of_kind Sim ws = plainly (two (λ a s. Some (plain (sim a s)))) ws
+command_of_kind (Algorithm text) ws = plainly (one (λ a. Some (plain (algorithm_text text a)))) ws
+command_of_kind (Schedule text) ws = plainly (two (λ a h. Some (plain (schedule_text text a h)))) ws
+command_of_kind Run ws = run_by (arguments_of true false ws)
+command_of_kind Load ws = plainly (one (λ n. loaded (number_up_to 1000 n))) ws
+command_of_kind Exec ws = exec_by (arguments_of true false ws)
+command_of_kind Dates ws = plainly (four (λ a h g n. dated a h g (number_up_to 1000 n))) ws
+
+-- The command of this name and of the words after it, and None if they are no command of the table.
 abbrev pub command_by : Bytes → List Bytes → Option Command
-command_by name ws =
-    if bytes_eq name (codes "check") then plain (one_or_two (λ a h. Some (check a h))) ws else
-    if bytes_eq name (codes "sim") then plain (two (λ a s. Some (sim a s))) ws else
-    if bytes_eq name (codes "flat") then plain (one (λ a. Some (flat a))) ws else
-    if bytes_eq name (codes "chart") then plain (two (λ a h. Some (chart a h))) ws else
-    if bytes_eq name (codes "code") then plain (two (λ a h. Some (code a h))) ws else
-    if bytes_eq name (codes "run") then run_by (arguments_of true false ws) else
-    if bytes_eq name (codes "load") then plain (one (λ n. loaded (number_up_to 1000 n))) ws else
-    if bytes_eq name (codes "exec") then exec_by (arguments_of true false ws) else
-    if bytes_eq name (codes "dates") then plain (four (λ a h g n. dated a h g (number_up_to 1000 n))) ws else
-    None
+command_by name ws = option_and_then (λ kind. command_of_kind kind ws) (kind_named table name)
 
 -- the command of these words, if they are one
 abbrev pub command_of : List Bytes → Option Command

@@ -1,5 +1,7 @@
 //! The commands as types, for the reader of words and for whoever carries them out.
 
+use crate::table::{AlgorithmText, ScheduleText};
+
 /// A command, with the names of its files as they are given. Its kind tells who carries it out.
 #[derive(Clone, Copy, Drop)]
 pub enum Command<'a> {
@@ -22,17 +24,14 @@ pub enum PlainCommand<'a> {
         algorithm: &'a str,
         sensors: &'a str,
     },
-    /// `flat A`: the flat listing.
-    Flat {
+    /// `flat A`: a text of the algorithm.
+    Algorithm {
+        text: AlgorithmText,
         algorithm: &'a str,
     },
-    /// `chart A H`: the timing chart.
-    Chart {
-        algorithm: &'a str,
-        architecture: &'a str,
-    },
-    /// `code A H`: the macro-code.
-    Code {
+    /// `chart A H` and `code A H`: a text of the algorithm on the architecture.
+    Schedule {
+        text: ScheduleText,
         algorithm: &'a str,
         architecture: &'a str,
     },

@@ -15,12 +15,15 @@ ghost use Rattle.command_words.specs.App.{
   four_app,
   working_app,
   form_app,
+  form_of,
+  row_app,
   bare_app,
-  with_forms,
+  with_commands,
   the_app,
 };
 ghost use Rattle.command_words.specs.Answer.{wants_memory, Tells, Gives, Is};
 
+use crate::table::{COMMANDS, CommandKind, Row};
 use clap::error::ErrorKind;
 use clap::{Arg, ArgMatches, Command, Error};
 use std::alloc::{AllocError, Global};
@@ -129,48 +132,52 @@ fn bare<'a>(alloc: Global) -> Command<'a>
         .subcommand_required(true)
 }
 
-/// The program with the command of this name and form besides.
+/// Which words a command of this kind takes. A fourth argument is taken of `run` too, and refused with its words.
+fn form_of(kind: CommandKind) -> Form
+    ensures { result ≡ form_of kind }
+{
+    match kind {
+        CommandKind::Check => Form::Two { needed: false },
+        CommandKind::Sim | CommandKind::Schedule(_) => Form::Two { needed: true },
+        CommandKind::Algorithm(_) | CommandKind::Load => Form::One,
+        CommandKind::Run => Form::Working { needed: false },
+        CommandKind::Exec => Form::Working { needed: true },
+        CommandKind::Dates => Form::Four { needed: true },
+    }
+}
+
+/// The program with the command of this name and kind besides.
 fn add<'a>(
     alloc: Global,
     app: Command<'a>,
     name: &'a str,
-    form: Form,
+    kind: CommandKind,
 ) -> Result<Command<'a>, AllocError>
-    ensures { IfOk result (λ c. app_of c ≡ with_subcommand (app_of app.entry) (form_app form name.entry.now).top) }
+    ensures { IfOk result (λ c. app_of c ≡ with_subcommand (app_of app.entry) (row_app (name.entry.now, kind)).top) }
 {
-    let command = of_form(alloc, name, form)?;
+    let command = of_form(alloc, name, form_of(kind))?;
     app.subcommand(command)
 }
 
-/// The program with commands of these names and forms.
-fn with_commands<'a>(alloc: Global, commands: &[(&'a str, Form)]) -> Result<Command<'a>, AllocError>
-    ensures { IfOk result (λ c. app_of c ≡ with_forms bare_app (map (λ p. (p.0.now, p.1)) commands.now)) }
+/// The program with the commands of these rows.
+fn with_commands<'a>(
+    alloc: Global,
+    rows: &[Row<'a, CommandKind>],
+) -> Result<Command<'a>, AllocError>
+    ensures { IfOk result (λ c. app_of c ≡ with_commands bare_app (map (λ r. (r.0.now, r.1)) rows.now)) }
 {
     let mut app = bare(alloc);
-    for (name, form) in commands {
-        app = add(alloc, app, name, *form)?;
+    for row in rows {
+        app = add(alloc, app, row.0, row.1)?;
     }
     Ok(app)
 }
 
-/// The program with all its commands. A fourth argument is taken of `run` too, and refused with its words.
+/// The program with all its commands.
 fn command<'a>(alloc: Global) -> Result<Command<'a>, AllocError>
     ensures { IfOk result (λ c. app_of c ≡ the_app) }
 {
-    with_commands(
-        alloc,
-        &[
-            ("check", Form::Two { needed: false }),
-            ("sim", Form::Two { needed: true }),
-            ("flat", Form::One),
-            ("chart", Form::Two { needed: true }),
-            ("code", Form::Two { needed: true }),
-            ("load", Form::One),
-            ("dates", Form::Four { needed: true }),
-            ("run", Form::Working { needed: false }),
-            ("exec", Form::Working { needed: true }),
-        ],
-    )
+    with_commands(alloc, &COMMANDS)
 }
 
 /// What is given in the words that were matched, or `None` where they have no command with an argument.

@@ -1,15 +1,15 @@
 //! The commands of the program, and which one the words of a command line are. The program calls `command_of`
-//! first; the table of commands stands in `specs/Command`.
+//! first; the table of commands stands in `table`, and what their words mean in `specs/Command`.
 #![tactic(auto)]
 
 ghost use Rattle.std.specs.Prelude.{◌≡◌, IfOk, Some, map, option_map};
 ghost use Rattle.std.specs.String.{string_bytes};
 ghost use Rattle.command_words.specs.Command.{
+  plain,
   check,
   sim,
-  flat,
-  chart,
-  code,
+  algorithm_text,
+  schedule_text,
   one,
   two,
   one_or_two,
@@ -19,19 +19,22 @@ ghost use Rattle.command_words.specs.Command.{
   number_up_to,
   command_of,
 };
-ghost use Rattle.command_words.specs.Plain.{command_without_options, run_with, exec_with};
-ghost use Rattle.command_words.specs.Answer.{exec_of, command_given, plain_of, run_of};
+ghost use Rattle.command_words.specs.Plain.{command_with, exec_given, exec_with, run_given, run_with};
+ghost use Rattle.command_words.specs.Answer.{command_given};
 ghost use Rattle.command_words.specs.View.{view_of};
 
 mod commands;
 mod given;
 mod number;
+mod table;
 
 pub use commands::{Command, JobCommand, PlainCommand};
 use given::{Given, given_words};
 pub use number::number_up_to;
 use std::alloc::Global;
 use syn_base::OutOfMemory;
+use table::{COMMANDS, CommandKind};
+pub use table::{AlgorithmText, Row, ScheduleText, kind_named};
 
 /// The most workers.
 const MOST_WORKERS: u32 = 80;
@@ -56,63 +59,53 @@ pub fn command_of<'a>(
     }
 }
 
-/// The command of what was given, if the table has it: `run` and `exec` alone take an option.
+/// The command of what was given, if the table has it.
 fn command_with<'a>(given: &Given<'a>) -> Option<Command<'a>>
     ensures { option_map view_of result ≡ command_given given.now }
 {
-    if given.name == "run" {
-        run(given)
-    } else if given.name == "exec" {
-        exec(given)
-    } else {
-        given_without_options(given)
-    }
-}
-
-/// The command of what was given where it takes no option: its name with its words.
-fn given_without_options<'a>(given: &Given<'a>) -> Option<Command<'a>>
-    ensures { option_map view_of result ≡ plain_of given.now }
-{
-    let name = given.name;
+    let kind = kind_named(&COMMANDS, given.name)?;
     let first = given.first;
+    let workers = given.workers;
     match (given.second, given.third, given.fourth) {
-        (None, _, _) => command_without_options(name, &[first]),
-        (Some(second), None, _) => command_without_options(name, &[first, second]),
-        (Some(second), Some(third), None) => command_without_options(name, &[first, second, third]),
+        (None, _, _) => command_of_kind(kind, &[first], workers),
+        (Some(second), None, _) => command_of_kind(kind, &[first, second], workers),
+        (Some(second), Some(third), None) => command_of_kind(
+            kind,
+            &[first, second, third],
+            workers,
+        ),
         (Some(second), Some(third), Some(fourth)) => {
-            command_without_options(name, &[first, second, third, fourth])
+            command_of_kind(kind, &[first, second, third, fourth], workers)
         }
     }
 }
 
-/// The command of this name with these words, if it takes no option and as many words.
-fn command_without_options<'a>(name: &str, plain: &[&'a str]) -> Option<Command<'a>>
-    ensures { option_map view_of result ≡ command_without_options name.now (map (λ w. w.now) plain.now) }
+/// The command of this kind with these words, if it takes as many. Only `run` and `exec` take workers.
+fn command_of_kind<'a>(
+    kind: CommandKind,
+    words: &[&'a str],
+    workers: Option<&str>,
+) -> Option<Command<'a>>
+    ensures { option_map view_of result ≡ command_with kind (map (λ w. w.now) words.now)
+        (option_map (λ w. w.now) workers.entry) }
 {
-    if name == "check" {
-        check(plain)
-    } else if name == "sim" {
-        sim(plain)
-    } else if name == "flat" {
-        flat(plain)
-    } else if name == "chart" {
-        chart(plain)
-    } else if name == "code" {
-        code(plain)
-    } else if name == "load" {
-        load(plain)
-    } else if name == "dates" {
-        dates(plain)
-    } else {
-        None
+    match kind {
+        CommandKind::Check => check(words),
+        CommandKind::Sim => sim(words),
+        CommandKind::Algorithm(text) => of_algorithm(text, words),
+        CommandKind::Schedule(text) => of_schedule(text, words),
+        CommandKind::Run => run(words, workers),
+        CommandKind::Load => load(words),
+        CommandKind::Exec => exec(words, workers),
+        CommandKind::Dates => dates(words),
     }
 }
 
 /// The command `check` of one or two words.
-fn check<'a>(plain: &[&'a str]) -> Option<Command<'a>>
-    ensures { option_map view_of result ≡ one_or_two (λ a h. Some (check a h)) (map (λ w. w.now) plain.now) }
+fn check<'a>(words: &[&'a str]) -> Option<Command<'a>>
+    ensures { option_map view_of result ≡ one_or_two (λ a h. Some (plain (check a h))) (map (λ w. w.now) words.now) }
 {
-    match plain {
+    match words {
         [algorithm] => Some(Command::Plain(PlainCommand::Check {
             algorithm,
             architecture: None,
@@ -126,44 +119,33 @@ fn check<'a>(plain: &[&'a str]) -> Option<Command<'a>>
 }
 
 /// The command `sim` of two words.
-fn sim<'a>(plain: &[&'a str]) -> Option<Command<'a>>
-    ensures { option_map view_of result ≡ two (λ a s. Some (sim a s)) (map (λ w. w.now) plain.now) }
+fn sim<'a>(words: &[&'a str]) -> Option<Command<'a>>
+    ensures { option_map view_of result ≡ two (λ a s. Some (plain (sim a s))) (map (λ w. w.now) words.now) }
 {
-    match plain {
+    match words {
         [algorithm, sensors] => Some(Command::Plain(PlainCommand::Sim { algorithm, sensors })),
         _ => None,
     }
 }
 
-/// The command `flat` of one word.
-fn flat<'a>(plain: &[&'a str]) -> Option<Command<'a>>
-    ensures { option_map view_of result ≡ one (λ a. Some (flat a)) (map (λ w. w.now) plain.now) }
+/// The command of one word that writes this of the algorithm.
+fn of_algorithm<'a>(text: AlgorithmText, words: &[&'a str]) -> Option<Command<'a>>
+    ensures { option_map view_of result ≡ one (λ a. Some (plain (algorithm_text text a))) (map (λ w. w.now) words.now) }
 {
-    match plain {
-        [algorithm] => Some(Command::Plain(PlainCommand::Flat { algorithm })),
+    match words {
+        [algorithm] => Some(Command::Plain(PlainCommand::Algorithm { text, algorithm })),
         _ => None,
     }
 }
 
-/// The command `chart` of two words.
-fn chart<'a>(plain: &[&'a str]) -> Option<Command<'a>>
-    ensures { option_map view_of result ≡ two (λ a h. Some (chart a h)) (map (λ w. w.now) plain.now) }
+/// The command of two words that writes this of the algorithm on the architecture.
+fn of_schedule<'a>(text: ScheduleText, words: &[&'a str]) -> Option<Command<'a>>
+    ensures { option_map view_of result ≡ two (λ a h. Some (plain (schedule_text text a h)))
+        (map (λ w. w.now) words.now) }
 {
-    match plain {
-        [algorithm, architecture] => Some(Command::Plain(PlainCommand::Chart {
-            algorithm,
-            architecture,
-        })),
-        _ => None,
-    }
-}
-
-/// The command `code` of two words.
-fn code<'a>(plain: &[&'a str]) -> Option<Command<'a>>
-    ensures { option_map view_of result ≡ two (λ a h. Some (code a h)) (map (λ w. w.now) plain.now) }
-{
-    match plain {
-        [algorithm, architecture] => Some(Command::Plain(PlainCommand::Code {
+    match words {
+        [algorithm, architecture] => Some(Command::Plain(PlainCommand::Schedule {
+            text,
             algorithm,
             architecture,
         })),
@@ -172,10 +154,10 @@ fn code<'a>(plain: &[&'a str]) -> Option<Command<'a>>
 }
 
 /// The command `load` of one word, which is a number from 1 to 1,000.
-fn load<'a>(plain: &[&'a str]) -> Option<Command<'a>>
-    ensures { option_map view_of result ≡ one (λ n. loaded (number_up_to 1000 n)) (map (λ w. w.now) plain.now) }
+fn load<'a>(words: &[&'a str]) -> Option<Command<'a>>
+    ensures { option_map view_of result ≡ one (λ n. loaded (number_up_to 1000 n)) (map (λ w. w.now) words.now) }
 {
-    match plain {
+    match words {
         [number] => {
             let layers = number_up_to(MOST_LOAD, number.as_bytes())?;
             Some(Command::Job(JobCommand::Load(layers)))
@@ -185,11 +167,11 @@ fn load<'a>(plain: &[&'a str]) -> Option<Command<'a>>
 }
 
 /// The command `dates` of four words, of which the last is a number from 1 to 1,000.
-fn dates<'a>(plain: &[&'a str]) -> Option<Command<'a>>
+fn dates<'a>(words: &[&'a str]) -> Option<Command<'a>>
     ensures { option_map view_of result ≡ four (λ a h g n. dated a h g (number_up_to 1000 n))
-        (map (λ w. w.now) plain.now) }
+        (map (λ w. w.now) words.now) }
 {
-    match plain {
+    match words {
         [algorithm, architecture, durations, count] => {
             let reactions = number_up_to(MOST_REACTIONS, count.as_bytes())?;
             Some(Command::Plain(PlainCommand::Dates {
@@ -203,14 +185,13 @@ fn dates<'a>(plain: &[&'a str]) -> Option<Command<'a>>
     }
 }
 
-/// The command `run` of what was given: three words, and workers where they are given.
-fn run<'a>(given: &Given<'a>) -> Option<Command<'a>>
-    ensures { option_map view_of result ≡ run_of given.now }
+/// The command `run` of three words, and workers where they are given.
+fn run<'a>(words: &[&'a str], workers: Option<&str>) -> Option<Command<'a>>
+    ensures { option_map view_of result ≡ run_given (map (λ w. w.now) words.now)
+        (option_map (λ w. w.now) workers.entry) }
 {
-    match (given.second, given.third, given.fourth) {
-        (Some(architecture), Some(sensors), None) => {
-            run_with(given.first, architecture, sensors, given.workers)
-        }
+    match words {
+        [algorithm, architecture, sensors] => run_with(algorithm, architecture, sensors, workers),
         _ => None,
     }
 }
@@ -237,13 +218,14 @@ fn run_with<'a>(
     }))
 }
 
-/// The command `exec` of what was given: four words, and workers where they are given.
-fn exec<'a>(given: &Given<'a>) -> Option<Command<'a>>
-    ensures { option_map view_of result ≡ exec_of given.now }
+/// The command `exec` of four words, and workers where they are given.
+fn exec<'a>(words: &[&'a str], workers: Option<&str>) -> Option<Command<'a>>
+    ensures { option_map view_of result ≡ exec_given (map (λ w. w.now) words.now)
+        (option_map (λ w. w.now) workers.entry) }
 {
-    match (given.second, given.third, given.fourth) {
-        (Some(architecture), Some(code), Some(sensors)) => {
-            exec_with(given.first, architecture, code, sensors, given.workers)
+    match words {
+        [algorithm, architecture, code, sensors] => {
+            exec_with(algorithm, architecture, code, sensors, workers)
         }
         _ => None,
     }

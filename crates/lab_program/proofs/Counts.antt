@@ -1,8 +1,7 @@
 -- Words give numbers of reactions from 1 to 1,000.
 use Rattle.std.proofs.Common.{◌≡◌, ℕ, ◌≤◌, Bool, true, false, ◌&&◌, List, length, Option, Some, None, refl, arith}
-use Rattle.std.specs.Prelude.{codes, if◌then◌else◌, nat_le, option_and_then, option_map}
+use Rattle.std.specs.Prelude.{if◌then◌else◌, nat_le, option_and_then, option_map}
 use Rattle.std.specs.List.{list_all}
-use Rattle.std.specs.Str.{bytes_eq}
 use Rattle.std.proofs.lemmas.Bool.{leb-true}
 use Rattle.clap.specs.Faults.{fault_of}
 use Rattle.clap.specs.Simple.{subcommand_of}
@@ -11,29 +10,40 @@ use Rattle.syn_base.specs.Bytes.{Bytes}
 use Rattle.syn_base.specs.Integer.{number_of}
 use Rattle.syn_base.specs.Name.{is_digit}
 use Rattle.command_words.specs.Command.{number_up_to}
+use Rattle.command_words.specs.Table.{kind_named}
 use Rattle.lab_words.specs.App.{the_app}
+use Rattle.lab_words.specs.Table.{table}
+use Rattle.lab_words.specs.declared.table.AlgorithmText.{AlgorithmText}
+use Rattle.lab_words.specs.declared.table.AlgorithmText.TheVariants.{Graph, Table}
+use Rattle.lab_words.specs.declared.table.ScheduleText.{ScheduleText}
+use Rattle.lab_words.specs.declared.table.ScheduleText.TheVariants.{Chart, Flat, Code}
+use Rattle.lab_words.specs.declared.table.CommandKind.{CommandKind}
+use Rattle.lab_words.specs.declared.table.CommandKind.TheVariants.{Help, Algorithm, Lint, Plot, Why, Schedule, Report, Trace, Dates}
 use Rattle.lab_words.specs.Command.{
   Command,
-  Effort,
   Form,
   Subject,
   Values,
+  schedule,
+  lint,
+  dates,
   report,
   trace,
   drawn,
   traced,
   why,
   plot,
-  command_for,
   command_in,
   command_of,
-  command_on,
-  dates_by,
+  command_with,
   dates_given,
+  dates_on,
   effort_given,
-  is_help,
   number_given,
-  schedule_by,
+  of_algorithm,
+  placed,
+  report_given,
+  schedule_given,
   subject_of,
   trace_by,
   values_of,
@@ -67,12 +77,21 @@ module _ (P : Option ℕ → Type 0) (none : P None) (some : (n : ℕ) → 1 ≤
       bounded (nat_le 1 (length w)) (list_all is_digit w) (nat_le 1 (number_of w)) (nat_le (number_of w) 1000) (number_of w)
       (leb-true 1 (number_of w)) (leb-true (number_of w) 1000)
 
-of_dates : (form : Form) (a h g : Bytes) (o : Option Effort) (w : Bytes) → AreCounted (dates_by form a h g (number_up_to 1000 w) o)
-of_dates form a h g None = by_number (λ n. AreCounted (dates_by form a h g n None)) tt (λ n low high. tt)
-of_dates form a h g (Some effort) = by_number (λ n. AreCounted (dates_by form a h g n (Some effort))) tt (λ n low high. (low, high))
+with_last : {X : Type 0} (go : X → Command) → ((x : X) → IsCounted (go x)) → (o : Option X) → AreCounted (option_map go o)
+with_last go h None = tt
+with_last go h (Some x) = h x
 
-of_given : (form : Form) (a h : Bytes) (v : Values) → AreCounted (dates_given form a h v)
-of_given form a h v = with_some _ (λ g. with_some _ (λ n. of_dates form a h g (effort_given v) n) v.reactions) v.durations
+-- a command of an algorithm on an architecture
+on_board : (go : Bytes → Bytes → Option Command) → ((a h : Bytes) → AreCounted (go a h)) → (v : Values) → AreCounted (placed go v)
+on_board go k v = with_some (λ a. option_and_then (go a) v.architecture) (λ a. with_some (go a) (k a) v.architecture) v.algorithm
+
+of_dates : (form : Form) (v : Values) → AreCounted (dates_given form v)
+of_dates form v = on_board (λ a h. dates_on form a h v) (λ a h. with_some _ (λ g. with_some _ (λ w. of_number a h g w) v.reactions) v.durations) v
+  where
+    of_number : (a h g w : Bytes) → AreCounted (option_and_then (λ n. option_map (dates form a h g n) (effort_given v)) (number_up_to 1000 w))
+    of_number a h g w =
+        by_number (λ o. AreCounted (option_and_then (λ n. option_map (dates form a h g n) (effort_given v)) o)) tt
+        (λ n low high. with_last (dates form a h g n) (λ effort. (low, high)) (effort_given v)) w
 
 abbrev AreCountedOf : Option Subject → Type 0
 AreCountedOf None = Unit {0}
@@ -86,46 +105,41 @@ of_report : (o : Option Bytes) → AreCountedOf (option_map (λ n. report n) (nu
 of_report None = fifty
 of_report (Some w) = by_number (λ n. AreCountedOf (option_map (λ k. report k) n)) tt (λ n low high. (low, high)) w
 
-of_name : (name : Bytes) (v : Values) → AreCountedOf (subject_of name v)
-of_name name v =
-    either AreCountedOf (bytes_eq name (codes "chart")) _ _ tt
-    (either AreCountedOf (bytes_eq name (codes "flat")) _ _ tt
-    (either AreCountedOf (bytes_eq name (codes "code")) _ _ tt
-    (either AreCountedOf (bytes_eq name (codes "report")) _ _ (of_report v.reactions) tt)))
+of_text : (text : ScheduleText) → IsCountedOf (subject_of text)
+of_text Chart = tt
+of_text Flat = tt
+of_text Code = tt
 
-of_schedule : (o : Option Subject) (a h : Bytes) (e : Option Effort) → AreCountedOf o → AreCounted (schedule_by o a h e)
-of_schedule (Some subject) a h (Some effort) k = k
-of_schedule (Some subject) a h None k = tt
-of_schedule None a h (Some effort) k = tt
-of_schedule None a h None k = tt
+of_schedule : (subject : Subject) → IsCountedOf subject → (v : Values) → AreCounted (schedule_given subject v)
+of_schedule subject k v =
+    on_board (λ a h. option_map (schedule subject a h) (effort_given v)) (λ a h. with_last (schedule subject a h) (λ effort. k) (effort_given v)) v
 
-of_trace : (o : Option Bytes) (a h : Bytes) (v : Values) → AreCounted (trace_by o a h v)
-of_trace None a h v = of_schedule (Some trace) a h (effort_given v) tt
-of_trace (Some g) a h v = of_given traced a h v
+by_report : (o : Option Subject) → AreCountedOf o → (v : Values) → AreCounted (option_and_then (λ subject. schedule_given subject v) o)
+by_report None k v = tt
+by_report (Some subject) k v = of_schedule subject k v
 
-of_plot : (a : Bytes) (o : Option Bytes) → AreCounted (option_map (plot a) o)
-of_plot a None = tt
-of_plot a (Some s) = tt
+of_trace : (o : Option Bytes) (v : Values) → AreCounted (trace_by o v)
+of_trace None v = of_schedule trace tt v
+of_trace (Some g) v = of_dates traced v
 
-of_why : (a h : Bytes) (o : Option Bytes) → AreCounted (option_map (why a h) o)
-of_why a h None = tt
-of_why a h (Some c) = tt
+of_algorithm_text : (text : AlgorithmText) (a : Bytes) → IsCounted (of_algorithm text a)
+of_algorithm_text Graph a = tt
+of_algorithm_text Table a = tt
 
-on_board : (name a h : Bytes) (v : Values) → AreCounted (command_on name a h v)
-on_board name a h v =
-    either AreCounted (bytes_eq name (codes "why")) _ _ (of_why a h v.macros)
-    (either AreCounted (bytes_eq name (codes "dates")) _ _ (of_given drawn a h v)
-    (either AreCounted (bytes_eq name (codes "trace")) _ _ (of_trace v.durations a h v) (of_schedule (subject_of name v) a h (effort_given v) (of_name name v))))
-
-by_name : (name a : Bytes) (v : Values) → AreCounted (command_for name a v)
-by_name name a v =
-    either AreCounted (bytes_eq name (codes "graph")) _ _ tt
-    (either AreCounted (bytes_eq name (codes "table")) _ _ tt
-    (either AreCounted (bytes_eq name (codes "lint")) _ _ tt
-    (either AreCounted (bytes_eq name (codes "plot")) _ _ (of_plot a v.sensors) (with_some _ (λ h. on_board name a h v) v.architecture))))
+-- whatever the kind of the command
+by_kind : (kind : CommandKind) (v : Values) → AreCounted (command_with kind v)
+by_kind Help v = tt
+by_kind (Algorithm text) v = with_last (of_algorithm text) (of_algorithm_text text) v.algorithm
+by_kind Lint v = with_last (λ a. lint a v.architecture) (λ a. tt) v.algorithm
+by_kind Plot v = with_some (λ a. option_map (plot a) v.sensors) (λ a. with_last (plot a) (λ s. tt) v.sensors) v.algorithm
+by_kind Why v = on_board (λ a h. option_map (why a h) v.macros) (λ a h. with_last (why a h) (λ c. tt) v.macros) v
+by_kind (Schedule text) v = of_schedule (subject_of text) (of_text text) v
+by_kind Report v = by_report (report_given v) (of_report v.reactions) v
+by_kind Trace v = of_trace v.durations v
+by_kind Dates v = of_dates drawn v
 
 by_found : (found : Bytes × List Row) → AreCounted (command_in found)
-by_found (name, rows) = either AreCounted (is_help name) _ _ tt (with_some _ (λ a. by_name name a (values_of rows)) (values_of rows).algorithm)
+by_found (name, rows) = with_some (λ kind. command_with kind (values_of rows)) (λ kind. by_kind kind (values_of rows)) (kind_named table name)
 
 pub counted_words : (words : List Bytes) → AreCounted (command_of words)
 counted_words words = either AreCounted (is_empty (fault_of the_app words)) _ _ (with_some command_in by_found (subcommand_of the_app words)) tt

@@ -4,6 +4,7 @@ ghost use Rattle.top_plans.specs.Status.{ending_of};
 ghost use Rattle.top_plans.specs.Shelf.{Stays};
 ghost use Rattle.lab_plans.specs.Plans.{plan_for};
 ghost use Rattle.lab_plans.specs.Replies.{CarriedOut, LeavesUnread};
+ghost use Rattle.lab_words.specs.Command.{of_algorithm};
 ghost use Rattle.lab_words.specs.View.{view_of};
 ghost use Rattle.lab_program.specs.Counts.{IsCounted};
 ghost use Rattle.lab_program.specs.Texts.{Carries};
@@ -26,7 +27,7 @@ use crate::commands::plot::plot_text;
 use crate::commands::scheduled::schedule_text;
 use crate::commands::table::table_text;
 use crate::commands::why::why_text;
-use lab_words::Command;
+use lab_words::{AlgorithmText, Command};
 use std::alloc::Global;
 use top_plans::{Shelf, Sink, Status, write_text};
 
@@ -65,8 +66,7 @@ fn command_text<S: Shelf>(
             architecture,
             effort,
         } => schedule_text(alloc, shelf, algorithm, architecture, *subject, *effort),
-        Command::Graph { algorithm } => graph_text(alloc, shelf, algorithm),
-        Command::Table { algorithm } => table_text(alloc, shelf, algorithm),
+        Command::Algorithm { text, algorithm } => algorithm_text(alloc, shelf, *text, algorithm),
         Command::Lint {
             algorithm,
             architecture,
@@ -92,5 +92,22 @@ fn command_text<S: Shelf>(
             };
             dates_text(alloc, shelf, algorithm, architecture, durations, extent)
         }
+    }
+}
+
+/// A text of an algorithm, or why there is none.
+fn algorithm_text<S: Shelf>(
+    alloc: Global,
+    shelf: &mut S,
+    text: AlgorithmText,
+    algorithm: &str,
+) -> Result<Vec<u8>, Status>
+    ensures carries { Carries (plan_for (of_algorithm text algorithm.now)) (S.held shelf.old) (S.held shelf.new)
+        result }
+    ensures stays { Stays (S.held shelf.old) (S.held shelf.new) }
+{
+    match text {
+        AlgorithmText::Graph => graph_text(alloc, shelf, algorithm),
+        AlgorithmText::Table => table_text(alloc, shelf, algorithm),
     }
 }

@@ -1,7 +1,17 @@
 -- Worked commands, by what is found in the words.
-use Rattle.std.proofs.Common.{◌≡◌, Some, None, refl}
+use Rattle.std.proofs.Common.{◌≡◌, [], ◌∷◌, Some, None, refl}
 use Rattle.std.specs.Prelude.{codes}
+use Rattle.lab_words.specs.Table.{table as rows_of_code}
+use Rattle.lab_words.specs.declared.table.AlgorithmText.TheVariants.{Graph, Table}
+use Rattle.lab_words.specs.declared.table.ScheduleText.TheVariants.{Chart, Flat, Code}
+use Rattle.lab_words.specs.declared.table.CommandKind.TheVariants.{Help, Algorithm, Lint, Plot, Why, Schedule, Report, Trace, Dates}
 use Rattle.lab_words.specs.Command.{Effort, Values, for_length, for_period, chart, trace, report, drawn, traced, flat, code, help, schedule, graph, table, lint, why, plot, dates, command_by}
+
+-- the table of the code has these commands
+rows : rows_of_code ≡ (codes "chart", Schedule Chart) ∷ (codes "trace", Trace) ∷ (codes "flat", Schedule Flat) ∷ (codes "code", Schedule Code) ∷ (codes "report", Report)
+    ∷ (codes "dates", Dates) ∷ (codes "graph", Algorithm Graph) ∷ (codes "table", Algorithm Table) ∷ (codes "lint", Lint) ∷ (codes "why", Why) ∷ (codes "plot", Plot)
+    ∷ (codes "help", Help) ∷ (codes "--help", Help) ∷ []
+rows = refl
 
 abbrev nothing : Values
 nothing = record {

@@ -1,10 +1,21 @@
--- The table of commands, as `clap` is told of it.
+-- The commands, as `clap` is told of them.
 use Rattle.std.specs.Prelude.{List, [], ◌∷◌, true, codes, Some}
 use Rattle.clap.specs.Walk.{Rule}
 use Rattle.clap.specs.Simple.{App, new_app, new_rule, with_rule, with_subcommand, on_top}
 use Rattle.syn_base.specs.Bytes.{Bytes}
-use Rattle.lab_words.specs.declared.app.Takes.{Takes}
-use Rattle.lab_words.specs.declared.app.Takes.TheVariants.{Help, Graph, Lint, Plot, Schedule, Report, Trace, Why, Dates}
+use Rattle.lab_words.specs.Table.{Row, table}
+use Rattle.lab_words.specs.declared.table.CommandKind.{CommandKind}
+use Rattle.lab_words.specs.declared.table.CommandKind.TheVariants.{
+  Help,
+  Algorithm,
+  Lint,
+  Plot,
+  Why,
+  Schedule,
+  Report,
+  Trace,
+  Dates,
+}
 
 -- a plain argument, which has to be there
 abbrev pub needed : Bytes → Rule
@@ -65,17 +76,17 @@ abbrev pub dates_app : Bytes → App
 dates_app name =
     searching (with_rule (with_rule (architecture_app name) (needed (codes "durations"))) (needed (codes "reactions")))
 
--- the command of this name that takes these words
-abbrev pub word_app : Takes → Bytes → App
-word_app Help name = new_app name
-word_app Graph name = algorithm_app name
-word_app Lint name = lint_app name
-word_app Plot name = plot_app name
-word_app Schedule name = schedule_app name
-word_app Report name = report_app name
-word_app Trace name = trace_app name
-word_app Why name = why_app name
-word_app Dates name = dates_app name
+-- The command of this kind and name.
+abbrev pub kind_app : CommandKind → Bytes → App
+kind_app Help name = new_app name
+kind_app (Algorithm text) name = algorithm_app name
+kind_app Lint name = lint_app name
+kind_app Plot name = plot_app name
+kind_app Why name = why_app name
+kind_app (Schedule text) name = schedule_app name
+kind_app Report name = report_app name
+kind_app Trace name = trace_app name
+kind_app Dates name = dates_app name
 
 -- The program without its commands. It requires a command, and it has no help that `clap` makes.
 abbrev pub bare_app : App
@@ -83,15 +94,11 @@ bare_app =
     on_top (λ s. record s { disable_help_flag = true; disable_help_subcommand = true; subcommand_required = true })
     (new_app (codes "syndex_lab"))
 
--- with these commands added one after another
-abbrev pub with_commands : App → List (Bytes × Takes) → App
+-- with the commands of these rows added one after another
+abbrev pub with_commands : App → List Row → App
 with_commands a [] = a
-with_commands a (c ∷ cs) = with_commands (with_subcommand a (word_app c.1 c.0).top) cs
+with_commands a (r ∷ rs) = with_commands (with_subcommand a (kind_app r.1 r.0).top) rs
 
 -- the table
 abbrev pub the_app : App
-the_app = with_commands bare_app (
-    (codes "help", Help) ∷ (codes "--help", Help) ∷ (codes "chart", Schedule) ∷ (codes "trace", Trace)
-    ∷ (codes "flat", Schedule) ∷ (codes "code", Schedule) ∷ (codes "report", Report) ∷ (codes "graph", Graph)
-    ∷ (codes "table", Graph) ∷ (codes "lint", Lint) ∷ (codes "why", Why) ∷ (codes "plot", Plot)
-    ∷ (codes "dates", Dates) ∷ [])
+the_app = with_commands bare_app table

@@ -1,8 +1,6 @@
 -- Which command the words of the command line are. The first word is the program's name.
 use Rattle.std.specs.Prelude.{
   ℕ,
-  Bool,
-  ◌||◌,
   List,
   Option,
   Some,
@@ -18,6 +16,24 @@ use Rattle.clap.specs.Simple.{subcommand_of}
 use Rattle.clap.specs.Faults.{fault_of}
 use Rattle.syn_base.specs.Bytes.{Bytes}
 use Rattle.command_words.specs.Command.{number_up_to}
+use Rattle.command_words.specs.Table.{kind_named}
+use Rattle.lab_words.specs.Table.{table as rows}
+use Rattle.lab_words.specs.declared.table.AlgorithmText.{AlgorithmText}
+use Rattle.lab_words.specs.declared.table.AlgorithmText.TheVariants.{Graph, Table}
+use Rattle.lab_words.specs.declared.table.ScheduleText.{ScheduleText}
+use Rattle.lab_words.specs.declared.table.ScheduleText.TheVariants.{Chart, Flat, Code}
+use Rattle.lab_words.specs.declared.table.CommandKind.{CommandKind}
+use Rattle.lab_words.specs.declared.table.CommandKind.TheVariants.{
+  Help,
+  Algorithm,
+  Lint,
+  Plot,
+  Why,
+  Schedule,
+  Report,
+  Trace,
+  Dates,
+}
 use Rattle.lab_words.specs.App.{the_app}
 
 -- what a search makes small: the length of the schedule, or its period
@@ -120,73 +136,57 @@ effort_given v = effort_by (number_given most_tries 0 v.tries) (number_given mos
 abbrev pub report_given : Values → Option Subject
 report_given v = option_map (λ n. report n) (number_given most_reactions 50 v.reactions)
 
--- what a command of this name writes of a schedule, but for traces
-abbrev pub subject_of : Bytes → Values → Option Subject
-subject_of name v =
-    if bytes_eq name (codes "chart") then Some chart else
-    if bytes_eq name (codes "flat") then Some flat else
-    if bytes_eq name (codes "code") then Some code else
-    if bytes_eq name (codes "report") then report_given v else None
+-- What is written of a schedule, as the subject of the command that writes it.
+abbrev pub subject_of : ScheduleText → Subject
+subject_of Chart = chart
+subject_of Flat = flat
+subject_of Code = code
 
--- The command that writes dates in this form, and None if the number of reactions or the effort is
--- missing.
-abbrev pub dates_by : Form → Bytes → Bytes → Bytes → Option ℕ → Option Effort → Option Command
-dates_by form a h g (Some n) (Some effort) = Some (dates form a h g n effort)
-dates_by form a h g _ _ = None
+-- What is written of an algorithm by itself, as the command that writes it.
+abbrev pub of_algorithm : AlgorithmText → Bytes → Command
+of_algorithm Graph a = graph a
+of_algorithm Table a = table a
 
--- The command that writes this of a schedule, and None if what it is to write or the effort is
--- missing.
-abbrev pub schedule_by : Option Subject → Bytes → Bytes → Option Effort → Option Command
-schedule_by (Some subject) a h (Some effort) = Some (schedule subject a h effort)
-schedule_by _ a h _ = None
+-- The command of an algorithm on an architecture, and None if one of them is missing.
+abbrev pub placed : (Bytes → Bytes → Option Command) → Values → Option Command
+placed go v = option_and_then (λ a. option_and_then (go a) v.architecture) v.algorithm
 
--- dates of an algorithm on an architecture, where all is there that they take
-abbrev pub dates_given : Form → Bytes → Bytes → Values → Option Command
-dates_given form a h v =
-    option_and_then (λ g. option_and_then (λ n.
-    dates_by form a h g (number_up_to most_reactions n) (effort_given v)) v.reactions) v.durations
+-- The command that writes this of a schedule, and None if something that it takes is missing.
+abbrev pub schedule_given : Subject → Values → Option Command
+schedule_given subject v = placed (λ a h. option_map (schedule subject a h) (effort_given v)) v
 
--- something of a schedule of an algorithm on an architecture, likewise
-abbrev pub schedule_given : Option Subject → Bytes → Bytes → Values → Option Command
-schedule_given subject a h v = schedule_by subject a h (effort_given v)
+-- The command that writes dates of an algorithm on an architecture in this form, and None if
+-- something that it takes is missing.
+abbrev pub dates_on : Form → Bytes → Bytes → Values → Option Command
+dates_on form a h v =
+    option_and_then (λ g. option_and_then (λ w. option_and_then (λ n.
+    option_map (dates form a h g n) (effort_given v)) (number_up_to most_reactions w)) v.reactions) v.durations
 
--- a trace is that of dates where there are actual durations, and else that of the schedule
-abbrev pub trace_by : Option Bytes → Bytes → Bytes → Values → Option Command
-trace_by None a h v = schedule_given (Some trace) a h v
-trace_by (Some g) a h v = dates_given traced a h v
+-- The command that writes dates in this form, and None if something that it takes is missing.
+abbrev pub dates_given : Form → Values → Option Command
+dates_given form v = placed (λ a h. dates_on form a h v) v
 
--- the command of this name of an algorithm on an architecture
-abbrev pub command_on : Bytes → Bytes → Bytes → Values → Option Command
-command_on name a h v =
-    if bytes_eq name (codes "why") then option_map (why a h) v.macros else
-    if bytes_eq name (codes "dates") then dates_given drawn a h v else
-    if bytes_eq name (codes "trace") then trace_by v.durations a h v else
-    schedule_given (subject_of name v) a h v
+-- The trace of dates if there are actual durations, and else that of the schedule.
+abbrev pub trace_by : Option Bytes → Values → Option Command
+trace_by None v = schedule_given trace v
+trace_by (Some g) v = dates_given traced v
 
--- the same, where there is an architecture
-abbrev pub placed_given : Bytes → Bytes → Values → Option Command
-placed_given name a v = option_and_then (λ h. command_on name a h v) v.architecture
+-- The command of this kind with these values, and None if they are not what it takes.
+abbrev pub command_with : CommandKind → Values → Option Command
+command_with Help v = Some help
+command_with (Algorithm text) v = option_map (of_algorithm text) v.algorithm
+command_with Lint v = option_map (λ a. lint a v.architecture) v.algorithm
+command_with Plot v = option_and_then (λ a. option_map (plot a) v.sensors) v.algorithm
+command_with Why v = placed (λ a h. option_map (why a h) v.macros) v
+command_with (Schedule text) v = schedule_given (subject_of text) v
+command_with Report v = option_and_then (λ subject. schedule_given subject v) (report_given v)
+command_with Trace v = trace_by v.durations v
+command_with Dates v = dates_given drawn v
 
--- the command of this name of an algorithm
-abbrev pub command_for : Bytes → Bytes → Values → Option Command
-command_for name a v =
-    if bytes_eq name (codes "graph") then Some (graph a) else
-    if bytes_eq name (codes "table") then Some (table a) else
-    if bytes_eq name (codes "lint") then Some (lint a v.architecture) else
-    if bytes_eq name (codes "plot") then option_map (plot a) v.sensors else
-    placed_given name a v
-
--- The name is one of the two by which the list of the commands is asked for, `help` and `--help`.
-abbrev pub is_help : Bytes → Bool
-is_help name = bytes_eq name (codes "help") || bytes_eq name (codes "--help")
-
--- the command of this name, where there is an algorithm
-abbrev pub algorithm_given : Bytes → Values → Option Command
-algorithm_given name v = option_and_then (λ a. command_for name a v) v.algorithm
-
--- the command of this name with these values
+-- The command of this name with these values, and None if the table has no such name or the command
+-- takes other values.
 abbrev pub command_by : Bytes → Values → Option Command
-command_by name v = if is_help name then Some help else algorithm_given name v
+command_by name v = option_and_then (λ kind. command_with kind v) (kind_named rows name)
 
 -- the command of what was found: the name of a command, and what was given for its arguments and options
 abbrev pub command_in : Bytes × List Row → Option Command

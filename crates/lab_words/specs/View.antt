@@ -6,8 +6,7 @@ use Rattle.lab_words.specs.declared.commands.Command.{Command}
 use Rattle.lab_words.specs.declared.commands.Command.TheVariants.{
   Help,
   Schedule,
-  Graph,
-  Table,
+  Algorithm,
   Lint,
   Why,
   Plot,
@@ -47,8 +46,7 @@ form_view Traced = table.traced
 abbrev pub view_of : Command → table.Command
 view_of Help = table.help
 view_of (Schedule subject a h effort) = table.schedule (subject_view subject) a.now h.now (effort_view effort)
-view_of (Graph a) = table.graph a.now
-view_of (Table a) = table.table a.now
+view_of (Algorithm text a) = table.of_algorithm text a.now
 view_of (Lint a h) = table.lint a.now (option_map (λ t. t.now) h)
 view_of (Why a h c) = table.why a.now h.now c.now
 view_of (Plot a s) = table.plot a.now s.now

@@ -1,4 +1,4 @@
-//! The table of commands as `clap` is told of it. `given` matches words against it.
+//! The commands as `clap` is told of them. `given` matches words against them.
 ghost use Rattle.std.specs.Prelude.{◌≡◌, IfOk, map, false};
 ghost use Rattle.clap.specs.Simple.{app_of, with_rule, with_subcommand};
 ghost use Rattle.clap.specs.declared.builder.command.Command.TheViews.{out-Command as fields_of};
@@ -7,6 +7,7 @@ ghost use Rattle.lab_words.specs.App.{
   architecture_app,
   bare_app,
   dates_app,
+  kind_app,
   lint_app,
   needed,
   option,
@@ -19,35 +20,12 @@ ghost use Rattle.lab_words.specs.App.{
   trace_app,
   why_app,
   with_commands,
-  word_app,
 };
 
+use crate::table::{COMMANDS, CommandKind};
 use clap::{Arg, Command};
+use command_words::Row;
 use std::alloc::{AllocError, Global};
-
-/// What the words of a command are, after its name.
-#[derive(Clone, Copy, Drop)]
-enum Takes {
-    /// Nothing.
-    Help,
-    /// The algorithm.
-    Graph,
-    /// The algorithm, and the architecture if it is there.
-    Lint,
-    /// The algorithm and the sensor table.
-    Plot,
-    /// The algorithm and the architecture, and options of the search.
-    Schedule,
-    /// The same, and the number of reactions if it is there.
-    Report,
-    /// The same as for a schedule, and the actual durations and the number of reactions if they are there.
-    Trace,
-    /// The algorithm, the architecture and the macro-code.
-    Why,
-    /// The algorithm, the architecture, the actual durations and the number of reactions, and options of the
-    /// search.
-    Dates,
-}
 
 /// A command that takes one plain argument more.
 fn with_needed<'a>(
@@ -187,21 +165,21 @@ fn dates<'a>(alloc: Global, name: &'a str) -> Result<Command<'a>, AllocError>
     searching(alloc, command)
 }
 
-/// The command of this name that takes these words.
-fn taking<'a>(alloc: Global, name: &'a str, takes: Takes) -> Result<Command<'a>, AllocError>
-    ensures app { IfOk result (λ c. app_of c ≡ word_app takes name.entry.now) }
+/// The command of this name and kind.
+fn of_kind<'a>(alloc: Global, name: &'a str, kind: CommandKind) -> Result<Command<'a>, AllocError>
+    ensures app { IfOk result (λ c. app_of c ≡ kind_app kind name.entry.now) }
     ensures local { IfOk result (λ c. (fields_of c).has_globals ≡ false) }
 {
-    match takes {
-        Takes::Help => Ok(Command::new(alloc, name)),
-        Takes::Graph => algorithm(alloc, name),
-        Takes::Lint => lint(alloc, name),
-        Takes::Plot => plot(alloc, name),
-        Takes::Schedule => schedule(alloc, name),
-        Takes::Report => report(alloc, name),
-        Takes::Trace => trace(alloc, name),
-        Takes::Why => why(alloc, name),
-        Takes::Dates => dates(alloc, name),
+    match kind {
+        CommandKind::Help => Ok(Command::new(alloc, name)),
+        CommandKind::Algorithm(_) => algorithm(alloc, name),
+        CommandKind::Lint => lint(alloc, name),
+        CommandKind::Plot => plot(alloc, name),
+        CommandKind::Why => why(alloc, name),
+        CommandKind::Schedule(_) => schedule(alloc, name),
+        CommandKind::Report => report(alloc, name),
+        CommandKind::Trace => trace(alloc, name),
+        CommandKind::Dates => dates(alloc, name),
     }
 }
 
@@ -215,31 +193,31 @@ fn bare<'a>(alloc: Global) -> Command<'a>
         .subcommand_required(true)
 }
 
-/// The program with the command of this name besides.
+/// The program with the command of this name and kind besides.
 fn add<'a>(
     alloc: Global,
     app: Command<'a>,
     name: &'a str,
-    takes: Takes,
+    kind: CommandKind,
 ) -> Result<Command<'a>, AllocError>
     ensures { IfOk result (λ c. app_of c ≡
-        with_subcommand (app_of app.entry) (word_app takes name.entry.now).top) }
+        with_subcommand (app_of app.entry) (kind_app kind name.entry.now).top) }
 {
-    let command = taking(alloc, name, takes)?;
+    let command = of_kind(alloc, name, kind)?;
     app.subcommand(command)
 }
 
-/// The program with commands of these names.
+/// The program with the commands of these rows.
 fn with_commands<'a>(
     alloc: Global,
-    commands: &[(&'a str, Takes)],
+    rows: &[Row<'a, CommandKind>],
 ) -> Result<Command<'a>, AllocError>
     ensures { IfOk result (λ c. app_of c ≡
-        with_commands bare_app (map (λ p. (p.0.now, p.1)) commands.now)) }
+        with_commands bare_app (map (λ r. (r.0.now, r.1)) rows.now)) }
 {
     let mut app = bare(alloc);
-    for (name, takes) in commands {
-        app = add(alloc, app, name, *takes)?;
+    for row in rows {
+        app = add(alloc, app, row.0, row.1)?;
     }
     Ok(app)
 }
@@ -248,22 +226,5 @@ fn with_commands<'a>(
 pub fn command<'a>(alloc: Global) -> Result<Command<'a>, AllocError>
     ensures { IfOk result (λ c. app_of c ≡ the_app) }
 {
-    with_commands(
-        alloc,
-        &[
-            ("help", Takes::Help),
-            ("--help", Takes::Help),
-            ("chart", Takes::Schedule),
-            ("trace", Takes::Trace),
-            ("flat", Takes::Schedule),
-            ("code", Takes::Schedule),
-            ("report", Takes::Report),
-            ("graph", Takes::Graph),
-            ("table", Takes::Graph),
-            ("lint", Takes::Lint),
-            ("why", Takes::Why),
-            ("plot", Takes::Plot),
-            ("dates", Takes::Dates),
-        ],
-    )
+    with_commands(alloc, &COMMANDS)
 }

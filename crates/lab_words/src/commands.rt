@@ -1,5 +1,7 @@
 //! The commands as types, for the reader of words and for whoever carries them out.
 
+use crate::table::AlgorithmText;
+
 /// What a search makes small.
 #[derive(Clone, Copy, Drop)]
 pub enum Goal {
@@ -58,12 +60,9 @@ pub enum Command<'a> {
         architecture: &'a str,
         effort: Effort,
     },
-    /// `graph A`: the definitions as a graph.
-    Graph {
-        algorithm: &'a str,
-    },
-    /// `table A`: the sensor table that the algorithm wants, with one reaction of zeros.
-    Table {
+    /// `graph A` and `table A`: a text of the algorithm.
+    Algorithm {
+        text: AlgorithmText,
         algorithm: &'a str,
     },
     /// `lint A [H]`: what is accepted and probably not meant in a text, and in that of an architecture beside it.

@@ -7,28 +7,24 @@ ghost use Rattle.command_words.specs.Answer.{wants_memory};
 ghost use Rattle.clap.specs.Matches.{found_of};
 ghost use Rattle.clap.specs.Walk.{rows_of};
 ghost use Rattle.lab_words.specs.Command.{
-  algorithm_given,
   command_by,
-  command_for,
   command_in,
   command_of,
-  command_on,
+  command_with,
   dates_given,
+  dates_on,
   effort_given,
   goal_given,
   goal_named,
-  is_help,
+  lint,
   most_reactions,
   most_tries,
   number_given,
-  placed_given,
+  of_algorithm,
   plot,
-  report_given,
   schedule_given,
   subject_of,
-  trace_by,
   values_of,
-  why,
 };
 ghost use Rattle.lab_words.specs.View.{
   effort_view,
@@ -41,9 +37,10 @@ ghost use Rattle.lab_words.specs.View.{
 
 use crate::app::command;
 use crate::commands::{Command, Effort, Form, Goal, Subject};
+use crate::table::{AlgorithmText, COMMANDS, CommandKind, ScheduleText};
 use clap::error::ErrorKind;
 use clap::{ArgMatches, Error};
-use command_words::number_up_to;
+use command_words::{kind_named, number_up_to};
 use std::alloc::Global;
 use syn_base::OutOfMemory;
 
@@ -137,102 +134,69 @@ fn values_in<'a>(matches: &ArgMatches<'a>) -> Values<'a>
     }
 }
 
-/// The command of this name with these values.
+/// The command of this name with these values, if the table has it.
 fn command_by<'a>(name: &str, values: &Values<'a>) -> Option<Command<'a>>
     ensures { option_map view_of result ≡ command_by name.now (values_view values.now) }
 {
-    if is_help(name) {
-        Some(Command::Help)
-    } else {
-        of_algorithm(name, values)
+    let kind = kind_named(&COMMANDS, name)?;
+    command_with(kind, values)
+}
+
+/// The command of this kind with these values, where all is there that it takes.
+fn command_with<'a>(kind: CommandKind, values: &Values<'a>) -> Option<Command<'a>>
+    ensures { option_map view_of result ≡ command_with kind (values_view values.now) }
+{
+    match kind {
+        CommandKind::Help => Some(Command::Help),
+        CommandKind::Algorithm(text) => of_algorithm(text, values.algorithm),
+        CommandKind::Lint => lint(values.algorithm, values.architecture),
+        CommandKind::Plot => plot(values.algorithm, values.sensors),
+        CommandKind::Why => why(values),
+        CommandKind::Schedule(text) => schedule(subject_of(text), values),
+        CommandKind::Report => report(values),
+        CommandKind::Trace => trace(values),
+        CommandKind::Dates => dates(Form::Drawn, values),
     }
 }
 
-/// Whether a command of this name lists the commands.
-fn is_help(name: &str) -> bool
-    ensures { result ≡ is_help name.now }
-{
-    name == "help" || name == "--help"
-}
-
-/// The command of this name, where there is an algorithm.
-fn of_algorithm<'a>(name: &str, values: &Values<'a>) -> Option<Command<'a>>
-    ensures { option_map view_of result ≡ algorithm_given name.now (values_view values.now) }
-{
-    let algorithm = values.algorithm?;
-    command_for(name, algorithm, values)
-}
-
-/// The command of this name of an algorithm.
-fn command_for<'a>(name: &str, algorithm: &'a str, values: &Values<'a>) -> Option<Command<'a>>
-    ensures { option_map view_of result ≡ command_for name.now algorithm.now (values_view values.now) }
-{
-    if name == "graph" {
-        Some(Command::Graph { algorithm })
-    } else if name == "table" {
-        Some(Command::Table { algorithm })
-    } else if name == "lint" {
-        let architecture = values.architecture;
-        Some(Command::Lint {
-            algorithm,
-            architecture,
-        })
-    } else if name == "plot" {
-        plot(algorithm, values.sensors)
-    } else {
-        placed(name, algorithm, values)
-    }
-}
-
-/// The command of this name of an algorithm, where there is an architecture.
-fn placed<'a>(name: &str, algorithm: &'a str, values: &Values<'a>) -> Option<Command<'a>>
-    ensures { option_map view_of result ≡ placed_given name.now algorithm.now (values_view values.now) }
-{
-    let architecture = values.architecture?;
-    command_on(name, algorithm, architecture, values)
-}
-
-/// The command of this name of an algorithm on an architecture.
-fn command_on<'a>(
-    name: &str,
-    algorithm: &'a str,
-    architecture: &'a str,
-    values: &Values<'a>,
-) -> Option<Command<'a>>
+/// A text of the algorithm, where there is one.
+fn of_algorithm<'a>(text: AlgorithmText, algorithm: Option<&'a str>) -> Option<Command<'a>>
     ensures { option_map view_of result ≡
-        command_on name.now algorithm.now architecture.now (values_view values.now) }
+        option_map (of_algorithm text) (option_map (λ t. t.now) algorithm.entry) }
 {
-    if name == "why" {
-        why(algorithm, architecture, values.macros)
-    } else if name == "dates" {
-        dates(Form::Drawn, algorithm, architecture, values)
-    } else if name == "trace" {
-        trace(algorithm, architecture, values.durations, values)
-    } else {
-        let subject = subject_of(name, values);
-        schedule(subject, algorithm, architecture, values)
-    }
+    let algorithm = algorithm?;
+    Some(Command::Algorithm { text, algorithm })
 }
 
-/// The command `plot`, where there is a table.
-fn plot<'a>(algorithm: &'a str, sensors: Option<&'a str>) -> Option<Command<'a>>
-    ensures { option_map view_of result ≡
-        option_map (plot algorithm.now) (option_map (λ t. t.now) sensors.entry) }
+/// The command `lint`, where there is an algorithm.
+fn lint<'a>(algorithm: Option<&'a str>, architecture: Option<&'a str>) -> Option<Command<'a>>
+    ensures { option_map view_of result ≡ option_map (λ a. lint a (option_map (λ t. t.now) architecture.entry))
+        (option_map (λ t. t.now) algorithm.entry) }
 {
+    let algorithm = algorithm?;
+    Some(Command::Lint {
+        algorithm,
+        architecture,
+    })
+}
+
+/// The command `plot`, where there are an algorithm and a table.
+fn plot<'a>(algorithm: Option<&'a str>, sensors: Option<&'a str>) -> Option<Command<'a>>
+    ensures { option_map view_of result ≡ option_and_then (λ a. option_map (plot a)
+        (option_map (λ t. t.now) sensors.entry)) (option_map (λ t. t.now) algorithm.entry) }
+{
+    let algorithm = algorithm?;
     let sensors = sensors?;
     Some(Command::Plot { algorithm, sensors })
 }
 
-/// The command `why`, where there is macro-code.
-fn why<'a>(
-    algorithm: &'a str,
-    architecture: &'a str,
-    macros: Option<&'a str>,
-) -> Option<Command<'a>>
-    ensures { option_map view_of result ≡
-        option_map (why algorithm.now architecture.now) (option_map (λ t. t.now) macros.entry) }
+/// The command `why`, where there are an algorithm, an architecture and macro-code.
+fn why<'a>(values: &Values<'a>) -> Option<Command<'a>>
+    ensures { option_map view_of result ≡ command_with CommandKind.Why (values_view values.now) }
 {
-    let code = macros?;
+    let algorithm = values.algorithm?;
+    let architecture = values.architecture?;
+    let code = values.macros?;
     Some(Command::Why {
         algorithm,
         architecture,
@@ -240,15 +204,68 @@ fn why<'a>(
     })
 }
 
-/// Dates in this form, where all is there that they take.
-fn dates<'a>(
+/// The command that writes this of a schedule, where all is there that it takes.
+fn schedule<'a>(subject: Subject, values: &Values<'a>) -> Option<Command<'a>>
+    ensures { option_map view_of result ≡ schedule_given (subject_view subject) (values_view values.now) }
+{
+    let algorithm = values.algorithm?;
+    let architecture = values.architecture?;
+    let effort = effort_of(values)?;
+    Some(Command::Schedule {
+        subject,
+        algorithm,
+        architecture,
+        effort,
+    })
+}
+
+/// What a text of a schedule is.
+fn subject_of(text: ScheduleText) -> Subject
+    ensures { subject_view result ≡ subject_of text }
+{
+    match text {
+        ScheduleText::Chart => Subject::Chart,
+        ScheduleText::Flat => Subject::Flat,
+        ScheduleText::Code => Subject::Code,
+    }
+}
+
+/// The command `report`, of so many reactions as are given.
+fn report<'a>(values: &Values<'a>) -> Option<Command<'a>>
+    ensures { option_map view_of result ≡ command_with CommandKind.Report (values_view values.now) }
+{
+    let reactions = reactions_given(values.reactions)?;
+    schedule(Subject::Report(reactions), values)
+}
+
+/// The trace of dates where there are actual durations, and else that of a schedule.
+fn trace<'a>(values: &Values<'a>) -> Option<Command<'a>>
+    ensures { option_map view_of result ≡ command_with CommandKind.Trace (values_view values.now) }
+{
+    match values.durations {
+        Some(_) => dates(Form::Traced, values),
+        None => schedule(Subject::Trace, values),
+    }
+}
+
+/// Dates in this form, where there are an algorithm and an architecture and all that dates take besides.
+fn dates<'a>(form: Form, values: &Values<'a>) -> Option<Command<'a>>
+    ensures { option_map view_of result ≡ dates_given (form_view form) (values_view values.now) }
+{
+    let algorithm = values.algorithm?;
+    let architecture = values.architecture?;
+    dates_on(form, algorithm, architecture, values)
+}
+
+/// Dates of an algorithm on an architecture in this form, where all is there that they take.
+fn dates_on<'a>(
     form: Form,
     algorithm: &'a str,
     architecture: &'a str,
     values: &Values<'a>,
 ) -> Option<Command<'a>>
     ensures { option_map view_of result ≡
-        dates_given (form_view form) algorithm.now architecture.now (values_view values.now) }
+        dates_on (form_view form) algorithm.now architecture.now (values_view values.now) }
 {
     let durations = values.durations?;
     let reactions = values.reactions?;
@@ -262,67 +279,6 @@ fn dates<'a>(
         reactions,
         effort,
     })
-}
-
-/// The trace of dates where there are actual durations, and else that of a schedule.
-fn trace<'a>(
-    algorithm: &'a str,
-    architecture: &'a str,
-    durations: Option<&'a str>,
-    values: &Values<'a>,
-) -> Option<Command<'a>>
-    ensures { option_map view_of result ≡ trace_by (option_map (λ t. t.now) durations.entry)
-        algorithm.now architecture.now (values_view values.now) }
-{
-    match durations {
-        Some(_) => dates(Form::Traced, algorithm, architecture, values),
-        None => schedule(Some(Subject::Trace), algorithm, architecture, values),
-    }
-}
-
-/// The command that writes this of a schedule, where all is there that it takes.
-fn schedule<'a>(
-    subject: Option<Subject>,
-    algorithm: &'a str,
-    architecture: &'a str,
-    values: &Values<'a>,
-) -> Option<Command<'a>>
-    ensures { option_map view_of result ≡ schedule_given (option_map subject_view subject)
-        algorithm.now architecture.now (values_view values.now) }
-{
-    let subject = subject?;
-    let effort = effort_of(values)?;
-    Some(Command::Schedule {
-        subject,
-        algorithm,
-        architecture,
-        effort,
-    })
-}
-
-/// What a command of this name writes of a schedule, but for traces.
-fn subject_of(name: &str, values: &Values) -> Option<Subject>
-    ensures { option_map subject_view result ≡ subject_of name.now (values_view values.now) }
-{
-    if name == "chart" {
-        Some(Subject::Chart)
-    } else if name == "flat" {
-        Some(Subject::Flat)
-    } else if name == "code" {
-        Some(Subject::Code)
-    } else if name == "report" {
-        report(values)
-    } else {
-        None
-    }
-}
-
-/// A report of so many reactions as are given.
-fn report(values: &Values) -> Option<Subject>
-    ensures { option_map subject_view result ≡ report_given (values_view values.now) }
-{
-    let reactions = reactions_given(values.reactions)?;
-    Some(Subject::Report(reactions))
 }
 
 /// How many reactions are counted.

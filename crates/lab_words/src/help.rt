@@ -1,11 +1,13 @@
 //! The list of the commands for a reader.
 ghost use Rattle.std.specs.Prelude.{[], ◌≡◌, ◌∷◌, ◌++◌, IfOk, OnOk, map};
-ghost use Rattle.lab_words.specs.Help.{help_text, lines_text};
+ghost use Rattle.lab_words.specs.Help.{command_text, commands_text, help_text, lines_text, with_words};
 
+use crate::table::{COMMANDS, CommandKind};
+use command_words::Row;
 use std::alloc::Global;
 use syn_base::OutOfMemory;
 
-/// The list of the commands, with what each of them takes.
+/// The list of the commands, with what each of them takes and writes.
 pub fn help_text(alloc: Global) -> Result<Vec<u8>, OutOfMemory>
     ensures { IfOk result (λ text. text.items ≡ help_text) }
 {
@@ -15,28 +17,65 @@ pub fn help_text(alloc: Global) -> Result<Vec<u8>, OutOfMemory>
         &[
             "syndex_lab shows what syndex compiles, in forms that other tools show.",
             "",
-            "  chart ALGORITHM ARCHITECTURE           the timing chart, as a picture (SVG)",
-            "  trace ALGORITHM ARCHITECTURE           the same as a trace, for Perfetto or chrome://tracing (JSON)",
-            "  flat ALGORITHM ARCHITECTURE            the operations in the colours of their operators (DOT)",
-            "  code ALGORITHM ARCHITECTURE            the macro-code of its program",
-            "  report ALGORITHM ARCHITECTURE [N]      its numbers, a bound, and the period over N reactions",
-            "  dates ALGORITHM ARCHITECTURE DURATIONS N",
-            "                                         when everything happens in N reactions, as a picture (SVG)",
-            "  trace ALGORITHM ARCHITECTURE DURATIONS N",
-            "                                         the same as a trace (JSON)",
-            "  graph ALGORITHM                        the definitions, for Graphviz (DOT)",
-            "  table ALGORITHM                        the sensor table that it wants, with a reaction of zeros",
-            "  lint ALGORITHM [ARCHITECTURE]          what is accepted and probably not meant, with lines",
-            "  why ALGORITHM ARCHITECTURE CODE        where macro-code from another source fails",
-            "  plot ALGORITHM SENSORS                 what the actuators take, as a picture (SVG)",
-            "  help                                   this list",
+        ],
+    )?;
+    append_commands(&mut text, &COMMANDS)?;
+    append_lines(
+        &mut text,
+        &[
             "",
-            "What shows a schedule takes --tries N, which searches one by N tries, --seed S, which fixes its chances,",
+            "OPTIONS are --tries N, which searches a schedule by N tries, --seed S, which fixes its chances,",
             "and --for length or --for period, which says what the search makes small.",
             "The manual is docs/MANUAL.md.",
         ],
     )?;
     Ok(text)
+}
+
+/// Appends what a reader is told of these commands.
+fn append_commands(text: &mut Vec<u8>, rows: &[Row<CommandKind>]) -> Result<(), OutOfMemory>
+    ensures { OnOk result (text.new.items ≡ text.old.items ++
+        commands_text (map (λ r. (r.0.now, r.2.now, r.3.now)) rows.now)) }
+{
+    for row in rows {
+        append_command(text, row.0, row.2, row.3)?;
+    }
+    Ok(())
+}
+
+/// Appends how a command is called, and in a second line what it writes.
+fn append_command(
+    text: &mut Vec<u8>,
+    name: &str,
+    words: &str,
+    line: &str,
+) -> Result<(), OutOfMemory>
+    ensures { OnOk result (text.new.items ≡ text.old.items ++ command_text (name.now, words.now, line.now)) }
+{
+    append(text, "  ")?;
+    append_called(text, name, words)?;
+    append(text, "\n      ")?;
+    append_line(text, line)
+}
+
+/// Appends a name with the words after it, if there are any.
+fn append_called(text: &mut Vec<u8>, name: &str, words: &str) -> Result<(), OutOfMemory>
+    ensures { OnOk result (text.new.items ≡ text.old.items ++ with_words name.now words.now) }
+{
+    append(text, name)?;
+    if !words.is_empty() {
+        append(text, " ")?;
+        append(text, words)?;
+    }
+    Ok(())
+}
+
+/// Appends words as they stand.
+fn append(text: &mut Vec<u8>, words: &str) -> Result<(), OutOfMemory>
+    ensures { OnOk result (text.new.items ≡ text.old.items ++ words.now) }
+{
+    text.extend_from_slice(words.as_bytes())?;
+    Ok(())
 }
 
 /// Appends lines, each with its end.
@@ -54,7 +93,7 @@ fn append_lines(text: &mut Vec<u8>, lines: &[&str]) -> Result<(), OutOfMemory>
 fn append_line(text: &mut Vec<u8>, line: &str) -> Result<(), OutOfMemory>
     ensures { OnOk result (text.new.items ≡ text.old.items ++ lines_text (line.now ∷ [])) }
 {
-    text.extend_from_slice(line.as_bytes())?;
+    append(text, line)?;
     text.push(b'\n')?;
     Ok(())
 }

@@ -1,23 +1,21 @@
 -- Words give numbers of layers and of reactions from 1 to 1,000.
 use Rattle.std.proofs.Common.{◌≡◌, ℕ, ◌≤◌, Bool, true, false, ◌&&◌, List, [], ◌∷◌, length, Option, Some, None, refl}
-use Rattle.std.specs.Prelude.{codes, if◌then◌else◌, nat_le}
+use Rattle.std.specs.Prelude.{if◌then◌else◌, nat_le, option_and_then}
 use Rattle.std.specs.List.{list_all}
-use Rattle.std.specs.Str.{bytes_eq}
 use Rattle.std.proofs.lemmas.Bool.{leb-true}
 use Rattle.syn_base.specs.Name.{is_digit}
 use Rattle.syn_base.specs.Integer.{number_of}
 use Rattle.syn_base.specs.Bytes.{Bytes}
-use Rattle.command_words.specs.Command.{Arguments, Command, check, sim, flat, chart, code, run, exec, arguments_of, command_by, command_of, counted, dated, exec_by, four, loaded, number_up_to, one, one_or_two, plain_by, run_by, three, two, with_count}
+use Rattle.command_words.specs.Table.{table, kind_named}
+use Rattle.command_words.specs.declared.table.CommandKind.{CommandKind}
+use Rattle.command_words.specs.declared.table.CommandKind.TheVariants.{Check, Sim, Algorithm, Schedule, Run, Load, Exec, Dates}
+use Rattle.command_words.specs.Command.{Arguments, Command, plain, job, check, sim, run, exec, algorithm_text, schedule_text, arguments_of, command_of_kind, command_of, counted, dated, exec_by, four, loaded, number_up_to, one, one_or_two, plain_by, run_by, three, two, with_count}
 use Rattle.syndex_program.specs.Counts.{IsCounted}
 
 -- If there is a command, its numbers are within their bounds.
 abbrev pub AreCounted : Option Command → Type 0
 AreCounted None = Unit {0}
 AreCounted (Some command) = IsCounted command
-
-either : (b : Bool) (x y : Option Command) → AreCounted x → AreCounted y → AreCounted (if b then x else y)
-either true x y h k = h
-either false x y h k = k
 
 by_plain : (go : List Bytes → Option Command) → ((ws : List Bytes) → AreCounted (go ws)) → (o : Option Arguments) → AreCounted (plain_by go o)
 by_plain go h None = tt
@@ -67,14 +65,14 @@ by_workers go h (w ∷ v ∷ ws) = tt
 by_run : (o : Option Arguments) → AreCounted (run_by o)
 by_run None = tt
 by_run (Some a) =
-    by_workers (λ workers. three (λ alg archi sensors. Some (run alg archi sensors workers)) a.plain)
-    (λ workers. by_three (λ alg archi sensors. Some (run alg archi sensors workers)) (λ alg archi sensors. tt) a.plain) a.workers
+    by_workers (λ workers. three (λ alg archi sensors. Some (job (run alg archi sensors workers))) a.plain)
+    (λ workers. by_three (λ alg archi sensors. Some (job (run alg archi sensors workers))) (λ alg archi sensors. tt) a.plain) a.workers
 
 by_exec : (o : Option Arguments) → AreCounted (exec_by o)
 by_exec None = tt
 by_exec (Some a) =
-    by_workers (λ workers. four (λ alg archi text sensors. Some (exec alg archi text sensors workers)) a.plain)
-    (λ workers. by_four (λ alg archi text sensors. Some (exec alg archi text sensors workers)) (λ alg archi text sensors. tt) a.plain) a.workers
+    by_workers (λ workers. four (λ alg archi text sensors. Some (job (exec alg archi text sensors workers))) a.plain)
+    (λ workers. by_four (λ alg archi text sensors. Some (job (exec alg archi text sensors workers))) (λ alg archi text sensors. tt) a.plain) a.workers
 
 -- a number that is made where four tests hold, two of which bound it
 bounded : (make : Option ℕ → Option Command) → AreCounted (make None) → ((n : ℕ) → 1 ≤ n → n ≤ 1000 → AreCounted (make (Some n))) →
@@ -97,21 +95,23 @@ by_load = by_number loaded tt (λ n low high. (low, high))
 by_dates : (a h g w : Bytes) → AreCounted (dated a h g (number_up_to 1000 w))
 by_dates a h g = by_number (dated a h g) tt (λ n low high. (low, high))
 
-by_name : (name : Bytes) (ws : List Bytes) → AreCounted (command_by name ws)
-by_name name ws =
-    let none = arguments_of false false ws in
-    let some = arguments_of true false ws in
-    either (bytes_eq name (codes "check")) _ _ (by_plain (one_or_two (λ a h. Some (check a h))) (by_one_or_two (λ a h. Some (check a h)) (λ a h. tt)) none)
-    (either (bytes_eq name (codes "sim")) _ _ (by_plain (two (λ a s. Some (sim a s))) (by_two (λ a s. Some (sim a s)) (λ a s. tt)) none)
-    (either (bytes_eq name (codes "flat")) _ _ (by_plain (one (λ a. Some (flat a))) (by_one (λ a. Some (flat a)) (λ a. tt)) none)
-    (either (bytes_eq name (codes "chart")) _ _ (by_plain (two (λ a h. Some (chart a h))) (by_two (λ a h. Some (chart a h)) (λ a h. tt)) none)
-    (either (bytes_eq name (codes "code")) _ _ (by_plain (two (λ a h. Some (code a h))) (by_two (λ a h. Some (code a h)) (λ a h. tt)) none)
-    (either (bytes_eq name (codes "run")) _ _ (by_run some)
-    (either (bytes_eq name (codes "load")) _ _ (by_plain (one (λ n. loaded (number_up_to 1000 n))) (by_one (λ n. loaded (number_up_to 1000 n)) by_load) none)
-    (either (bytes_eq name (codes "exec")) _ _ (by_exec some)
-    (either (bytes_eq name (codes "dates")) _ _ (by_plain (four (λ a h g n. dated a h g (number_up_to 1000 n))) (by_four (λ a h g n. dated a h g (number_up_to 1000 n)) by_dates) none) tt))))))))
+-- whatever the kind of the command
+by_kind : (kind : CommandKind) (ws : List Bytes) → AreCounted (command_of_kind kind ws)
+by_kind Check ws = by_plain (one_or_two (λ a h. Some (plain (check a h)))) (by_one_or_two (λ a h. Some (plain (check a h))) (λ a h. tt)) (arguments_of false false ws)
+by_kind Sim ws = by_plain (two (λ a s. Some (plain (sim a s)))) (by_two (λ a s. Some (plain (sim a s))) (λ a s. tt)) (arguments_of false false ws)
+by_kind (Algorithm text) ws = by_plain (one (λ a. Some (plain (algorithm_text text a)))) (by_one (λ a. Some (plain (algorithm_text text a))) (λ a. tt)) (arguments_of false false ws)
+by_kind (Schedule text) ws = by_plain (two (λ a h. Some (plain (schedule_text text a h)))) (by_two (λ a h. Some (plain (schedule_text text a h))) (λ a h. tt)) (arguments_of false false ws)
+by_kind Run ws = by_run (arguments_of true false ws)
+by_kind Load ws = by_plain (one (λ n. loaded (number_up_to 1000 n))) (by_one (λ n. loaded (number_up_to 1000 n)) by_load) (arguments_of false false ws)
+by_kind Exec ws = by_exec (arguments_of true false ws)
+by_kind Dates ws =
+    by_plain (four (λ a h g n. dated a h g (number_up_to 1000 n))) (by_four (λ a h g n. dated a h g (number_up_to 1000 n)) by_dates) (arguments_of false false ws)
+
+by_name : (o : Option CommandKind) (ws : List Bytes) → AreCounted (option_and_then (λ (kind : CommandKind). command_of_kind kind ws) o)
+by_name None ws = tt
+by_name (Some kind) ws = by_kind kind ws
 
 pub counted_words : (words : List Bytes) → AreCounted (command_of words)
 counted_words [] = tt
 counted_words (program ∷ []) = tt
-counted_words (program ∷ name ∷ ws) = by_name name ws
+counted_words (program ∷ name ∷ ws) = by_name (kind_named table name) ws

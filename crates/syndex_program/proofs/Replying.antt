@@ -1,11 +1,6 @@
 -- What the two calls answer, from what was carried out.
 use Rattle.std.proofs.Common.{Option, Some, None, Err, inl, inr, refl}
-use Rattle.command_words.specs.Command.{Command, check, sim, flat, chart, code, run, load, exec, dates}
-use Rattle.command_words.specs.View.{job_view, plain_view}
-use Rattle.command_words.specs.declared.commands.JobCommand.{JobCommand}
-use Rattle.command_words.specs.declared.commands.JobCommand.TheVariants.{Run, Load, Exec}
-use Rattle.command_words.specs.declared.commands.PlainCommand.{PlainCommand}
-use Rattle.command_words.specs.declared.commands.PlainCommand.TheVariants.{Check, Sim, Flat, Chart, Code, Dates}
+use Rattle.command_words.specs.Command.{Command, plain, job}
 use Rattle.word_rule.specs.Driven.{Driven}
 use Rattle.top_plans.specs.Shelf.{Held}
 use Rattle.top_plans.specs.Sink.{Sunk}
@@ -14,7 +9,7 @@ use Rattle.top_plans.specs.Run.{refuses}
 use Rattle.top_plans.proofs.Makes.{memory}
 use Rattle.top_plans.specs.Status.{ending_of, usage}
 use Rattle.top_plans.specs.declared.Status.{Status}
-use Rattle.top_plans.specs.Names.{IsPlain, RunsJobs}
+use Rattle.top_plans.specs.Names.{IsPlain}
 use Rattle.top_plans.specs.Plans.{plan_of}
 use Rattle.top_plans.specs.Replies.{CommandsReply, PlainCommandsReply, PlainReplies, Replies}
 use Rattle.syndex_program.specs.Plainly.{IsRunOrPlain, ending_in}
@@ -36,15 +31,8 @@ module _ (law : PlainCommandsReply) (held : Held) (sunk err : Sunk) where
   -- the words take memory
   pub wanted : (o : Option Command) → PlainReplies o held held sunk sunk err err (Some no_memory)
   wanted None = plainly None tt
-  wanted (Some (check a h)) = plainly (Some (check a h)) (λ x. x)
-  wanted (Some (sim a s)) = plainly (Some (sim a s)) (λ x. x)
-  wanted (Some (flat a)) = plainly (Some (flat a)) (λ x. x)
-  wanted (Some (chart a h)) = plainly (Some (chart a h)) (λ x. x)
-  wanted (Some (code a h)) = plainly (Some (code a h)) (λ x. x)
-  wanted (Some (run a h s workers)) = inr (refl, (tt, refl, refl))
-  wanted (Some (load n)) = inr (refl, (tt, refl, refl))
-  wanted (Some (exec a h c s workers)) = inr (refl, (tt, refl, refl))
-  wanted (Some (dates a h g n)) = plainly (Some (dates a h g n)) (λ x. x)
+  wanted (Some (plain command)) = plainly (Some (plain command)) (λ x. x)
+  wanted (Some (job command)) = inr (refl, (tt, refl, refl))
 
 -- nothing was read, written or driven: memory ran out
 pub wants : CommandsReply → (o : Option Command) (held : Held) (sunk : Sunk) (driven : Driven) → Replies o held held sunk sunk driven driven no_memory
@@ -53,17 +41,3 @@ wants law o held sunk driven = law o held held sunk sunk driven driven no_memory
 -- words that are no command: nothing was read, written or driven
 pub unknown : CommandsReply → (held : Held) (sunk : Sunk) (driven : Driven) → Replies None held held sunk sunk driven driven (refused usage)
 unknown law held sunk driven = law None held held sunk sunk driven driven (refused usage) (Err (refused usage), refuses (inl refl, λ file name. refl), (refl, refl, refl))
-
--- which commands run jobs, by their types
-pub job_runs : (job : JobCommand) → RunsJobs (job_view job)
-job_runs (Run a h s workers) = tt
-job_runs (Load n) = tt
-job_runs (Exec a h c s workers) = tt
-
-pub plain_runs_none : (plain : PlainCommand) → ¬ RunsJobs (plain_view plain)
-plain_runs_none (Check a h) x = x
-plain_runs_none (Sim a s) x = x
-plain_runs_none (Flat a) x = x
-plain_runs_none (Chart a h) x = x
-plain_runs_none (Code a h) x = x
-plain_runs_none (Dates a h g n) x = x

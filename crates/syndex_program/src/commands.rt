@@ -1,12 +1,13 @@
 //! The commands, one a module, and which function carries out which, for the two calls of the crate.
 ghost use Rattle.std.specs.Prelude.{Some};
+ghost use Rattle.command_words.specs.Command.{job, plain};
 ghost use Rattle.command_words.specs.View.{job_view, plain_view, view_of};
 ghost use Rattle.word_rule.specs.Driven.{Driven as Drives, driven_by};
 ghost use Rattle.top_plans.specs.Run.{Makes, Ran};
 ghost use Rattle.top_plans.specs.Status.{ending_of};
 ghost use Rattle.top_plans.specs.Shelf.{Stays};
 ghost use Rattle.top_plans.specs.Given.{performed};
-ghost use Rattle.top_plans.specs.Plans.{plan_for};
+ghost use Rattle.top_plans.specs.Plans.{plan_for, schedule_plan, text_plan};
 ghost use Rattle.syndex_program.specs.Counts.{IsCounted};
 ghost use Rattle.syndex_program.specs.Plainly.{IsRunOrPlain};
 ghost use Rattle.compiler.specs.Reads.{text_in};
@@ -32,7 +33,7 @@ use crate::commands::load::finish_load;
 use crate::commands::run::finish_run;
 use crate::commands::sim::sim_text;
 use crate::execution::{load_execution, read_execution};
-use command_words::{Command, JobCommand, PlainCommand};
+use command_words::{AlgorithmText, Command, JobCommand, PlainCommand, ScheduleText};
 use job_windows::Drive;
 use std::alloc::Global;
 use std::sync::Wait;
@@ -88,12 +89,12 @@ fn plain_status<S: Shelf, K: Sink>(
     shelf: &mut S,
     out: &mut K,
 ) -> Status
-    requires { IsCounted (plain_view command.now) }
+    requires { IsCounted (plain (plain_view command.now)) }
     ensures ran { (driven : Drives) →
-        Ran driven_by performed (plan_for (plain_view command.now)) (S.held shelf.old)
+        Ran driven_by performed (plan_for (plain (plain_view command.now))) (S.held shelf.old)
         (S.held shelf.new) (K.sunk out.old) (K.sunk out.new) driven driven (ending_of result) }
     ensures stays { Stays (S.held shelf.old) (S.held shelf.new) }
-    ensures unread { LeavesUnread (Some (plain_view command.now)) (S.held shelf.old) (S.held shelf.new) }
+    ensures unread { LeavesUnread (Some (plain (plain_view command.now))) (S.held shelf.old) (S.held shelf.new) }
 {
     let made = plain_text(alloc, command, shelf);
     write_text(out, made)
@@ -105,11 +106,11 @@ fn plain_text<S: Shelf>(
     command: &PlainCommand,
     shelf: &mut S,
 ) -> Result<Vec<u8>, Status>
-    requires { IsCounted (plain_view command.now) }
+    requires { IsCounted (plain (plain_view command.now)) }
     ensures makes { Makes (S.held shelf.old) (S.held shelf.new)
-        (plan_for (plain_view command.now)) (text_in result) }
+        (plan_for (plain (plain_view command.now))) (text_in result) }
     ensures stays { Stays (S.held shelf.old) (S.held shelf.new) }
-    ensures unread { LeavesUnread (Some (plain_view command.now)) (S.held shelf.old) (S.held shelf.new) }
+    ensures unread { LeavesUnread (Some (plain (plain_view command.now))) (S.held shelf.old) (S.held shelf.new) }
 {
     match command {
         PlainCommand::Check {
@@ -117,21 +118,54 @@ fn plain_text<S: Shelf>(
             architecture,
         } => check_texts(alloc, shelf, algorithm, *architecture),
         PlainCommand::Sim { algorithm, sensors } => sim_text(alloc, shelf, algorithm, sensors),
-        PlainCommand::Flat { algorithm } => listing_text(alloc, shelf, algorithm),
-        PlainCommand::Chart {
+        PlainCommand::Algorithm { text, algorithm } => algorithm_text(
+            alloc, shelf, *text, algorithm,
+        ),
+        PlainCommand::Schedule {
+            text,
             algorithm,
             architecture,
-        } => chart_text(alloc, shelf, algorithm, architecture),
-        PlainCommand::Code {
-            algorithm,
-            architecture,
-        } => code_text(alloc, shelf, algorithm, architecture),
+        } => schedule_text(alloc, shelf, *text, algorithm, architecture),
         PlainCommand::Dates {
             algorithm,
             architecture,
             durations,
             reactions,
         } => dates_listing(alloc, shelf, algorithm, architecture, durations, *reactions),
+    }
+}
+
+/// A text of an algorithm, or why there is none.
+fn algorithm_text<S: Shelf>(
+    alloc: Global,
+    shelf: &mut S,
+    text: AlgorithmText,
+    algorithm: &str,
+) -> Result<Vec<u8>, Status>
+    ensures makes { Makes (S.held shelf.old) (S.held shelf.new)
+        (text_plan text algorithm.now) (text_in result) }
+    ensures stays { Stays (S.held shelf.old) (S.held shelf.new) }
+{
+    match text {
+        AlgorithmText::Listing => listing_text(alloc, shelf, algorithm),
+    }
+}
+
+/// A text of an algorithm on an architecture, or why there is none.
+fn schedule_text<S: Shelf>(
+    alloc: Global,
+    shelf: &mut S,
+    text: ScheduleText,
+    algorithm: &str,
+    architecture: &str,
+) -> Result<Vec<u8>, Status>
+    ensures makes { Makes (S.held shelf.old) (S.held shelf.new)
+        (schedule_plan text algorithm.now architecture.now) (text_in result) }
+    ensures stays { Stays (S.held shelf.old) (S.held shelf.new) }
+{
+    match text {
+        ScheduleText::Chart => chart_text(alloc, shelf, algorithm, architecture),
+        ScheduleText::Code => code_text(alloc, shelf, algorithm, architecture),
     }
 }
 
@@ -144,12 +178,12 @@ fn job_status<R: Threads + Wait + Sync, S: Shelf, K: Sink, G: Gate>(
     drive: &Drive<R, G>,
     driven: &mut Driven,
 ) -> Status
-    requires { IsCounted (job_view command.now) }
-    ensures ran { Ran driven_by performed (plan_for (job_view command.now)) (S.held shelf.old)
+    requires { IsCounted (job (job_view command.now)) }
+    ensures ran { Ran driven_by performed (plan_for (job (job_view command.now))) (S.held shelf.old)
         (S.held shelf.new) (K.sunk out.old) (K.sunk out.new) driven.old driven.new
         (ending_of result) }
     ensures stays { Stays (S.held shelf.old) (S.held shelf.new) }
-    ensures unread { LeavesUnread (Some (job_view command.now)) (S.held shelf.old) (S.held shelf.new) }
+    ensures unread { LeavesUnread (Some (job (job_view command.now))) (S.held shelf.old) (S.held shelf.new) }
 {
     match command {
         JobCommand::Run {

@@ -7,7 +7,7 @@ use Rattle.command_status.specs.declared.File.{File}
 use Rattle.command_status.specs.Plan.{Plan, read, outcome, ReadsOnly, GivesOnly}
 use Rattle.command_status.specs.PlanAnswers.{IsOnce, RunsNone}
 use Rattle.command_status.specs.Status.{Refusal}
-use Rattle.command_words.specs.Command.{Command, check, sim, flat, chart, code, run, load, exec, dates}
+use Rattle.command_words.specs.Command.{Command, plain, job, load}
 use Rattle.top_plans.specs.Names.{names_for, names_of, RunsJobs, IsPlain}
 use Rattle.top_plans.specs.Given.{Given, written, printed, executed, summed, stages}
 use Rattle.top_plans.specs.Plans.{plan_for, plan_of}
@@ -27,37 +27,11 @@ pub gives_leaves : (P : Given → Type 0) (command : Command) → ((a : Given) �
 gives_leaves P command h = walk Any (GivesOnly P) (λ r n. tt) command (λ file name next e k. λ bytes. k bytes tt) h
 
 once_leaf : (command : Command) (a : Given) → ¬ RunsJobs command → Leaf Any command a → IsOnce stages a × RunsNone stages a
-once_leaf command (written t) p l = (omega arith, refl)
-once_leaf (run a h s w) (printed t e) p l = absurd (p tt)
-once_leaf (load n) (summed e t) p l = absurd (p tt)
-once_leaf (exec a h c s w) (executed e) p l = absurd (p tt)
-once_leaf (check a None) (printed t e) p l = absurd l
-once_leaf (check a None) (executed e) p l = absurd l
-once_leaf (check a None) (summed e t) p l = absurd l
-once_leaf (check a (Some h)) (printed t e) p l = absurd l
-once_leaf (check a (Some h)) (executed e) p l = absurd l
-once_leaf (check a (Some h)) (summed e t) p l = absurd l
-once_leaf (sim a h) (printed t e) p l = absurd l
-once_leaf (sim a h) (executed e) p l = absurd l
-once_leaf (sim a h) (summed e t) p l = absurd l
-once_leaf (flat a) (printed t e) p l = absurd l
-once_leaf (flat a) (executed e) p l = absurd l
-once_leaf (flat a) (summed e t) p l = absurd l
-once_leaf (chart a h) (printed t e) p l = absurd l
-once_leaf (chart a h) (executed e) p l = absurd l
-once_leaf (chart a h) (summed e t) p l = absurd l
-once_leaf (code a h) (printed t e) p l = absurd l
-once_leaf (code a h) (executed e) p l = absurd l
-once_leaf (code a h) (summed e t) p l = absurd l
-once_leaf (dates a h g n) (printed t e) p l = absurd l
-once_leaf (dates a h g n) (executed e) p l = absurd l
-once_leaf (dates a h g n) (summed e t) p l = absurd l
-once_leaf (run a h s w) (executed e) p l = absurd l
-once_leaf (run a h s w) (summed e t) p l = absurd l
-once_leaf (load n) (printed t e) p l = absurd l
-once_leaf (load n) (executed e) p l = absurd l
-once_leaf (exec a h c s w) (printed t e) p l = absurd l
-once_leaf (exec a h c s w) (summed e t) p l = absurd l
+once_leaf (plain command) (written t) p l = (omega arith, refl)
+once_leaf (plain command) (printed t e) p l = absurd l
+once_leaf (plain command) (executed e) p l = absurd l
+once_leaf (plain command) (summed e t) p l = absurd l
+once_leaf (job command) a p l = absurd (p tt)
 
 -- all is written by one call, and no job is run
 pub gives_once : (command : Option Command) → IsPlain command → GivesOnly (IsOnce stages) (plan_of command)
@@ -65,14 +39,14 @@ gives_once None p = tt
 gives_once (Some command) p = gives_leaves (IsOnce stages) command (λ a l. (once_leaf command a p l).0)
 
 -- a load is written by one call too
-load_leaf : (n : ℕ) (a : Given) → Leaf Any (load n) a → IsOnce stages a
+load_leaf : (n : ℕ) (a : Given) → Leaf Any (job (load n)) a → IsOnce stages a
 load_leaf n (written t) l = absurd l
 load_leaf n (printed t e) l = absurd l
 load_leaf n (executed e) l = absurd l
 load_leaf n (summed e t) l = omega arith
 
-pub load_gives_once : (n : ℕ) → GivesOnly (IsOnce stages) (plan_of (Some (load n)))
-load_gives_once n = gives_leaves (IsOnce stages) (load n) (load_leaf n)
+pub load_gives_once : (n : ℕ) → GivesOnly (IsOnce stages) (plan_of (Some (job (load n))))
+load_gives_once n = gives_leaves (IsOnce stages) (job (load n)) (load_leaf n)
 
 module _ {R A : Type 0} where
   abbrev made : A → Option (Result A R)

@@ -10,7 +10,7 @@ use Rattle.algo_rules.specs.Tree.{Vertex}
 use Rattle.archi_reader.specs.Canonical as architecture
 use Rattle.archi_reader.proofs.Accepted.{described_are}
 use Rattle.archi_reader.proofs.ReadBack.{canonical_back}
-use Rattle.flat_text.specs.Listing.{listing}
+use Rattle.command_words.specs.declared.table.AlgorithmText.{AlgorithmText}
 use Rattle.sequence_build.specs.Limit.{program_limit}
 use Rattle.code_laws.proofs.Described.{described_read_back}
 use Rattle.self_timed.specs.Text.{Described, description_of}
@@ -29,7 +29,8 @@ use Rattle.accepted_laws.specs.FlatOf.{flat_of}
 use Rattle.accepted_laws.proofs.Definitions.{accepted_have_flat}
 use Rattle.accepted_laws.proofs.Told.{accepted_do_as_told}
 use Rattle.top_plans.specs.Plans.{both_texts, chart_of, program_by, schedule_of}
-use Rattle.top_plans.specs.Texts.{SaysAgain, DescribesAgain, DoesTheSame, IsScheduled, IsCode, ChecksAlgorithm, ChecksBoth, ListsTrue, Schedules, ChartsTrue, CodesTrue, DatesTrue}
+use Rattle.top_plans.specs.GraphText.{graph_text}
+use Rattle.top_plans.specs.Texts.{SaysAgain, DescribesAgain, DoesTheSame, IsScheduled, IsCode, ChecksAlgorithm, ChecksBoth, TellsTrue, Schedules, ChartsTrue, CodesTrue, DatesTrue}
 use Rattle.top_plans.proofs.Schedules.{schedules_are_valid, schedules_are_tight}
 use Rattle.top_plans.proofs.Walk.{IsWithin, Writes, WritesOn, WritesDates, code_by, dates_by}
 
@@ -92,13 +93,13 @@ module _ (told : Bytes → Option Bytes) where
     architecture = describes_again x.placed.lines x.described x.placed.describes;
   }
 
-  pub lists_true : (a output : Bytes) → Writes Told a (λ defs main. listing (flat_of main)) output → ListsTrue told a output
-  lists_true a output x = record {
+  pub tells_true : (what : AlgorithmText) (a output : Bytes) → Writes Told a (λ defs main. graph_text what (flat_of main)) output → TellsTrue told what a output
+  tells_true what a output x = record {
     text = x.read.text;
     text_told = x.read.text_told;
     graph = flat_of x.main;
     same = does_the_same x.read.text x.defs x.main x.read.says x.read.resolves;
-    listed = x.is;
+    tells = x.is;
   }
 
   module _ (a h : Bytes) (makes : Defs → Vertex → Described → Table → Bytes) (output : Bytes) (x : WritesOn Told a h makes output) where

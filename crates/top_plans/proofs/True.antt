@@ -34,15 +34,17 @@ use Rattle.accepted_laws.proofs.Tables.{tables_fit}
 use Rattle.accepted_laws.proofs.Told.{accepted_do_as_told}
 use Rattle.check_laws.specs.Tests.{Cause, cause}
 use Rattle.check_laws.proofs.Whole.{no_cause_is_well_formed}
-use Rattle.command_words.specs.Command.{Command, check, sim, flat, chart, code, run as runs, load, exec, dates}
+use Rattle.command_words.specs.Command.{Command, plain, job, check, algorithm_text, schedule_text, dates, sim, run as runs, exec, load}
+use Rattle.command_words.specs.declared.table.ScheduleText.{ScheduleText}
+use Rattle.command_words.specs.declared.table.ScheduleText.TheVariants as shown
 use Rattle.top_plans.specs.Given.{Given, written, printed, executed, summed, Execution, one_job}
 use Rattle.top_plans.specs.Plans.{head, schedule_of, sum_of, summary_with}
 use Rattle.top_plans.specs.Checks.{told}
-use Rattle.top_plans.specs.Meaning.{RunsTrue, RunsAsTold, IsAlgorithmOf, IsTableOf, PrintsCode, SimulatesTrue, MakesTrue, AcceptedRunTrue}
+use Rattle.top_plans.specs.Meaning.{RunsTrue, RunsAsTold, IsAlgorithmOf, IsTableOf, PrintsCode, SimulatesTrue, ScheduleTrue, MakesTrue, AcceptedRunTrue}
 use Rattle.top_plans.proofs.Schedules.{schedules_are_valid}
 use Rattle.top_plans.specs.Texts.{IsCode}
-use Rattle.top_plans.proofs.Texts.{is_code, checks_algorithm, checks_both, lists_true, charts_true, codes_true, dates_true}
-use Rattle.top_plans.proofs.Walk.{Comes, built, checked, IsAccepted, IsBuilt, IsSimulated, Leaf}
+use Rattle.top_plans.proofs.Texts.{is_code, checks_algorithm, checks_both, tells_true, charts_true, codes_true, dates_true}
+use Rattle.top_plans.proofs.Walk.{Comes, built, checked, IsAccepted, IsBuilt, IsSimulated, LeafOn, Leaf}
 use Rattle.top_plans.proofs.Commands.{IsTold, told_gives}
 use Rattle.syn_base.specs.Vectors.{Values, vector_at, zeros}
 use Rattle.syn_base.specs.Numbers.{numbers_below}
@@ -170,48 +172,34 @@ module _ (runs_end : RunsEnd) (runs_take_rows : RunsTakeRows) (windows_make : Wi
         reads = sym (by.1.tables (records default_config (strip_bom a.table))) ∙ a.tells;
       }
 
+  true_schedule : (told : Bytes → Option Bytes) (what : ScheduleText) (a h t : Bytes) → LeafOn (IsTold told) what a h t → ScheduleTrue told what a h t
+  true_schedule told shown.Chart a h t l = charts_true told a h t l
+  true_schedule told shown.Code a h t l = codes_true told a h t l.0 l.1
+
   true_leaf : (told : Bytes → Option Bytes) (command : Command) (g : Given) → Leaf (IsTold told) command g → MakesTrue told (Some command) g
-  true_leaf told (sim a s) (written t) l = simulates told a s t l
-  true_leaf told (check a None) (written t) l = checks_algorithm told a t l
-  true_leaf told (check a (Some h)) (written t) l = checks_both told a h t l
-  true_leaf told (flat a) (written t) l = lists_true told a t l
-  true_leaf told (chart a h) (written t) l = charts_true told a h t l
-  true_leaf told (code a h) (written t) l = codes_true told a h t l.0 l.1
-  true_leaf told (dates a h r n) (written t) l = dates_true told a h r n t l
-  true_leaf told (runs a h s w) (written t) l = absurd l
-  true_leaf told (load n) (written t) l = absurd l
-  true_leaf told (exec a h c s w) (written t) l = absurd l
-  true_leaf told (runs a h s w) (printed t e) l = (runs_as told (runs a h s w) e l.is l.text_told l.table_told, prints_code e l.is l.by t l.first)
-  true_leaf told (load n) (summed e t) l =
-      let ran = runs_as told (load n) e l.0 l.1 l.2 in (ran, l.3 ∙ ap (λ acts. summary_with e (sum_of acts)) ran.runs.acts)
-  true_leaf told (exec a h c s w) (executed e) l = runs_as told (exec a h c s w) e l.0 l.1 l.2
-  true_leaf told (check a None) (printed t e) l = absurd l
-  true_leaf told (check a None) (executed e) l = absurd l
-  true_leaf told (check a None) (summed e t) l = absurd l
-  true_leaf told (check a (Some h)) (printed t e) l = absurd l
-  true_leaf told (check a (Some h)) (executed e) l = absurd l
-  true_leaf told (check a (Some h)) (summed e t) l = absurd l
-  true_leaf told (sim a h) (printed t e) l = absurd l
-  true_leaf told (sim a h) (executed e) l = absurd l
-  true_leaf told (sim a h) (summed e t) l = absurd l
-  true_leaf told (flat a) (printed t e) l = absurd l
-  true_leaf told (flat a) (executed e) l = absurd l
-  true_leaf told (flat a) (summed e t) l = absurd l
-  true_leaf told (chart a h) (printed t e) l = absurd l
-  true_leaf told (chart a h) (executed e) l = absurd l
-  true_leaf told (chart a h) (summed e t) l = absurd l
-  true_leaf told (code a h) (printed t e) l = absurd l
-  true_leaf told (code a h) (executed e) l = absurd l
-  true_leaf told (code a h) (summed e t) l = absurd l
-  true_leaf told (dates a h r n) (printed t e) l = absurd l
-  true_leaf told (dates a h r n) (executed e) l = absurd l
-  true_leaf told (dates a h r n) (summed e t) l = absurd l
-  true_leaf told (runs a h s w) (executed e) l = absurd l
-  true_leaf told (runs a h s w) (summed e t) l = absurd l
-  true_leaf told (load n) (printed t e) l = absurd l
-  true_leaf told (load n) (executed e) l = absurd l
-  true_leaf told (exec a h c s w) (printed t e) l = absurd l
-  true_leaf told (exec a h c s w) (summed e t) l = absurd l
+  true_leaf told (plain (check a None)) (written t) l = checks_algorithm told a t l
+  true_leaf told (plain (check a (Some h))) (written t) l = checks_both told a h t l
+  true_leaf told (plain (algorithm_text what a)) (written t) l = tells_true told what a t l
+  true_leaf told (plain (schedule_text what a h)) (written t) l = true_schedule told what a h t l
+  true_leaf told (plain (dates a h r n)) (written t) l = dates_true told a h r n t l
+  true_leaf told (plain (sim a s)) (written t) l = simulates told a s t l
+  true_leaf told (plain command) (printed t e) l = absurd l
+  true_leaf told (plain command) (executed e) l = absurd l
+  true_leaf told (plain command) (summed e t) l = absurd l
+  true_leaf told (job (runs a h s w)) (printed t e) l =
+      (runs_as told (job (runs a h s w)) e l.is l.text_told l.table_told, prints_code e l.is l.by t l.first)
+  true_leaf told (job (load n)) (summed e t) l =
+      let ran = runs_as told (job (load n)) e l.0 l.1 l.2 in (ran, l.3 ∙ ap (λ acts. summary_with e (sum_of acts)) ran.runs.acts)
+  true_leaf told (job (exec a h c s w)) (executed e) l = runs_as told (job (exec a h c s w)) e l.0 l.1 l.2
+  true_leaf told (job (runs a h s w)) (written t) l = absurd l
+  true_leaf told (job (load n)) (written t) l = absurd l
+  true_leaf told (job (exec a h c s w)) (written t) l = absurd l
+  true_leaf told (job (runs a h s w)) (executed e) l = absurd l
+  true_leaf told (job (runs a h s w)) (summed e t) l = absurd l
+  true_leaf told (job (load n)) (printed t e) l = absurd l
+  true_leaf told (job (load n)) (executed e) l = absurd l
+  true_leaf told (job (exec a h c s w)) (printed t e) l = absurd l
+  true_leaf told (job (exec a h c s w)) (summed e t) l = absurd l
 
   pub accepted_true : AcceptedRunTrue
   accepted_true command told g e = told_gives (MakesTrue told (Some command)) told command (true_leaf told command) g e

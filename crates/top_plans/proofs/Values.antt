@@ -20,7 +20,7 @@ use Rattle.command_status.specs.Plan.{Plan, give, refuse, read, outcome, ReadsOn
 use Rattle.command_status.specs.Stage.{text_of, jobs_of, after_jobs}
 use Rattle.command_status.specs.Ending.{done}
 use Rattle.command_status.specs.Status.{Refusal}
-use Rattle.command_words.specs.Command.{Command, Arguments, sim, run, exec, is_option, is_joined, arguments_of, with_plain, plain_by, two, run_by, exec_by, command_of}
+use Rattle.command_words.specs.Command.{Command, Arguments, plain, job, sim, run, exec, is_option, is_joined, arguments_of, with_plain, plain_by, two, run_by, exec_by, command_of}
 use Rattle.command_words.proofs.OptionWords.{joined_is}
 use Rattle.word_rule.specs.Driven.{Driven, driven_by}
 use Rattle.top_plans.specs.Names.{names_for}
@@ -50,15 +50,15 @@ readings_agree text table one other =
 
 -- a word that does not look like an option is none
 is_no_option : (x y : Bytes) → is_option y ≡ true → is_option x ≡ false → x ≡ y → ⊥
-is_no_option x y dashed plain same = let q : true ≡ false = sym dashed ∙ sym (ap is_option same) ∙ plain in cc
+is_no_option x y dashed bare same = let q : true ≡ false = sym dashed ∙ sym (ap is_option same) ∙ bare in cc
 
 differs : (x y : Bytes) (t : Bool) → is_option y ≡ true → is_option x ≡ false → bytes_eq x y ≡ t → t ≡ false
-differs x y false dashed plain e = refl
-differs x y true dashed plain e = absurd (is_no_option x y dashed plain ((bytes_eq-Decides x y).0 e))
+differs x y false dashed bare e = refl
+differs x y true dashed bare e = absurd (is_no_option x y dashed bare ((bytes_eq-Decides x y).0 e))
 
 unjoined : (x : Bytes) (t : Bool) → is_option x ≡ false → is_joined x ≡ t → t ≡ false
-unjoined x false plain e = refl
-unjoined x true plain e = absurd (is_no_option x (codes "--workers=" ++ drop 10 x) refl plain (joined_is x e))
+unjoined x false bare e = refl
+unjoined x true bare e = absurd (is_no_option x (codes "--workers=" ++ drop 10 x) refl bare (joined_is x e))
 
 or_parts : (a b : Bool) → (a || b) ≡ false → (a ≡ false) × (b ≡ false)
 or_parts false b e = (refl, e)
@@ -78,13 +78,13 @@ all_plain takes (w ∷ ws) e =
     let parts = or_parts (is_option w) (list_any is_option ws) e in
     with_one takes w ws parts.0 ∙ ap (with_plain w) (all_plain takes ws parts.1)
 
-asks_sim : (words : List Bytes) (a s : Bytes) → Asks words (codes "sim") (a ∷ s ∷ []) → command_of words ≡ Some (sim a s)
-asks_sim words a s asks = ap command_of asks.words_are ∙ ap (plain_by (two (λ a s. Some (sim a s)))) (all_plain false (a ∷ s ∷ []) asks.plain)
+asks_sim : (words : List Bytes) (a s : Bytes) → Asks words (codes "sim") (a ∷ s ∷ []) → command_of words ≡ Some (plain (sim a s))
+asks_sim words a s asks = ap command_of asks.words_are ∙ ap (plain_by (two (λ a s. Some (plain (sim a s))))) (all_plain false (a ∷ s ∷ []) asks.plain)
 
-asks_run : (words : List Bytes) (a h s : Bytes) → Asks words (codes "run") (a ∷ h ∷ s ∷ []) → command_of words ≡ Some (run a h s None)
+asks_run : (words : List Bytes) (a h s : Bytes) → Asks words (codes "run") (a ∷ h ∷ s ∷ []) → command_of words ≡ Some (job (run a h s None))
 asks_run words a h s asks = ap command_of asks.words_are ∙ ap run_by (all_plain true (a ∷ h ∷ s ∷ []) asks.plain)
 
-asks_exec : (words : List Bytes) (a h c s : Bytes) → Asks words (codes "exec") (a ∷ h ∷ c ∷ s ∷ []) → command_of words ≡ Some (exec a h c s None)
+asks_exec : (words : List Bytes) (a h c s : Bytes) → Asks words (codes "exec") (a ∷ h ∷ c ∷ s ∷ []) → command_of words ≡ Some (job (exec a h c s None))
 asks_exec words a h c s asks = ap command_of asks.words_are ∙ ap exec_by (all_plain true (a ∷ h ∷ c ∷ s ∷ []) asks.plain)
 
 -- each file that a plan may read is told
@@ -146,19 +146,19 @@ module _ (held held' : Held) (sunk sunk' : Sunk) (d d' : Driven) where
   leaf : (command : Command) (g : Given) → outcome told (plan_for command) ≡ Some (Ok g) → Leaf (IsTold told) command g
   leaf command g e = told_gives (Leaf (IsTold told) command) told command (λ g l. l) g e
 
-  sim_lines : (a s : Bytes) → IsDone (sim a s) → IsKnown told a → IsKnown told s → Lines a s []
+  sim_lines : (a s : Bytes) → IsDone (plain (sim a s)) → IsKnown told a → IsKnown told s → Lines a s []
   sim_lines a s replies at on =
-      let g = given (sim a s) replies known in
-      by g.0 (leaf (sim a s) g.0 g.1) (replies.true_runs g.0 g.1) (done_runs (Some (sim a s)) held held' sunk sunk' d d' g.0 replies g.1)
+      let g = given (plain (sim a s)) replies known in
+      by g.0 (leaf (plain (sim a s)) g.0 g.1) (replies.true_runs g.0 g.1) (done_runs (Some (plain (sim a s))) held held' sunk sunk' d d' g.0 replies g.1)
     where
-      known : (file : File) (name : Bytes) → names_for (sim a s) file ≡ Some name → IsKnown told name
+      known : (file : File) (name : Bytes) → names_for (plain (sim a s)) file ≡ Some name → IsKnown told name
       known Algorithm name e = known_as told a name at e
       known Sensors name e = known_as told s name on e
       known Architecture name e = absurd (no_name name e)
       known Code name e = absurd (no_name name e)
       known Durations name e = absurd (no_name name e)
 
-      by : (g : Given) → Leaf (IsTold told) (sim a s) g → MakesTrue told (Some (sim a s)) g → IsMade g sunk sunk' d d' → Lines a s []
+      by : (g : Given) → Leaf (IsTold told) (plain (sim a s)) g → MakesTrue told (Some (plain (sim a s))) g → IsMade g sunk sunk' d d' → Lines a s []
       by (written text) l m made = record {
         text = m.text;
         table = m.table;
@@ -171,19 +171,19 @@ module _ (held held' : Held) (sunk sunk' : Sunk) (d d' : Driven) where
       by (executed e) l m made = absurd l
       by (summed e text) l m made = absurd l
 
-  run_lines : (a h s : Bytes) → IsDone (run a h s None) → IsKnown told a → IsKnown told h → IsKnown told s → (front : Bytes) × Lines a s front
+  run_lines : (a h s : Bytes) → IsDone (job (run a h s None)) → IsKnown told a → IsKnown told h → IsKnown told s → (front : Bytes) × Lines a s front
   run_lines a h s replies at to on =
-      let g = given (run a h s None) replies known in
-      by g.0 (leaf (run a h s None) g.0 g.1) (replies.true_runs g.0 g.1) (done_runs (Some (run a h s None)) held held' sunk sunk' d d' g.0 replies g.1)
+      let g = given (job (run a h s None)) replies known in
+      by g.0 (leaf (job (run a h s None)) g.0 g.1) (replies.true_runs g.0 g.1) (done_runs (Some (job (run a h s None))) held held' sunk sunk' d d' g.0 replies g.1)
     where
-      known : (file : File) (name : Bytes) → names_for (run a h s None) file ≡ Some name → IsKnown told name
+      known : (file : File) (name : Bytes) → names_for (job (run a h s None)) file ≡ Some name → IsKnown told name
       known Algorithm name e = known_as told a name at e
       known Architecture name e = known_as told h name to e
       known Sensors name e = known_as told s name on e
       known Code name e = absurd (no_name name e)
       known Durations name e = absurd (no_name name e)
 
-      by : (g : Given) → Leaf (IsTold told) (run a h s None) g → MakesTrue told (Some (run a h s None)) g → IsMade g sunk sunk' d d' → (front : Bytes) × Lines a s front
+      by : (g : Given) → Leaf (IsTold told) (job (run a h s None)) g → MakesTrue told (Some (job (run a h s None))) g → IsMade g sunk sunk' d d' → (front : Bytes) × Lines a s front
       by (printed text e) l m made = (
         text,
         record {
@@ -200,19 +200,19 @@ module _ (held held' : Held) (sunk sunk' : Sunk) (d d' : Driven) where
       by (executed e) l m made = absurd l
       by (summed e text) l m made = absurd l
 
-  exec_lines : (a h c s : Bytes) → IsDone (exec a h c s None) → IsKnown told a → IsKnown told h → IsKnown told c → IsKnown told s → Lines a s []
+  exec_lines : (a h c s : Bytes) → IsDone (job (exec a h c s None)) → IsKnown told a → IsKnown told h → IsKnown told c → IsKnown told s → Lines a s []
   exec_lines a h c s replies at to by_code on =
-      let g = given (exec a h c s None) replies known in
-      by g.0 (leaf (exec a h c s None) g.0 g.1) (replies.true_runs g.0 g.1) (done_runs (Some (exec a h c s None)) held held' sunk sunk' d d' g.0 replies g.1)
+      let g = given (job (exec a h c s None)) replies known in
+      by g.0 (leaf (job (exec a h c s None)) g.0 g.1) (replies.true_runs g.0 g.1) (done_runs (Some (job (exec a h c s None))) held held' sunk sunk' d d' g.0 replies g.1)
     where
-      known : (file : File) (name : Bytes) → names_for (exec a h c s None) file ≡ Some name → IsKnown told name
+      known : (file : File) (name : Bytes) → names_for (job (exec a h c s None)) file ≡ Some name → IsKnown told name
       known Algorithm name e = known_as told a name at e
       known Architecture name e = known_as told h name to e
       known Sensors name e = known_as told s name on e
       known Code name e = known_as told c name by_code e
       known Durations name e = absurd (no_name name e)
 
-      by : (g : Given) → Leaf (IsTold told) (exec a h c s None) g → MakesTrue told (Some (exec a h c s None)) g → IsMade g sunk sunk' d d' → Lines a s []
+      by : (g : Given) → Leaf (IsTold told) (job (exec a h c s None)) g → MakesTrue told (Some (job (exec a h c s None))) g → IsMade g sunk sunk' d d' → Lines a s []
       by (executed e) l m made = record {
         text = m.text;
         table = m.table;
@@ -231,7 +231,7 @@ values_are_written words held held' sunk sunk' d d' replies =
     let of = λ (command : Command) (e : command_of words ≡ Some command).
     subst (λ (o : Option Command). Replies o held held' sunk sunk' d d' done) e replies in
     record {
-      sim = λ a s asks at on. sim_lines held held' sunk sunk' d d' a s (of (sim a s) (asks_sim words a s asks)) at on;
-      run = λ a h s asks at to on. run_lines held held' sunk sunk' d d' a h s (of (run a h s None) (asks_run words a h s asks)) at to on;
-      exec = λ a h c s asks at to by on. exec_lines held held' sunk sunk' d d' a h c s (of (exec a h c s None) (asks_exec words a h c s asks)) at to by on;
+      sim = λ a s asks at on. sim_lines held held' sunk sunk' d d' a s (of (plain (sim a s)) (asks_sim words a s asks)) at on;
+      run = λ a h s asks at to on. run_lines held held' sunk sunk' d d' a h s (of (job (run a h s None)) (asks_run words a h s asks)) at to on;
+      exec = λ a h c s asks at to by on. exec_lines held held' sunk sunk' d d' a h c s (of (job (exec a h c s None)) (asks_exec words a h c s asks)) at to by on;
     }

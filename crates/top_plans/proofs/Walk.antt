@@ -19,7 +19,6 @@ use Rattle.self_timed.specs.Graph.{Graph}
 use Rattle.self_timed.specs.declared.Program.{Program}
 use Rattle.dates_text.specs.Listing.{dates_text}
 use Rattle.algo_print.specs.Canonical.{canonical_text}
-use Rattle.flat_text.specs.Listing.{listing}
 use Rattle.sequence_build.specs.Limit.{program_limit}
 use Rattle.word_rule.specs.IsJob.{limit_of}
 use Rattle.command_status.specs.declared.File.{File}
@@ -35,12 +34,15 @@ use Rattle.command_status.specs.SensorTable.{rows_of}
 use Rattle.command_status.specs.CodeText.{macro_code}
 use Rattle.command_status.specs.Plan.{give, refuse, after}
 use Rattle.command_status.specs.Status.{Refusal, above, failed_check, of_algorithm, of_architecture, of_code, of_durations, of_sensors, usage, wants_memory}
-use Rattle.command_words.specs.Command.{Command, check, sim, flat, chart, code, run, load, exec, dates}
+use Rattle.command_words.specs.Command.{Command, plain, job, check, algorithm_text, schedule_text, dates, sim, run, exec, load}
+use Rattle.command_words.specs.declared.table.ScheduleText.{ScheduleText}
+use Rattle.command_words.specs.declared.table.ScheduleText.TheVariants as shown
 use Rattle.accepted_laws.specs.Elaborated.{elaboration_of}
 use Rattle.accepted_laws.specs.FlatOf.{flat_of}
 use Rattle.top_plans.specs.Names.{names_for}
 use Rattle.top_plans.specs.Given.{Given, written, printed, executed, summed, Execution, one_job, output_of}
 use Rattle.top_plans.specs.Plans.{Made, both_texts, chart_of, read_file, unless, unless_lacking, algorithm_in, described_in, architecture_in, table_in, code_in, durations_in, program_plan, program_by, schedule_of, rows_plan, excess, execution, execution_plan, head, summary, load_plan, plan_for}
+use Rattle.top_plans.specs.GraphText.{graph_text}
 use Rattle.top_plans.specs.Loads.{load_algorithm, load_architecture, load_table}
 use Rattle.top_plans.specs.Checks.{lacking}
 use Rattle.top_plans.proofs.Only.{Only}
@@ -147,19 +149,26 @@ pub record Runs (Told : Bytes → Bytes → Type 0) (a s front : Bytes) (e : Exe
   pub by : IsBuilt is.described e
   pub first : front ≡ head e
 
+-- what may come to be written of an algorithm on an architecture
+abbrev pub LeafOn : (Bytes → Bytes → Type 0) → ScheduleText → Bytes → Bytes → Bytes → Type 0
+LeafOn Told shown.Chart a h t = WritesOn Told a h (λ defs main d l. chart_of (flat_of main) d l) t
+LeafOn Told shown.Code a h t = (x : WritesOn Told a h code_by t) × IsWithin x.main x.described x.table
+
 -- what a command may come to give, where each text that was read is told under the name of its file
 abbrev pub Leaf : (Bytes → Bytes → Type 0) → Command → Given → Type 0
-Leaf Told (check a None) (written t) = Writes Told a (λ defs main. canonical_text defs) t
-Leaf Told (check a (Some h)) (written t) = WritesOn Told a h (λ defs main d l. both_texts defs d) t
-Leaf Told (sim a s) (written t) = IsSimulated Told a s t
-Leaf Told (flat a) (written t) = Writes Told a (λ defs main. listing (flat_of main)) t
-Leaf Told (chart a h) (written t) = WritesOn Told a h (λ defs main d l. chart_of (flat_of main) d l) t
-Leaf Told (code a h) (written t) = (x : WritesOn Told a h code_by t) × IsWithin x.main x.described x.table
-Leaf Told (run a h s workers) (printed t e) = Runs Told a s t e
-Leaf Told (load n) (summed e t) = (is : IsAccepted e) × (is.text ≡ load_algorithm n) × (is.table ≡ load_table n) × (t ≡ summary e)
-Leaf Told (exec a h c s workers) (executed e) = (is : IsAccepted e) × Told a is.text × Told s is.table
-Leaf Told (dates a h g n) (written t) = WritesDates Told a h g n t
-Leaf Told _ _ = ⊥
+Leaf Told (plain (check a None)) (written t) = Writes Told a (λ defs main. canonical_text defs) t
+Leaf Told (plain (check a (Some h))) (written t) = WritesOn Told a h (λ defs main d l. both_texts defs d) t
+Leaf Told (plain (algorithm_text text a)) (written t) = Writes Told a (λ defs main. graph_text text (flat_of main)) t
+Leaf Told (plain (schedule_text text a h)) (written t) = LeafOn Told text a h t
+Leaf Told (plain (dates a h g n)) (written t) = WritesDates Told a h g n t
+Leaf Told (plain (sim a s)) (written t) = IsSimulated Told a s t
+Leaf Told (plain command) (printed t e) = ⊥
+Leaf Told (plain command) (executed e) = ⊥
+Leaf Told (plain command) (summed e t) = ⊥
+Leaf Told (job (run a h s workers)) (printed t e) = Runs Told a s t e
+Leaf Told (job (load n)) (summed e t) = (is : IsAccepted e) × (is.text ≡ load_algorithm n) × (is.table ≡ load_table n) × (t ≡ summary e)
+Leaf Told (job (exec a h c s workers)) (executed e) = (is : IsAccepted e) × Told a is.text × Told s is.table
+Leaf Told (job _) _ = ⊥
 
 -- no part refuses as words that are no command, nor for want of memory
 pub record IsTold (r : Refusal) : Type 0 where
@@ -318,10 +327,10 @@ module _ (Told : Bytes → Bytes → Type 0) (Q : Made → Type 0) (refused : (r
   -- the plan of each command
   pub walk : (command : Command) → Reads (names_for command) → ((g : Given) → Leaf Told command g → Q (give g)) → Q (plan_for command)
   unfolding wrote_on
-  walk (check a None) reads gives = reads Algorithm a _ refl (λ text at. algorithm_so text _ (λ defs main p q. gives _ (wrote a (λ defs main. canonical_text defs) text defs main at p q)))
-  walk (check a (Some h)) reads gives = reads Algorithm a _ refl (λ text at. algorithm_so text _ (λ defs main p q.
+  walk (plain (check a None)) reads gives = reads Algorithm a _ refl (λ text at. algorithm_so text _ (λ defs main p q. gives _ (wrote a (λ defs main. canonical_text defs) text defs main at p q)))
+  walk (plain (check a (Some h))) reads gives = reads Algorithm a _ refl (λ text at. algorithm_so text _ (λ defs main p q.
       reads Architecture h _ refl (λ lines to. architecture_so lines main _ (λ d t u v. gives _ (wrote_on a h (λ defs main d t. both_texts defs d) text lines defs main d t at p q to u v)))))
-  walk (sim a s) reads gives = reads Algorithm a _ refl (λ text at. algorithm_so text _ (λ defs main p q.
+  walk (plain (sim a s)) reads gives = reads Algorithm a _ refl (λ text at. algorithm_so text _ (λ defs main p q.
       reads Sensors s _ refl (λ table on. table_so main table _ (λ rows r. rows_so main rows (gives (written (output_of main rows.reactions)) (record {
         text = text;
         text_told = at;
@@ -335,14 +344,14 @@ module _ (Told : Bytes → Bytes → Type 0) (Q : Made → Type 0) (refused : (r
         tells = r;
         lines = refl;
       }))))))
-  walk (flat a) reads gives = reads Algorithm a _ refl (λ text at. algorithm_so text _ (λ defs main p q. gives _ (wrote a (λ defs main. listing (flat_of main)) text defs main at p q)))
-  walk (chart a h) reads gives = reads Algorithm a _ refl (λ text at. algorithm_so text _ (λ defs main p q.
+  walk (plain (algorithm_text what a)) reads gives = reads Algorithm a _ refl (λ text at. algorithm_so text _ (λ defs main p q. gives _ (wrote a (λ defs main. graph_text what (flat_of main)) text defs main at p q)))
+  walk (plain (schedule_text shown.Chart a h)) reads gives = reads Algorithm a _ refl (λ text at. algorithm_so text _ (λ defs main p q.
       reads Architecture h _ refl (λ lines to. architecture_so lines main _ (λ d t u v. gives _ (wrote_on a h (λ defs main d t. chart_of (flat_of main) d t) text lines defs main d t at p q to u v)))))
-  walk (code a h) reads gives = reads Algorithm a _ refl (λ text at. algorithm_so text _ (λ defs main p q.
+  walk (plain (schedule_text shown.Code a h)) reads gives = reads Algorithm a _ refl (λ text at. algorithm_so text _ (λ defs main p q.
       reads Architecture h _ refl (λ lines to. architecture_so lines main _ (λ d t u v.
       program_so (flat_of main) d.archi t (λ p. give (written (macro_code p (flat_of main) d.archi)))
       (λ within. gives _ (wrote_on a h code_by text lines defs main d t at p q to u v, within))))))
-  walk (run a h s workers) reads gives = reads Algorithm a _ refl (λ text at. algorithm_so text _ (λ defs main p q.
+  walk (job (run a h s workers)) reads gives = reads Algorithm a _ refl (λ text at. algorithm_so text _ (λ defs main p q.
       reads Architecture h _ refl (λ lines to. architecture_so lines main _ (λ d t u v.
       reads Sensors s _ refl (λ table on. table_so main table _ (λ rows r.
       execution_so text defs main lines d t table rows (λ e. printed (head e) e) p q u v r
@@ -353,14 +362,14 @@ module _ (Told : Bytes → Bytes → Type 0) (Q : Made → Type 0) (refused : (r
         by = by;
         first = refl;
       }))))))))
-  walk (load n) reads gives = load_so (load_algorithm n) load_architecture (load_table n) (λ e is same listed. gives (summed e (summary e)) (is, same, listed, refl))
-  walk (exec a h c s workers) reads gives = reads Algorithm a _ refl (λ text at. algorithm_so text _ (λ defs main p q.
+  walk (job (load n)) reads gives = load_so (load_algorithm n) load_architecture (load_table n) (λ e is same listed. gives (summed e (summary e)) (is, same, listed, refl))
+  walk (job (exec a h c s workers)) reads gives = reads Algorithm a _ refl (λ text at. algorithm_so text _ (λ defs main p q.
       reads Architecture h _ refl (λ lines to. described_so lines _ (λ d u.
       reads Code c _ refl (λ macros by. code_so macros (flat_of main) d.archi _ (λ program whole.
       reads Sensors s _ refl (λ table on. table_so main table _ (λ rows r.
       checked_so text defs main lines d program table rows p q u whole r
       (λ e is same listed. gives (executed e) (is, subst (λ x. Told a x) (sym same) at, subst (λ x. Told s x) (sym listed) on))))))))))
-  walk (dates a h g n) reads gives = reads Algorithm a _ refl (λ text at. algorithm_so text _ (λ defs main p q.
+  walk (plain (dates a h g n)) reads gives = reads Algorithm a _ refl (λ text at. algorithm_so text _ (λ defs main p q.
       reads Architecture h _ refl (λ lines to. architecture_so lines main _ (λ d t u v.
       reads Durations g _ refl (λ real by. durations_so real (flat_of main) d.archi t _ (λ ticks l.
       program_so (flat_of main) d.archi t (λ p. give (written (dates_text (flat_of main) d.archi (schedule_of (flat_of main) d.archi t) ticks n)))

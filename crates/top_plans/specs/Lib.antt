@@ -1,6 +1,7 @@
 pub mod Names
 pub mod Given
 pub mod Loads
+pub mod GraphText
 pub mod Checks
 pub mod Plans
 pub mod Refusals

@@ -52,19 +52,22 @@ use Rattle.top_plans.specs.Given.{
 }
 use Rattle.command_words.specs.Command.{
   Command,
+  plain,
+  job,
   check,
-  sim,
-  flat as flattening,
-  chart,
-  code,
-  run as running,
-  load,
-  exec,
+  algorithm_text,
+  schedule_text,
   dates,
+  sim,
+  run as running,
+  exec,
+  load,
 }
+use Rattle.command_words.specs.declared.table.ScheduleText.{ScheduleText}
+use Rattle.command_words.specs.declared.table.ScheduleText.TheVariants.{Chart, Code}
 use Rattle.top_plans.specs.Loads.{load_algorithm, load_table}
 use Rattle.top_plans.specs.Plans.{plan_for, summary_with, sum_of}
-use Rattle.top_plans.specs.Texts.{ChecksAlgorithm, ChecksBoth, ListsTrue, ChartsTrue, CodesTrue, DatesTrue, IsCode}
+use Rattle.top_plans.specs.Texts.{ChecksAlgorithm, ChecksBoth, TellsTrue, ChartsTrue, CodesTrue, DatesTrue, IsCode}
 use Rattle.syn_base.specs.Vectors.{vector_at, zeros}
 
 -- the text that is written in windows is the whole output
@@ -111,23 +114,22 @@ pub record RunsTrue (text : Bytes) (e : Execution) : Type 0 where
 
 -- the text of a command's algorithm, where files are told: that of a load is made
 abbrev pub IsAlgorithmOf : (Bytes → Option Bytes) → Command → Bytes → Type 0
-IsAlgorithmOf told (check a h) text = told a ≡ Some text
-IsAlgorithmOf told (sim a s) text = told a ≡ Some text
-IsAlgorithmOf told (flattening a) text = told a ≡ Some text
-IsAlgorithmOf told (chart a h) text = told a ≡ Some text
-IsAlgorithmOf told (code a h) text = told a ≡ Some text
-IsAlgorithmOf told (running a h s workers) text = told a ≡ Some text
-IsAlgorithmOf told (load n) text = text ≡ load_algorithm n
-IsAlgorithmOf told (exec a h c s workers) text = told a ≡ Some text
-IsAlgorithmOf told (dates a h g n) text = told a ≡ Some text
+IsAlgorithmOf told (plain (check a h)) text = told a ≡ Some text
+IsAlgorithmOf told (plain (algorithm_text what a)) text = told a ≡ Some text
+IsAlgorithmOf told (plain (schedule_text what a h)) text = told a ≡ Some text
+IsAlgorithmOf told (plain (dates a h g n)) text = told a ≡ Some text
+IsAlgorithmOf told (plain (sim a s)) text = told a ≡ Some text
+IsAlgorithmOf told (job (running a h s workers)) text = told a ≡ Some text
+IsAlgorithmOf told (job (exec a h c s workers)) text = told a ≡ Some text
+IsAlgorithmOf told (job (load n)) text = text ≡ load_algorithm n
 
 -- The text of a command's sensor table, where files are told: that of a load is made.
 abbrev pub IsTableOf : (Bytes → Option Bytes) → Command → Bytes → Type 0
-IsTableOf told (sim a s) table = told s ≡ Some table
-IsTableOf told (running a h s workers) table = told s ≡ Some table
-IsTableOf told (load n) table = table ≡ load_table n
-IsTableOf told (exec a h c s workers) table = told s ≡ Some table
-IsTableOf told _ table = ⊥
+IsTableOf told (plain (sim a s)) table = told s ≡ Some table
+IsTableOf told (plain _) table = ⊥
+IsTableOf told (job (running a h s workers)) table = told s ≡ Some table
+IsTableOf told (job (exec a h c s workers)) table = told s ≡ Some table
+IsTableOf told (job (load n)) table = table ≡ load_table n
 
 -- An execution is one of the text of the command's algorithm, over the rows that the command's table has for the
 -- sensors of that text.
@@ -150,18 +152,20 @@ pub record SimulatesTrue (told : Bytes → Option Bytes) (a s output : Bytes) : 
   pub reads : rows_of algorithm.main (records default_config (strip_bom table)) ≡ Ok rows
   pub lines : output ≡ lines_taken algorithm.marks algorithm.main rows.reactions
 
+-- What is written of an algorithm on an architecture is right for what their files say.
+abbrev pub ScheduleTrue : (Bytes → Option Bytes) → ScheduleText → Bytes → Bytes → Bytes → Type 0
+ScheduleTrue told Chart a h text = ChartsTrue told a h text
+ScheduleTrue told Code a h text = CodesTrue told a h text
+
 -- What a command writes by one call is right for what its files say.
 abbrev pub WritesTrue : (Bytes → Option Bytes) → Command → Bytes → Type 0
-WritesTrue told (check a None) text = ChecksAlgorithm told a text
-WritesTrue told (check a (Some h)) text = ChecksBoth told a h text
-WritesTrue told (sim a s) text = SimulatesTrue told a s text
-WritesTrue told (flattening a) text = ListsTrue told a text
-WritesTrue told (chart a h) text = ChartsTrue told a h text
-WritesTrue told (code a h) text = CodesTrue told a h text
-WritesTrue told (dates a h g n) text = DatesTrue told a h g n text
-WritesTrue told (running a h s workers) text = ⊥
-WritesTrue told (load n) text = ⊥
-WritesTrue told (exec a h c s workers) text = ⊥
+WritesTrue told (plain (check a None)) text = ChecksAlgorithm told a text
+WritesTrue told (plain (check a (Some h))) text = ChecksBoth told a h text
+WritesTrue told (plain (algorithm_text what a)) text = TellsTrue told what a text
+WritesTrue told (plain (schedule_text what a h)) text = ScheduleTrue told what a h text
+WritesTrue told (plain (dates a h g n)) text = DatesTrue told a h g n text
+WritesTrue told (plain (sim a s)) text = SimulatesTrue told a s text
+WritesTrue told (job command) text = ⊥
 
 -- What `run` writes first is the macro-code of the program that is executed, which is read as that program, and an
 -- empty line.

@@ -33,7 +33,6 @@ use Rattle.algo_rules.specs.Text.{definitions_of}
 use Rattle.algo_rules.specs.Tree.{Vertex}
 use Rattle.algo_rules.specs.Ends.{actuator_lengths}
 use Rattle.archi_reader.specs.Canonical as architecture
-use Rattle.flat_text.specs.Listing.{listing}
 use Rattle.pressure_heuristic.specs.Computed.{table_of}
 use Rattle.pressure_heuristic.specs.Pressure.{pressure_run}
 use Rattle.pressure_heuristic.specs.Tasks.{task}
@@ -71,10 +70,26 @@ use Rattle.command_status.specs.Status.{
   of_sensors,
   usage,
 }
-use Rattle.command_words.specs.Command.{Command, check, sim, flat, chart, code, run, load, exec, dates}
+use Rattle.command_words.specs.Command.{
+  Command,
+  plain,
+  job,
+  check,
+  algorithm_text,
+  schedule_text,
+  dates,
+  sim,
+  run,
+  exec,
+  load,
+}
+use Rattle.command_words.specs.declared.table.AlgorithmText.{AlgorithmText}
+use Rattle.command_words.specs.declared.table.ScheduleText.{ScheduleText}
+use Rattle.command_words.specs.declared.table.ScheduleText.TheVariants as shown
 use Rattle.accepted_laws.specs.Elaborated.{elaboration_of}
 use Rattle.accepted_laws.specs.FlatOf.{flat_of}
 use Rattle.top_plans.specs.Given.{Given, written, printed, executed, summed, Execution, one_job, acts_of, output_of}
+use Rattle.top_plans.specs.GraphText.{graph_text}
 use Rattle.top_plans.specs.Loads.{load_algorithm, load_architecture, load_table}
 use Rattle.top_plans.specs.Checks.{lacking}
 use Rattle.syn_base.specs.Vectors.{Values}
@@ -135,9 +150,9 @@ check_plan a None = algorithm_plan a (λ defs main. give (written (canonical_tex
 check_plan a (Some h) =
     algorithm_plan a (λ defs main. architecture_plan h main (λ d t. give (written (both_texts defs d))))
 
--- the listing of the flat graph
-abbrev pub flat_plan : Bytes → Made
-flat_plan a = algorithm_plan a (λ defs main. give (written (listing (flat_of main))))
+-- The plan of a command that writes this of the algorithm in file a.
+abbrev pub text_plan : AlgorithmText → Bytes → Made
+text_plan text a = algorithm_plan a (λ defs main. give (written (graph_text text (flat_of main))))
 
 -- more elements than an output may have
 abbrev pub excess : ℕ → Option LimitFault
@@ -267,17 +282,21 @@ load_plan a h s =
     program_plan (flat_of main) d.archi t (λ p.
     execution_plan (execution main d.archi p rows) (λ e. summed e (summary e))))))
 
+-- The plan of a command that writes this of the algorithm in file a on the architecture in file h.
+abbrev pub schedule_plan : ScheduleText → Bytes → Bytes → Made
+schedule_plan shown.Chart a h = chart_plan a h
+schedule_plan shown.Code a h = code_plan a h
+
 -- The plan of a command. The number of workers makes no difference to it.
 abbrev pub plan_for : Command → Made
-plan_for (check a h) = check_plan a h
-plan_for (sim a s) = sim_plan a s
-plan_for (flat a) = flat_plan a
-plan_for (chart a h) = chart_plan a h
-plan_for (code a h) = code_plan a h
-plan_for (run a h s workers) = run_plan a h s
-plan_for (load n) = load_plan (load_algorithm n) load_architecture (load_table n)
-plan_for (exec a h c s workers) = exec_plan a h c s
-plan_for (dates a h g n) = dates_plan a h g n
+plan_for (plain (check a h)) = check_plan a h
+plan_for (plain (algorithm_text text a)) = text_plan text a
+plan_for (plain (schedule_text text a h)) = schedule_plan text a h
+plan_for (plain (dates a h g n)) = dates_plan a h g n
+plan_for (plain (sim a s)) = sim_plan a s
+plan_for (job (run a h s workers)) = run_plan a h s
+plan_for (job (exec a h c s workers)) = exec_plan a h c s
+plan_for (job (load n)) = load_plan (load_algorithm n) load_architecture (load_table n)
 
 -- the plan of the words
 abbrev pub plan_of : Option Command → Made

@@ -10,7 +10,7 @@ use Rattle.command_status.specs.Ending.{Ending, done, refused, unwritten, no_mem
 use Rattle.command_status.specs.Run.{Ran}
 use Rattle.command_status.specs.PlanAnswers.{Answers, IsOnce, RunsNone}
 use Rattle.command_status.specs.Status.{Refusal, usage}
-use Rattle.command_words.specs.Command.{Command, load, command_of}
+use Rattle.command_words.specs.Command.{Command, job, load, command_of}
 use Rattle.word_rule.specs.Driven.{Driven, driven_by}
 use Rattle.run_laws.specs.Windows.{window_jobs}
 use Rattle.top_plans.specs.Names.{names_of, RunsJobs, IsPlain}
@@ -90,7 +90,7 @@ PlainCommandsReply =
 -- A load is written by one call, so that nothing is appended with any ending but done and a fault of the output.
 abbrev pub LoadsKeep : Type 0
 LoadsKeep = (n : ℕ) (held held' : Held) (sunk sunk' : Sunk) (driven driven' : Driven) (ending : Ending Refusal)
-    → Replies (Some (load n)) held held' sunk sunk' driven driven' ending →
+    → Replies (Some (job (load n))) held held' sunk sunk' driven driven' ending →
     (ending ≡ done) ⊎ (ending ≡ unwritten) ⊎ (sunk' ≡ sunk)
 
 -- this text was appended, and the windows of the one job were run, one after another

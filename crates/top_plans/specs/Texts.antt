@@ -23,7 +23,6 @@ use Rattle.algo_print.specs.ReadBack.{Says}
 use Rattle.multi_period.specs.Meaning.{act_row_at}
 use Rattle.algo_rules.specs.declared.Defs.{Defs}
 use Rattle.algo_rules.specs.Text.{definitions_of}
-use Rattle.flat_text.specs.Listing.{listing}
 use Rattle.self_timed.specs.Text.{Described, description_of}
 use Rattle.self_timed.specs.Sequences.{sequences}
 use Rattle.self_timed.specs.Table.{Table, durations_of, entry_in}
@@ -43,7 +42,9 @@ use Rattle.dates_text.specs.Chart.{chart}
 use Rattle.dates_text.specs.Listing.{dates_text}
 use Rattle.command_status.specs.CodeText.{macro_code}
 use Rattle.command_status.specs.ReadText.{program_in}
+use Rattle.command_words.specs.declared.table.AlgorithmText.{AlgorithmText}
 use Rattle.accepted_laws.specs.Told.{Algorithm}
+use Rattle.top_plans.specs.GraphText.{graph_text}
 
 -- The written text is read as the same definitions as the text of an algorithm, its version and its marks included.
 pub record SaysAgain (text written : Bytes) : Type 0 where
@@ -102,13 +103,13 @@ module _ (told : Bytes → Option Bytes) where
     pub algorithm : SaysAgain text first
     pub architecture : DescribesAgain lines second
 
-  -- `flat A`: the listing of a graph that does the same.
-  pub record ListsTrue (a written : Bytes) : Type 0 where
+  -- `flat A`: the listing, or another text, of a graph that does the same.
+  pub record TellsTrue (what : AlgorithmText) (a written : Bytes) : Type 0 where
     pub text : Bytes
     pub text_told : told a ≡ Some text
     pub graph : Graph
     pub same : DoesTheSame text graph
-    pub listed : written ≡ listing graph
+    pub tells : written ≡ graph_text what graph
 
   -- The texts of an algorithm and of an architecture have this schedule.
   pub record Schedules (a h : Bytes) (g : Graph) (d : Described) (s : Schedule) : Type 0 where

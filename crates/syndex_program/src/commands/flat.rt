@@ -7,7 +7,8 @@ ghost use Rattle.compiler.specs.Reads.{text_in};
 ghost use Rattle.top_plans.specs.Run.{Makes};
 ghost use Rattle.top_plans.specs.FlatOf.{flat_of};
 ghost use Rattle.top_plans.specs.Shelf.{Stays};
-ghost use Rattle.top_plans.specs.Plans.{flat_plan};
+ghost use Rattle.top_plans.specs.Plans.{text_plan};
+ghost use Rattle.command_words.specs.declared.table.AlgorithmText.TheVariants.{Listing};
 
 use algo_tree::Tree;
 use compiler::{flatten_tree, read_algorithm};
@@ -23,7 +24,7 @@ pub fn listing_text<S: Shelf>(
     algorithm: &str,
 ) -> Result<Vec<u8>, Status>
     ensures stays { Stays (S.held shelf.old) (S.held shelf.new) }
-    ensures makes { Makes (S.held shelf.old) (S.held shelf.new) (flat_plan algorithm.now) (text_in result) }
+    ensures makes { Makes (S.held shelf.old) (S.held shelf.new) (text_plan Listing algorithm.now) (text_in result) }
 {
     let algorithm = read_algorithm(alloc, shelf, algorithm)?;
     Ok(print_listing(alloc, &algorithm.tree)?)

@@ -12,11 +12,8 @@ returns-in-Help-clause-carries g c = rw c.in-Help.is (c.list_text.ensures (g.S.S
 pub returns-in-Schedule-clause-carries : goal.returns-in-Schedule-clause-carries
 returns-in-Schedule-clause-carries g c = rw c.in-Schedule.is c.schedule_text.ensures.carries
 
-pub returns-in-Graph-clause-carries : goal.returns-in-Graph-clause-carries
-returns-in-Graph-clause-carries g c = rw c.in-Graph.is c.graph_text.ensures.carries
-
-pub returns-in-Table-clause-carries : goal.returns-in-Table-clause-carries
-returns-in-Table-clause-carries g c = rw c.in-Table.is c.table_text.ensures.carries
+pub returns-in-Algorithm-clause-carries : goal.returns-in-Algorithm-clause-carries
+returns-in-Algorithm-clause-carries g c = rw c.in-Algorithm.is c.algorithm_text.ensures.carries
 
 pub returns-in-Lint-clause-carries : goal.returns-in-Lint-clause-carries
 returns-in-Lint-clause-carries g c = rw c.in-Lint.is c.lint_text.ensures.carries

@@ -9,14 +9,11 @@ returns-in-Check-clause-makes g c = rw c.in-Check.is c.check_texts.ensures.makes
 pub returns-in-Sim-clause-makes : goal.returns-in-Sim-clause-makes
 returns-in-Sim-clause-makes g c = rw c.in-Sim.is c.sim_text.ensures.makes
 
-pub returns-in-Flat-clause-makes : goal.returns-in-Flat-clause-makes
-returns-in-Flat-clause-makes g c = rw c.in-Flat.is c.listing_text.ensures.makes
+pub returns-in-Algorithm-clause-makes : goal.returns-in-Algorithm-clause-makes
+returns-in-Algorithm-clause-makes g c = rw c.in-Algorithm.is c.algorithm_text.ensures.makes
 
-pub returns-in-Chart-clause-makes : goal.returns-in-Chart-clause-makes
-returns-in-Chart-clause-makes g c = rw c.in-Chart.is c.chart_text.ensures.makes
-
-pub returns-in-Code-clause-makes : goal.returns-in-Code-clause-makes
-returns-in-Code-clause-makes g c = rw c.in-Code.is c.code_text.ensures.makes
+pub returns-in-Schedule-clause-makes : goal.returns-in-Schedule-clause-makes
+returns-in-Schedule-clause-makes g c = rw c.in-Schedule.is c.schedule_text.ensures.makes
 
 pub returns-in-Dates-clause-makes : goal.returns-in-Dates-clause-makes
 returns-in-Dates-clause-makes g c = rw c.in-Dates.is c.dates_listing.ensures.makes
