@@ -19,7 +19,7 @@ sys.path.append(f"{TOP}/tools")
 from command_line import parser, run
 
 FOLDER = f"{TOP}/crates/worked_rows"
-PLACED = [("plain", "across"), ("plain", "row.across"), ("functions", "bus")]
+PLACED = [("plain", "across"), ("plain", "row.across"), ("functions", "bus"), ("first/algorithm.txt", "first/architecture.txt")]
 # What may hold for a call without a difference for its answer.
 HARMLESS = ("output", "has", "count", "gate", "shelf by bytes", "out takes", "err takes", "tell driven", "tell words")
 # A line that says what an actuator takes, and the limits that are those of a program and not of a text.

@@ -19,10 +19,11 @@ from repository import TOP
 CHECKS = {
     "listing": "crates.txt has each crate once, in a room, after what it stands on",
     "needs": "crates.txt says what each crate stands on",
-    "rooms": "the rooms in README and ARCHITECTURE are those of crates.txt",
-    "claims": "each crate has its line in CLAIMS",
+    "rooms": "the rooms in ARCHITECTURE are those of crates.txt",
+    "proved": "PROVED has what the comments of all public calls say",
     "definitions": "DEFINITIONS lists what the contracts that THEOREM names rest on",
     "names": "what the documents name is there",
+    "style": "words and long sentences in documents are within their bounds",
     "widths": "no line of a contract is too wide",
     "wrong_bodies": "each wrong body can be written, and those that CLAIMS names are there",
     "examples": "the worked rows run on the examples",
@@ -42,10 +43,10 @@ def is_data(name):
 
 def examples(left=f"{TOP}/examples", right=f"{TOP}/crates/worked_rows/data"):
     """The files of the worked rows are the examples: the data of a crate may be no link, so they
-    stand twice."""
+    are there twice."""
     found = filecmp.dircmp(left, right, ignore=[])
     for name in sorted([*filter(is_data, found.left_only), *found.right_only]):
-        yield f"{os.path.relpath(left, TOP)}/{name}: it stands on one side of the two alone"
+        yield f"{os.path.relpath(left, TOP)}/{name}: it is on one of the two sides only"
     _, differ, unread = filecmp.cmpfiles(left, right, found.common_files, shallow=False)
     for name in sorted(differ + unread):
         yield f"{os.path.relpath(left, TOP)}/{name} is not {os.path.relpath(right, TOP)}/{name}"

@@ -1,7 +1,8 @@
 #!/usr/bin/env python3
 """The processor time of the gate, crate by crate: for its proof, the code of a program, its tests and
 its wrong bodies. It is for runs by hand: `.ci/run` does not call it. Prints a line for each crate in
-minutes of a processor, the greatest first, and the sums. The log of `rt ci` has no times itself."""
+minutes of a processor, the greatest first, and the sums. The log of `rt ci` has no times itself.
+docs/CONTRIBUTING.md is the one document with these figures: `ci --write` puts the sums there."""
 import argparse
 import os
 import shutil
@@ -23,6 +24,10 @@ nothing, the proof from nothing, and the wrong bodies. Crates below those named 
 unmeasured. What earlier checks kept is not used for those named."""
 TICK = os.sysconf("SC_CLK_TCK")
 KINDS = ("proof", "code", "tests", "edits")
+# The document with the sums, between these marks, and how it names the kinds of work.
+PAGE = f"{TOP}/docs/CONTRIBUTING.md"
+BEGIN, END = "<!-- cost: made by tools/gate.py -->", "<!-- cost: end -->"
+NAMED = {"proof": "proofs", "code": "code of programs", "tests": "tests", "edits": "wrong bodies"}
 # Memory for each proof that runs beside others, in bytes: the largest takes 5 GB, most take 1 to 2.
 MEMORY = 4_000_000_000
 
@@ -42,7 +47,10 @@ class Table:
         print(f"{'crate':24}{head}  minutes of a processor")
         for name, row in sorted(self.seconds.items(), key=lambda it: -sum(it[1].values())):
             self.line(name, [row[kind] for kind in KINDS])
-        self.line("all", [sum(row[kind] for row in self.seconds.values()) for kind in KINDS])
+        self.line("all", self.sums().values())
+
+    def sums(self):
+        return {kind: sum(row[kind] for row in self.seconds.values()) for kind in KINDS}
 
     def line(self, name, seconds):
         print(f"{name:24}" + "".join(f"{it / 60:8.1f}" for it in [*seconds, sum(seconds)]), flush=True)
@@ -105,8 +113,18 @@ def lanes():
     return max(1, min(len(os.sched_getaffinity(0)), memory // MEMORY))
 
 
-def measure_ci():
-    """Runs the gate with its own output, and prints the table."""
+def write_sums(sums, clock):
+    """Puts the sums of a run from nothing into the page, in minutes."""
+    rows = [(NAMED[kind], sums[kind]) for kind in KINDS] + [("together", sum(sums.values())), ("by the clock", clock)]
+    head = "| part | minutes |\n|---|---:|\n"
+    made = head + "".join(f"| {name} | {seconds / 60:.0f} |\n" for name, seconds in rows)
+    before, _, rest = text_of(PAGE).partition(BEGIN)
+    with open(PAGE, "w", encoding="utf-8") as it:
+        it.write(f"{before}{BEGIN}\n\n{made}\n{END}{rest.partition(END)[2]}")
+
+
+def measure_ci(write):
+    """Runs the gate with its own output, prints the table, and puts its sums into the page if they are to be there."""
     start = time.monotonic()
     how = {"cwd": TOP, "stdin": subprocess.DEVNULL, "env": {"RT_JOBS": str(lanes()), **os.environ}}
     with subprocess.Popen(["rt", "ci"], **how) as process:
@@ -118,7 +136,10 @@ def measure_ci():
             process.wait()
             return process.returncode
     table.show()
-    print(f"{(time.monotonic() - start) / 60:.1f} minutes in all; rt ci ended with status {process.returncode}")
+    clock = time.monotonic() - start
+    print(f"{clock / 60:.1f} minutes in all; rt ci ended with status {process.returncode}")
+    if write and not process.returncode:
+        write_sums(table.sums(), clock)
     return process.returncode
 
 
@@ -183,7 +204,8 @@ def add_part(parts, name, text, line):
 def options():
     words = parser(__doc__)
     parts = words.add_subparsers(dest="part", required=True)
-    add_part(parts, "ci", CI, "measure a whole run of rt ci")
+    whole = add_part(parts, "ci", CI, "measure a whole run of rt ci")
+    whole.add_argument("--write", action="store_true", help="put the sums of a run from nothing into docs/CONTRIBUTING.md")
     names = add_part(parts, "parts", MEASURED, "measure the parts of some crates, or of all")
     names.add_argument("names", nargs="*", type=one_of(Listing().rows), metavar="NAME", help="a crate; all if left out")
     return words.parse_args()
@@ -192,7 +214,7 @@ def options():
 def main():
     given = options()
     need_command("rt", "the kit")
-    return measure_ci() if given.part == "ci" else measure_parts(given.names)
+    return measure_ci(given.write) if given.part == "ci" else measure_parts(given.names)
 
 
 if __name__ == "__main__":

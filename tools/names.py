@@ -30,7 +30,7 @@ FORM = re.compile(r"File\.name|[A-Z]+\.[A-Z]+")
 WORD = re.compile(r"[^\W\d]\w*")
 # A word that is a name of the code and no word of a language.
 CODED = re.compile(r"\w*(?:[^\W_]_[^\W_]|[a-z][A-Z])\w*")
-DECLARED = re.compile(r"\b(?:fn|struct|enum|trait|const|static|type|mod|macro_rules!)\s+(\w+)")
+DECLARED = re.compile(r"\b(?:fn|struct|enum|trait|const(?! fn)|static|type|mod|macro_rules!)\s+(\w+)")
 # What a row or a list item begins with, where it begins with the crates that it is about.
 ABOUT = re.compile(r"\| *((?:`\w+`(?:, *)?)+) *\||- \*\*[^*]+\*\* \(([^)]*)\)")
 # What joins names that stand with the same crate.

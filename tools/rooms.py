@@ -1,9 +1,9 @@
 #!/usr/bin/env python3
-"""Writes the rooms of the repository into README.md and docs/ARCHITECTURE.md, between marker comments.
+"""Writes the rooms of the repository into docs/ARCHITECTURE.md, between marker comments.
 
 Rooms, parts and their sentences come from crates.txt, in its order; what a crate is comes from the
 first paragraph of the file that it begins with. So each sentence about a crate has one source.
-Reports, with status 1, which of the two could not be written, and which heading of the pages that go by
+Reports, with status 1, if the page could not be written, and which heading of the pages that go by
 rooms is the name of no room."""
 import textwrap
 
@@ -52,27 +52,18 @@ def room_list(listing):
     return "\n\n".join(filter(None, parts))
 
 
-def room_table(listing):
-    """A row for each room."""
-    rows = ["| room | crates |", "|---|---|"]
-    for room in listing.rooms:
-        names = ", ".join(f"`{it}`" for it in room.crates)
-        rows.append(f"| **{room.name}.** {room.sentence()} | {names} |")
-    return "\n".join(rows)
-
-
-MADE = {"README.md": room_table, "docs/ARCHITECTURE.md": room_list}
+PATH = "docs/ARCHITECTURE.md"
 # Pages that are written by hand in the order of the rooms, which are their headings.
 BY_ROOM = ("docs/PROOFS_BY_CRATE.md",)
 
 
-def written(listing, path, make):
-    """The text of a file with its made part anew, or None where the markers are not there once."""
-    text = text_of(f"{listing.top}/{path}")
+def written(listing):
+    """The text of the page, and the same with its made part anew, or None if the markers are not there once."""
+    text = text_of(f"{listing.top}/{PATH}")
     if text.count(BEGIN) != 1 or text.count(END) != 1 or text.index(BEGIN) > text.index(END):
         return text, None
     before, _, rest = text.partition(BEGIN)
-    return text, f"{before}{BEGIN}\n\n{make(listing)}\n\n{END}{rest.partition(END)[2]}"
+    return text, f"{before}{BEGIN}\n\n{room_list(listing)}\n\n{END}{rest.partition(END)[2]}"
 
 
 def of_headings(listing, path):
@@ -95,31 +86,29 @@ def faults():
     for name in listing.rows:
         if not first_paragraph(f"{listing.top}/crates/{name}"):
             yield f"crates/{name}: its first file does not begin with //! and what the crate is"
-    for path, make in MADE.items():
-        text, made = written(listing, path, make)
-        if made is None:
-            yield f"{path}: it needs one line {BEGIN} and after it one line {END}"
-        elif made != text:
-            yield f"{path}: its rooms are not those of crates.txt and the crates: run tools/rooms.py"
+    text, made = written(listing)
+    if made is None:
+        yield f"{PATH}: it needs one line {BEGIN} and after it one line {END}"
+    elif made != text:
+        yield f"{PATH}: its rooms are not those of crates.txt and the crates: run tools/rooms.py"
     for path in BY_ROOM:
         yield from of_headings(listing, path)
 
 
 def options():
     words = parser(__doc__)
-    check = "write nothing, and report which of the two is not as it would be written"
+    check = "write nothing, and report whether the page is as it would be written"
     words.add_argument("--check", action="store_true", help=check)
     return words.parse_args()
 
 
 def main():
     given, listing = options(), Listing()
-    for path, make in () if given.check else MADE.items():
-        text, made = written(listing, path, make)
-        if made not in (None, text):
-            with open(f"{listing.top}/{path}", "w", encoding="utf-8") as it:
-                it.write(made)
-            print(f"{path}: its rooms are written anew")
+    text, made = written(listing)
+    if not given.check and made not in (None, text):
+        with open(f"{listing.top}/{PATH}", "w", encoding="utf-8") as it:
+            it.write(made)
+        print(f"{PATH}: its rooms are written anew")
     return print_lines(faults())
 
 

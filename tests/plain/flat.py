@@ -1,4 +1,5 @@
 """The operations of an algorithm without marks, in the order that docs/MANUAL.md gives, with their sources."""
+from plain.wires import Wires
 
 
 class Operation:
@@ -21,7 +22,7 @@ class Operation:
 
 class Flat:
     def __init__(self, defs):
-        self.defs, self.all = defs, []
+        self.defs, self.all, self.wires = defs, [], Wires(defs)
         self.unit("main", "", None, [])
         for it in self.all:
             it.sources = [take() for take in it.takers]
@@ -38,7 +39,9 @@ class Flat:
 
     def unit(self, name, path, take, guards):
         """What gives the source of each output of this unit; `take` gives the source of each input."""
-        it = self.defs[name]
+        it, wire = self.defs[name], self.wires.of(name)
+        if wire is not None:
+            return lambda port: take(wire[port])
         if it.kind == "delay":
             return self.delay(it, path, take, guards)
         if it.kind in ("graph", "switch", "repeat"):

@@ -1,6 +1,7 @@
 """What each actuator takes in each reaction, by the meaning of an algorithm that docs/MANUAL.md gives: values are
 asked for where they are needed, and no operation is placed or ordered."""
 from plain import expression
+from plain.wires import Wires
 
 
 class Meaning:
@@ -8,6 +9,7 @@ class Meaning:
 
     def __init__(self, defs):
         self.defs, self.cells, self.kept = defs, {}, {}
+        self.wires = Wires(defs)
         self.row, self.values, self.number = {}, {}, 0
 
     def react(self, row):
@@ -58,6 +60,9 @@ class Meaning:
     # ---- any definition ----
 
     def out(self, name, path, take, port):
+        wire = self.wires.of(name)
+        if wire is not None:
+            return take(wire[port])
         if (path, port) not in self.values:
             self.values[path, port] = self.value(self.defs[name], path, take, port)
         return self.values[path, port]
@@ -110,6 +115,8 @@ class Meaning:
 
     def advance(self, name, path, take, after):
         it = self.defs[name]
+        if self.wires.of(name) is not None:
+            return
         if it.kind == "delay":
             after[path] = self.cell(path, it)[1:] + [take("i")]
         elif it.kind == "graph":

@@ -9,9 +9,11 @@ use Rattle.multi_period.specs.declared.mark.Mark.{Mark}
 use Rattle.multi_period.specs.Marks.{mark_at}
 use Rattle.multi_period.specs.Periods.{keep, body, period, period_by, all_periods, periods}
 use Rattle.elaboration.specs.Laws.{IsElaborated}
+use Rattle.elaboration.specs.Pruned.{pruned}
 use Rattle.elaboration.proofs.Resolved.{not_refused, same_tree}
 use Rattle.elaboration.proofs.Whole.{accepted_elaborated}
 use Rattle.accepted_laws.specs.TextLines.{IsVertexOfText, AreVerticesOfText, ElaboratedLinesStandInTextOrder}
+use Rattle.accepted_laws.proofs.PrunedEnds.{of-text-pruned}
 use Rattle.accepted_laws.proofs.Trees.{stand_in_order}
 use Rattle.syn_base.specs.Numbers.{numbers_below}
 
@@ -42,4 +44,4 @@ elaborated_in_order text defs made says e =
     let none = not_refused ds is.resolved is.resolves in
     let same : tree_of ds ≡ is.resolved = same_tree (tree_of ds) is.resolved (sym (ap (resolved_by ds) none) ∙ is.resolves) in
     let stands = subst (IsVertexOfText ds) same (stand_in_order ds (accepted_well text defs says) none) in
-    subst (IsVertexOfText ds) (sym is.made_is) (periods_of_text ds is.marks is.resolved stands)
+    subst (IsVertexOfText ds) (sym is.made_is) (periods_of_text ds is.marks (pruned is.resolved) (of-text-pruned ds is.resolved stands))

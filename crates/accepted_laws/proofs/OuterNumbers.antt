@@ -53,7 +53,8 @@ module _ (copies : ℕ) (inner : Ports) (own : List Port) where
   here before x len rest e h =
       ap (λ (ps : List Port). number_of ps x) e ∙ number_at before x len rest (subst (λ (ps : List Port). AreDistinctNames (port_names ps)) e h)
 
-  pub numbers : (ls : List FrontierLine) (before : List Port) → own ≡ before ++ flat_map (λ l. outer_ins copies inner l.frontier) ls → AreDistinctNames (port_names own) → NumbersLines own (length before) ls
+  pub numbers : (ls : List FrontierLine) (before : List Port) → own ≡ before ++ flat_map (λ l. outer_ins copies inner l.frontier) ls
+      → AreDistinctNames (port_names own) → NumbersLines own (length before) ls
   numbers [] before e h = tt
   numbers (l ∷ ls) before e h = by l.frontier e (λ b k. numbers ls b k h)
     where

@@ -1,5 +1,34 @@
 -- The lines of a repetition in order are those of the text: each puts itself before all that are left.
-use Rattle.std.proofs.Common.{◌≡◌, ℕ, suc, ◌<◌, ◌≤◌, nat_le, Bool, true, false, ◌||◌, List, [], ◌∷◌, ◌++◌, map, Option, Some, None, refl, ap, ap₂, sym, subst, ◌∙◌, arith, append_assoc, append-nil, if◌then◌else◌}
+use Rattle.std.proofs.Common.{
+  ◌≡◌,
+  ℕ,
+  suc,
+  ◌<◌,
+  ◌≤◌,
+  nat_le,
+  Bool,
+  true,
+  false,
+  ◌||◌,
+  List,
+  [],
+  ◌∷◌,
+  ◌++◌,
+  map,
+  Option,
+  Some,
+  None,
+  refl,
+  ap,
+  ap₂,
+  sym,
+  subst,
+  ◌∙◌,
+  arith,
+  append_assoc,
+  append-nil,
+  if◌then◌else◌,
+}
 use Rattle.std.specs.Str.{bytes_eq}
 use Rattle.std.proofs.lemmas.Bool.{le-leb, lt-leb}
 use Rattle.std.proofs.lemmas.Slice.Eq.{bytes_eq-Decides}
@@ -105,7 +134,8 @@ module _ (inner own : Ports) (rest : Bytes → Feed) (f : Feed) (x : Bytes) (use
   greater [] h go = tt
   greater (p ∷ ps) h go = by (is_among p.name by_now) refl (greater ps h.1 go)
     where
-      by : (b : Bool) → is_among p.name by_now ≡ b → AllLines (λ g. outer_of f < outer_of g) (map (λ p. rest p.name) (left by_now ps)) → AllLines (λ g. outer_of f < outer_of g) (map (λ p. rest p.name) (left by_now (p ∷ ps)))
+      by : (b : Bool) → is_among p.name by_now ≡ b → AllLines (λ g. outer_of f < outer_of g) (map (λ p. rest p.name) (left by_now ps))
+          → AllLines (λ g. outer_of f < outer_of g) (map (λ p. rest p.name) (left by_now (p ∷ ps)))
       by true e later = subst (λ (qs : List Port). AllLines (λ g. outer_of f < outer_of g) (map (λ p. rest p.name) qs)) (sym (left_used by_now p ps e)) later
       by false e later =
           subst (λ (qs : List Port). AllLines (λ g. outer_of f < outer_of g) (map (λ p. rest p.name) qs)) (sym (left_new by_now p ps e)) (go p.name (used_after p.name h.0 e), later)
@@ -193,7 +223,8 @@ module _ (copies : ℕ) (inner own : Ports) where
     sorted [] used n there fresh numbered all = ap (λ (qs : List Port). in_line_order (map (λ p. fed_by [] p.name) qs)) (none_left used ps all)
     sorted (l ∷ ls) used n there fresh numbered all = by l.frontier there.0 fresh.0 fresh.1 numbered all (λ v m i j k. sorted ls v m there.1 i j k)
       where
-        one : (x : Bytes) (g : Feed) → outer_of g ≡ n → has_port ps x ≡ true → is_among x used ≡ false → AreFresh copies inner (used ++ x ∷ []) ls → NumbersLines own.ins (suc n) ls → AllUsed (used ++ x ∷ uses ls)
+        one : (x : Bytes) (g : Feed) → outer_of g ≡ n → has_port ps x ≡ true → is_among x used ≡ false
+            → AreFresh copies inner (used ++ x ∷ []) ls → NumbersLines own.ins (suc n) ls → AllUsed (used ++ x ∷ uses ls)
             → ((v : List Bytes) (m : ℕ) → AreFresh copies inner v ls → NumbersLines own.ins m ls → AllUsed (v ++ uses ls) → IsSorted v ls)
             → in_line_order (map (λ p. first_feed inner own (if bytes_eq p.name x then Some g else None) (fed_by ls p.name)) (left used ps)) ≡ g ∷ text_feeds inner own ls
         one x g at is new fresh_rest numbers used_all go =
@@ -201,7 +232,8 @@ module _ (copies : ℕ) (inner own : Ports) where
             one_line inner own (fed_by ls) g x used (uses ls) ps distinct is new now (λ w k. let le = later ls (suc n) numbers w k in omega (arith, le, at))
             ∙ ap (λ (gs : List Feed). g ∷ gs) (go (used ++ x ∷ []) (suc n) fresh_rest numbers now)
 
-        by : (f : Frontier) → Each (λ x. has_port ps x ≡ true) (used_by f) → IsFresh copies inner used f → AreFresh copies inner (used ++ used_by f) ls → NumbersLine own.ins n f (NumbersLines own.ins (suc n) ls) (NumbersLines own.ins n ls)
+        by : (f : Frontier) → Each (λ x. has_port ps x ≡ true) (used_by f) → IsFresh copies inner used f
+            → AreFresh copies inner (used ++ used_by f) ls → NumbersLine own.ins n f (NumbersLines own.ins (suc n) ls) (NumbersLines own.ins n ls)
             → AllUsed (used ++ (used_by f ++ uses ls))
             → ((v : List Bytes) (m : ℕ) → AreFresh copies inner v ls → NumbersLines own.ins m ls → AllUsed (v ++ uses ls) → IsSorted v ls)
             → in_line_order (map (λ p. first_feed inner own (feed_by inner own p.name f) (fed_by ls p.name)) (left used ps)) ≡ feeds_by inner own f ++ text_feeds inner own ls

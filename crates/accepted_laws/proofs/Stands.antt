@@ -19,11 +19,9 @@ use Rattle.flat_laws.specs.Flat.{Operation, Task, runs, gets, sets}
 use Rattle.flat_laws.specs.Inlined.{wire, wirings, stages, inlined_by, inlined, inlined_all, operations}
 use Rattle.flat_laws.specs.Plain.{IsKindPlain, IsPlain, AllPlain}
 use Rattle.flat_laws.specs.Unrolled.{unroll}
-use Rattle.flat_laws.proofs.UnrolledNames.{names-unroll}
 use Rattle.flat_laws.proofs.Unrepeated.{no-unroll}
 use Rattle.flat_laws.proofs.UnrolledTrees.{tree-unroll}
 use Rattle.flat_laws.specs.Guarded.{guard}
-use Rattle.flat_laws.proofs.GuardedNames.{names-guard}
 use Rattle.flat_laws.proofs.GuardedTrees.{tree-guard}
 use Rattle.flat_laws.specs.FlatOf.{flat_source, flat_guard, flat_kind, twin_of, body_of, vertices_from, bodies_of, graph_of, flat_of}
 use Rattle.flat_laws.specs.Stands.{task_of, IsTwin, AllStand, Stands}
@@ -157,19 +155,19 @@ outs-made ops = outs-from (graph_of ops).vertices 0 ops (λ i op is p. subst (λ
 inlined-stands : (main : tree.Vertex) → IsTree main → IsPlain main → Stands (graph_of (operations main)) (operations main)
 inlined-stands main h plain =
     let ops = operations main in
-    stand-all (graph_of ops).vertices (bodies_of ops) [] None 0 0 ops refl refl (sole-main main plain) (fit-main (long (graph_of ops).vertices) (λ k. refl) main h plain (outs-made ops)) (follow-main main) tt
+    stand-all (graph_of ops).vertices (bodies_of ops) [] None 0 0 ops refl refl (sole-main main plain)
+    (fit-main (long (graph_of ops).vertices) (λ k. refl) main h plain (outs-made ops)) (follow-main main) tt
 
 pub flat_of_stands : FlatOfStands
 flat_of_stands main h =
     inlined-stands (guard (unroll main)) (tree-guard (unroll main) (tree-unroll main h) (no-unroll main)) (flattened.flattened-plain main h)
 
 pub trees_have_flat : TreesHaveFlat
-trees_have_flat main h names bounds =
+trees_have_flat main h =
     let stands = flat_of_stands main h in
-    let named = names-guard (unroll main) (tree-unroll main h) (names-unroll main h names) in
     record {
       tree = h;
-      valid = flattened.flattened-flat main h (flat_of main) stands named bounds;
+      valid = flattened.flattened-flat main h (flat_of main) stands;
       lengths = flattened.flattened-lengths main h (flat_of main) stands;
       taken = λ rows k. (flattened.flattened-keeps main h (flat_of main) stands).taken rows k;
     }

@@ -1,5 +1,38 @@
 -- The rows of a table that is accepted are cut as the sensors are.
-use Rattle.std.proofs.Common.{◌≡◌, ℕ, zero, suc, ◌+◌, ◌-◌, ◌==◌, ◌<◌, Bool, true, false, List, [], ◌∷◌, map, drop, length, sum, Result, Ok, Err, refl, sym, ap, ap₂, subst, ◌∙◌, arith, ℤ, length-take, length-drop, min}
+use Rattle.std.proofs.Common.{
+  ◌≡◌,
+  ℕ,
+  zero,
+  suc,
+  ◌+◌,
+  ◌-◌,
+  ◌==◌,
+  ◌<◌,
+  Bool,
+  true,
+  false,
+  List,
+  [],
+  ◌∷◌,
+  map,
+  drop,
+  length,
+  sum,
+  Result,
+  Ok,
+  Err,
+  refl,
+  sym,
+  ap,
+  ap₂,
+  subst,
+  ◌∙◌,
+  arith,
+  ℤ,
+  length-take,
+  length-drop,
+  min,
+}
 use Rattle.std.specs.Prelude.{if◌then◌else◌, nat_lt, slice_index_or}
 use Rattle.std.proofs.lemmas.Bool.{eqb-true}
 use Rattle.std.proofs.lemmas.List.Sums.{sum_by-cons}
@@ -45,7 +78,8 @@ cut_long : (lens : List ℕ) (vs : List ℤ) → length vs ≡ sum lens → map 
 cut_long [] vs e = refl
 cut_long (n ∷ ns) vs e =
     let s : sum (n ∷ ns) ≡ n + sum ns = sum_by-cons (λ x. x) n ns in
-    ap₂ (λ (m : ℕ) (ms : List ℕ). m ∷ ms) (length-take n vs ∙ (let z : min n (length vs) ≡ n = omega (arith, e, s) in z)) (cut_long ns (drop n vs) (length-drop n vs ∙ (let z : length vs - n ≡ sum ns = omega (arith, e, s) in z)))
+    ap₂ (λ (m : ℕ) (ms : List ℕ). m ∷ ms) (length-take n vs ∙ (let z : min n (length vs) ≡ n = omega (arith, e, s) in z))
+    (cut_long ns (drop n vs) (length-drop n vs ∙ (let z : length vs - n ≡ sum ns = omega (arith, e, s) in z)))
 
 numbers_long : (column : ℕ) (fields : Record) (vs : List ℤ) → numbers_from column fields ≡ Ok vs → length vs ≡ length fields
 numbers_long column [] vs e = ap length (sym (same_ok [] vs e))
@@ -61,7 +95,9 @@ values_long columns k (index ∷ fields) vs e = by (suc (length fields) == colum
     within true q = numbers_long 1 fields vs q
     within false q = absurd (not_ok BadIndex vs q)
 
-    by : (b : Bool) → (suc (length fields) == columns) ≡ b → (if b then (if is_number k (integer_of index) then numbers_from 1 fields else Err BadIndex) else Err (BadCount (suc (length fields)) columns)) ≡ Ok vs → suc (length vs) ≡ columns
+    by : (b : Bool) → (suc (length fields) == columns) ≡ b
+        → (if b then (if is_number k (integer_of index) then numbers_from 1 fields else Err BadIndex) else Err
+        (BadCount (suc (length fields)) columns)) ≡ Ok vs → suc (length vs) ≡ columns
     by true t q = ap suc (within (is_number k (integer_of index)) q) ∙ eqb-true (suc (length fields)) columns t
     by false t q = absurd (not_ok (BadCount (suc (length fields)) columns) vs q)
 
@@ -81,7 +117,9 @@ rows_long lens k [] rows e i l = absurd (let z = ap length (same_ok [] rows e) i
 rows_long lens k (fields ∷ records) rows e i l = let w = were_both (row_of lens k fields) (rows_from lens (suc k) records) rows e in
     subst (λ (xs : List Row). i < length xs → map length (slice_index_or xs i []) ≡ lens) w.4 (by w.0 w.1 w.2 (λ j m. rows_long lens (suc k) records w.1 w.3 j m) i) l
   where
-    by : (a : Row) (as' : List Row) → row_of lens k fields ≡ Ok a → ((j : ℕ) → j < length as' → map length (slice_index_or as' j []) ≡ lens) → (i : ℕ) → i < length (a ∷ as') → map length (slice_index_or (a ∷ as') i []) ≡ lens
+    by : (a : Row) (as' : List Row) → row_of lens k fields ≡ Ok a
+        → ((j : ℕ) → j < length as' → map length (slice_index_or as' j []) ≡ lens) → (i : ℕ) → i < length (a ∷ as')
+        → map length (slice_index_or (a ∷ as') i []) ≡ lens
     by a as' p q zero l = row_long lens k fields a p
     by a as' p q (suc i) l = q i (omega (arith, l))
 

@@ -13,7 +13,9 @@ use Rattle.sensor_table.specs.Columns.{columns_of, columns_in, header_of}
 use Rattle.sensor_table.specs.declared.fault.SensorCause.TheVariants.{BadHeader}
 use Rattle.sensor_table.specs.SensorTable.{reactions_of, refused, rows_of}
 use Rattle.elaboration.specs.Laws.{IsElaborated}
-use Rattle.elaboration.proofs.Resolved.{sound}
+use Rattle.elaboration.specs.Pruned.{pruned}
+use Rattle.elaboration.proofs.PrunedMarks.{marked-pruned}
+use Rattle.elaboration.proofs.Resolved.{resolved_tree}
 use Rattle.elaboration.proofs.Whole.{accepted_elaborated}
 use Rattle.algo_laws.specs.Parts.{name_of}
 use Rattle.algo_laws.specs.Tree.{
@@ -40,6 +42,7 @@ use Rattle.algo_laws.specs.Ends.{first_length, sensor_length, sensor_lengths, se
 use Rattle.algo_laws.specs.Meaning.{vertices_in, act_row}
 use Rattle.algo_laws.proofs.Lines.{accepted_well}
 use Rattle.accepted_laws.specs.Told.{Algorithm, DoesAsTold, AcceptedDoAsTold}
+use Rattle.accepted_laws.proofs.PrunedEnds.{names-pruned, tables-pruned}
 use Rattle.syn_base.specs.Vectors.{Values}
 
 -- what may be marked is no sensor and no actuator
@@ -143,7 +146,9 @@ module _ (marks : List Mark) where
 pub accepted_do_as_told : AcceptedDoAsTold
 accepted_do_as_told text defs made says e =
     let is = accepted_elaborated text defs made says e in
-    let tree = (sound defs.defs is.resolved (accepted_well text defs says) is.resolves).tree in (
+    let tree = resolved_tree defs.defs is.resolved (accepted_well text defs says) is.resolves in
+    let cut = pruned is.resolved in
+    let stand = marked-pruned is.marks is.resolved is.may.stand in (
       record {
         defs = defs;
         main = is.resolved;
@@ -153,10 +158,10 @@ accepted_do_as_told text defs made says e =
         marked = is.marked;
       },
       record {
-        tables = λ records. ap (λ u. rows_of u records) is.made_is ∙ same_tables is.marks is.resolved is.may.stand records;
-        names = ap actuator_names is.made_is ∙ same_names is.marks is.resolved is.may.stand;
+        tables = λ records. ap (λ u. rows_of u records) is.made_is ∙ same_tables is.marks cut stand records ∙ tables-pruned is.resolved records;
+        names = ap actuator_names is.made_is ∙ same_names is.marks cut stand ∙ names-pruned is.resolved;
         takes = is.meaning;
-        unmarked = λ none. is.made_is ∙ ap (λ ms. periods ms is.resolved) none ∙ unmarked-stays is.resolved;
+        unmarked = λ none. is.made_is ∙ ap (λ ms. periods ms cut) none ∙ unmarked-stays cut;
         plain = λ none rows k. ap (λ ms. act_row_at ms is.resolved rows k) none ∙ unmarked is.resolved tree rows k;
       },
     )

@@ -37,7 +37,8 @@ use Rattle.accepted_laws.proofs.OuterNumbers.{numbers, outer_numbers}
 use Rattle.accepted_laws.proofs.Sorted.{lines_sorted}
 
 -- the explodes of the lines of a text
-explodes_are : (p : Path) (cs : List Condition) (d : Bytes) (ins : List Origin) (copies : ℕ) (inner own : Ports) (ls : List FrontierLine) → explode_rows p cs d ins copies (text_feeds inner own ls) ≡ text_explodes p cs d ins copies inner own ls
+explodes_are : (p : Path) (cs : List Condition) (d : Bytes) (ins : List Origin) (copies : ℕ) (inner own : Ports) (ls : List FrontierLine)
+    → explode_rows p cs d ins copies (text_feeds inner own ls) ≡ text_explodes p cs d ins copies inner own ls
 explodes_are p cs d ins copies inner own [] = refl
 explodes_are p cs d ins copies inner own (l ∷ ls) = by l.frontier (explodes_are p cs d ins copies inner own ls)
   where
@@ -52,7 +53,8 @@ module _ (ds : List Def) (make : Making) where
   abbrev MakesOfText : Type 0
   MakesOfText = (part : Part) (w : Bytes) (ins : List Source) (s a : ℕ) → IsVertexOfText ds (make part w ins s a)
 
-  references_of_text : MakesOfText → (ins : List Port) (all : List Reference) (edges : List Edge) (s a : ℕ) (rs : List Reference) → AreVerticesOfText ds (vertices_of (references_from ds make ins all edges s a rs))
+  references_of_text : MakesOfText → (ins : List Port) (all : List Reference) (edges : List Edge) (s a : ℕ) (rs : List Reference)
+      → AreVerticesOfText ds (vertices_of (references_from ds make ins all edges s a rs))
   references_of_text h ins all edges s a [] = tt
   references_of_text h ins all edges s a (r ∷ rs) =
       (h (Named r.name) r.def _ s a, references_of_text h ins all edges (s + sensor_count (definition ds r.def)) (a + actuator_count (definition ds r.def)) rs)

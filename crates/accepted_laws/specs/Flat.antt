@@ -3,8 +3,6 @@ use Rattle.std.specs.Prelude.{◌≡◌, ℕ, true, List}
 use Rattle.algo_laws.specs.Tree.{Vertex}
 use Rattle.algo_laws.specs.Valid.{IsTree}
 use Rattle.algo_laws.specs.Meaning.{act_row}
-use Rattle.algo_laws.specs.Named.{HasNames}
-use Rattle.algo_laws.specs.Bounded.{HasBounds}
 use Rattle.flat_graph.specs.Graph.{Graph}
 use Rattle.flat_graph.specs.Valid.{is_flat}
 use Rattle.flat_graph.specs.Meaning.{initial_cells, flat_act_row}
@@ -28,10 +26,9 @@ pub record HasFlat (main : Vertex) : Type 0 where
   pub taken : (rows : List Values) (k : ℕ) →
       flat_act_row (flat_of main) rows (initial_cells (flat_of main).vertices) k ≡ act_row main rows k
 
--- If a tree is valid, has its names and is within its bounds, then its flat graph is valid and
--- takes in each reaction what the tree takes.
+-- The flat graph of every tree is valid, and its actuators take in each reaction what those of the tree take.
 abbrev pub TreesHaveFlat : Type 0
-TreesHaveFlat = (main : Vertex) → IsTree main → HasNames main → HasBounds main → HasFlat main
+TreesHaveFlat = (main : Vertex) → IsTree main → HasFlat main
 
 -- Any flat graph that stands for the tree, in each reaction over all rows, from the initial values of its delays.
 abbrev pub FlatTakesTheSame : Type 0

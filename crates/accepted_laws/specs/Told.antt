@@ -10,6 +10,7 @@ use Rattle.algo_laws.specs.Tree.{Vertex}
 use Rattle.algo_laws.specs.Meaning.{act_row}
 use Rattle.elaboration.specs.Marking.{marking_of}
 use Rattle.elaboration.specs.Elaborated.{elaboration_of}
+use Rattle.elaboration.specs.Pruned.{pruned}
 use Rattle.act_text.specs.Names.{actuator_names}
 use Rattle.act_text.specs.Text.{output_text}
 use Rattle.sensor_table.specs.SensorTable.{rows_of}
@@ -35,12 +36,13 @@ abbrev pub lines_taken : List Mark → Vertex → List Values → Bytes
 lines_taken marks main rows = output_text (actuator_names main) (taken marks main rows)
 
 -- The made tree has the sensors and actuators of the text's tree, and its actuators take in each reaction, over all
--- rows, what those of the text take. Where nothing is marked it is the text's tree, with the synchronous meaning.
+-- rows, what those of the text take. If nothing is marked it is the pruned tree of the text, and the text has the
+-- synchronous meaning.
 pub record DoesAsTold (marks : List Mark) (main made : Vertex) : Type 0 where
   pub tables : (records : List (List (List ℕ))) → rows_of made records ≡ rows_of main records
   pub names : actuator_names made ≡ actuator_names main
   pub takes : (rows : List Values) (k : ℕ) → act_row made rows k ≡ act_row_at marks main rows k
-  pub unmarked : marks ≡ [] → made ≡ main
+  pub unmarked : marks ≡ [] → made ≡ pruned main
   pub plain : marks ≡ [] → (rows : List Values) (k : ℕ) → act_row_at marks main rows k ≡ act_row main rows k
 
 -- The tree that the definitions of an accepted text mean does what the text says.

@@ -29,17 +29,21 @@ empty n os ds e = record {
 }
 
 -- a decision whose operation has no operator yet
-pub noted : (n : ℕ) (os : List (Option ℕ)) (d : Decision) (left ds : List Decision) → IsFilled n os (d ∷ left) ds → d.op < n → operator_at os d.op ≡ None → IsFilled n (slice_set os d.op (Some d.operator)) left ds
+pub noted : (n : ℕ) (os : List (Option ℕ)) (d : Decision) (left ds : List Decision) → IsFilled n os (d ∷ left) ds → d.op < n
+    → operator_at os d.op ≡ None → IsFilled n (slice_set os d.op (Some d.operator)) left ds
 noted n os d left ds f less none = record { each = length-set os d.op (Some d.operator) ∙ f.each; same = λ v. by v (d.op == v) refl ∙ f.same v }
   where
     by : (v : ℕ) (b : Bool) → (d.op == v) ≡ b → first_of (operator_at (slice_set os d.op (Some d.operator)) v) (operator_of left v) ≡ first_of (operator_at os v) (operator_of (d ∷ left) v)
     by v true e =
         let at : d.op ≡ v = eqb-true d.op v e in
         let low : d.op < length os = let z = f.each in omega arith in
-        let here : operator_at (slice_set os d.op (Some d.operator)) v ≡ Some d.operator = ap (λ (k : ℕ). operator_at (slice_set os d.op (Some d.operator)) k) (sym at) ∙ get_or-set_same os d.op (Some d.operator) None low in
+        let here : operator_at (slice_set os d.op (Some d.operator)) v
+        ≡ Some d.operator = ap (λ (k : ℕ). operator_at (slice_set os d.op (Some d.operator)) k) (sym at)
+        ∙ get_or-set_same os d.op (Some d.operator) None low in
         let before : operator_at os v ≡ None = ap (λ (k : ℕ). operator_at os k) (sym at) ∙ none in
         ap (λ (o : Option ℕ). first_of o (operator_of left v)) here
-        ∙ sym (ap (λ (o : Option ℕ). first_of o (operator_of (d ∷ left) v)) before ∙ ap (λ (b : Bool). option_map (λ (q : Decision). q.operator) (cond b (Some d) (find (λ (q : Decision). q.op == v) left))) e)
+        ∙ sym (ap (λ (o : Option ℕ). first_of o (operator_of (d ∷ left) v)) before
+        ∙ ap (λ (b : Bool). option_map (λ (q : Decision). q.operator) (cond b (Some d) (find (λ (q : Decision). q.op == v) left))) e)
     by v false e =
         let other : v ≡ d.op → ⊥ = λ h. false≢true (sym e ∙ eq-eqb d.op v (sym h)) in
         ap (λ (o : Option ℕ). first_of o (operator_of left v)) (get_or-set_other os d.op v (Some d.operator) None other)

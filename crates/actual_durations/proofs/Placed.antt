@@ -68,7 +68,8 @@ module _ (g : Graph) (a : Architecture) (ticks : ℕ → ℕ → Option ℕ) whe
   one_there [] h v = tt
   one_there (d ∷ ds) h v = by (d.op == v) (one_there ds h.1 v)
     where
-      by : (b : Bool) → IsOneOf (length a.operators) (operator_of ds v) → IsOneOf (length a.operators) (option_map (λ (q : Decision). q.operator) (cond b (Some d) (find (λ (q : Decision). q.op == v) ds)))
+      by : (b : Bool) → IsOneOf (length a.operators) (operator_of ds v)
+          → IsOneOf (length a.operators) (option_map (λ (q : Decision). q.operator) (cond b (Some d) (find (λ (q : Decision). q.op == v) ds)))
       by true rest = h.0.operator
       by false rest = rest
 

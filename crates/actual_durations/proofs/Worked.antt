@@ -1,6 +1,7 @@
 -- What worked texts of actual durations say beside a worked architecture and its schedule.
 use Rattle.std.proofs.Common.{◌≡◌, ℕ, refl, true, false, List, [], ◌∷◌, ◌++◌, Option, Some, None, Result, Ok, Err, codes, pos}
 use Rattle.syn_base.specs.Bytes.{Bytes}
+use Rattle.schedule.specs.declared.MediumKind.TheVariants.{PointToPoint, Multipoint}
 use Rattle.schedule.specs.declared.Source.{Source}
 use Rattle.schedule.specs.declared.Vertex.{Vertex}
 use Rattle.schedule.specs.declared.Kind.{Kind}
@@ -42,7 +43,7 @@ graph = record {
 abbrev bus : ℕ → ℕ → Architecture
 bus fixed per = record {
   operators = codes "P" ∷ codes "Q" ∷ [];
-  media = record { name = codes "bus"; multi = false; fixed = fixed; per = per; stands = 0 ∷ 1 ∷ [] } ∷ [];
+  media = record { name = codes "bus"; kind = PointToPoint; fixed = fixed; per = per; stands = 0 ∷ 1 ∷ [] } ∷ [];
   depth = 1;
 }
 
@@ -136,12 +137,14 @@ another_version = refl
 abbrev three : Architecture
 three = record {
   operators = codes "P" ∷ codes "Q" ∷ codes "R" ∷ [];
-  media = record { name = codes "can"; multi = true; fixed = 1; per = 1; stands = 0 ∷ 1 ∷ 2 ∷ [] } ∷ record { name = codes "lin"; multi = true; fixed = 1; per = 1; stands = 0 ∷ 1 ∷ [] } ∷ [];
+  media = record { name = codes "can"; kind = Multipoint; fixed = 1; per = 1; stands = 0 ∷ 1 ∷ 2 ∷ [] }
+      ∷ record { name = codes "lin"; kind = Multipoint; fixed = 1; per = 1; stands = 0 ∷ 1 ∷ [] } ∷ [];
   depth = 1;
 }
 
 abbrev lin_joins : Bytes → Result (List ℕ) ActualError
-lin_joins operator = actual_of (record { vertices = []; bodies = [] }) three (record { operators = 3; rows = []; halves = [] }) (record { decisions = [] }) (text (codes "architecture 1" ∷ codes "operator P" ∷ codes "operator Q" ∷ codes "operator R"
+lin_joins operator = actual_of (record { vertices = []; bodies = [] }) three (record { operators = 3; rows = []; halves = [] })
+    (record { decisions = [] }) (text (codes "architecture 1" ∷ codes "operator P" ∷ codes "operator Q" ∷ codes "operator R"
     ∷ codes "medium can multi 1 1" ∷ codes "medium lin multi 1 1" ∷ codes "connect can R" ∷ codes "connect can Q" ∷ codes "connect can P" ∷ codes "connect lin P" ∷ operator ∷ []))
 
 the_same_connections : lin_joins (codes "connect lin Q") ≡ Ok []
@@ -172,7 +175,8 @@ made_graph = record {
   bodies = [];
 }
 
-made_last_no_time : actual_of made_graph (record { operators = codes "P" ∷ []; media = []; depth = 1 }) (record { operators = 1; rows = (Some 0 ∷ []) ∷ (Some 0 ∷ []) ∷ (Some 0 ∷ []) ∷ []; halves = None ∷ None ∷ Some 1 ∷ [] })
+made_last_no_time : actual_of made_graph (record { operators = codes "P" ∷ []; media = []; depth = 1 })
+    (record { operators = 1; rows = (Some 0 ∷ []) ∷ (Some 0 ∷ []) ∷ (Some 0 ∷ []) ∷ []; halves = None ∷ None ∷ Some 1 ∷ [] })
     (record { decisions = placed 0 0 [] ∷ placed 1 0 [] ∷ placed 2 0 [] ∷ [] }) (text (codes "architecture 1" ∷ codes "operator P" ∷ codes "duration C P 5" ∷ codes "duration D P 5" ∷ []))
     ≡ Ok (0 ∷ 0 ∷ 0 ∷ [])
 made_last_no_time = refl

@@ -28,7 +28,6 @@ use Rattle.std.specs.Prelude.{
   Err,
   if◌then◌else◌,
 }
-use Rattle.std.specs.Bool.{beq}
 use Rattle.std.specs.Cmp.Lexicographic.{pointwise}
 use Rattle.std.specs.List.{find, range_with_len}
 use Rattle.std.specs.Str.{bytes_eq}
@@ -37,7 +36,7 @@ use Rattle.syn_base.specs.Bytes.{Bytes}
 use Rattle.schedule.specs.declared.Vertex.{Vertex}
 use Rattle.schedule.specs.Graph.{Graph, len_of}
 use Rattle.schedule.specs.declared.Medium.{Medium}
-use Rattle.schedule.specs.Archi.{Architecture}
+use Rattle.schedule.specs.Archi.{Architecture, same_kind}
 use Rattle.schedule.specs.declared.DurationLine.{DurationLine}
 use Rattle.schedule.specs.Refusals.{ArchiRefusal}
 use Rattle.schedule.specs.Text.{Described, description_of}
@@ -54,9 +53,9 @@ use Rattle.schedule.specs.Acts.{transfers_of}
 
 -- of one name and kind, at which the same operators stand
 abbrev pub same_medium : Medium → Medium → Bool
-same_medium m n = bytes_eq m.name n.name && beq m.multi n.multi && pointwise nat_eq m.stands n.stands
+same_medium m n = bytes_eq m.name n.name && same_kind m.kind n.kind && pointwise nat_eq m.stands n.stands
 
--- the same operators, media and depth, whatever the media's times are
+-- Both have the same operators, media and depth; the times of the media may differ.
 abbrev pub same_architecture : Architecture → Architecture → Bool
 same_architecture a b =
     pointwise bytes_eq a.operators b.operators && pointwise same_medium a.media b.media && (a.depth == b.depth)

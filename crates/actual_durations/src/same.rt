@@ -52,6 +52,6 @@ fn same_medium(stated: &Medium, actual: &Medium) -> bool
     ensures { result ≡ same_medium stated.now actual.now }
 {
     stated.name.as_bytes() == actual.name.as_bytes()
-        && stated.multi == actual.multi
+        && stated.kind.is_same(actual.kind)
         && stated.stands.as_slice() == actual.stands.as_slice()
 }

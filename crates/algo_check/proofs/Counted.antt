@@ -104,7 +104,13 @@ module _ (ds : List Def) (n : ℕ) (counts : List ℕ) (a : AreCounts ds n count
   body_is (Graph ins outs references edges) ps h = sums _ ps h ∙ sum_mapped of (λ r. r.def) references
   body_is (Switch on ins outs cases otherwise last) ps h =
       let all : sum_by (slice_index counts) ps ≡ sum_by (λ c. of c.def) cases + of otherwise
-      = omega (arith, sums (map (λ c. c.def) cases ++ otherwise ∷ []) ps h, sum_by-append of (map (λ c. c.def) cases) (otherwise ∷ []), sum_mapped of (λ c. c.def) cases, sum_by-cons of otherwise []) in
+      = omega (
+        arith,
+        sums (map (λ c. c.def) cases ++ otherwise ∷ []) ps h,
+        sum_by-append of (map (λ c. c.def) cases) (otherwise ∷ []),
+        sum_mapped of (λ c. c.def) cases,
+        sum_by-cons of otherwise [],
+      ) in
       ap (λ (m : ℕ). m + length outs) all
   body_is (Repeat copies def lines) ps h =
       let all : sum_by (slice_index counts) ps ≡ of def = omega (arith, sums (def ∷ []) ps h, sum_by-cons of def []) in

@@ -40,7 +40,8 @@ module _ (ds : List Def) (n : ℕ) where
           by (inl same) = f.here k (omega (arith, inside, all)) inside same
 
   -- one of this depth, whose ports are put down
-  module _ (i : ℕ) (table : List Ports) (p : Ports) (inside : i < length ds) (is : deep ds i ≡ n) (f : IsFilling ds n i table) (small : IsSmall p) (ports : (w : Bytes) → IsLinked ds w i → p ≡ ports_of ds w) where
+  module _ (i : ℕ) (table : List Ports) (p : Ports) (inside : i < length ds) (is : deep ds i ≡ n) (f : IsFilling ds n i table)
+      (small : IsSmall p) (ports : (w : Bytes) → IsLinked ds w i → p ≡ ports_of ds w) where
     other : (k : ℕ) → (k ≡ i → ⊥) → HasPorts ds table k → HasPorts ds (set table i p) k
     other k differs h w at = get_or-set_other table i k p no_ports differs ∙ h w at
 
@@ -59,7 +60,8 @@ module _ (ds : List Def) (n : ℕ) where
           where
             by : (k ≡ i) ⊎ (k < i) → HasPorts ds (set table i p) k
             by (inr less) = other k (λ same. omega (arith, same, less)) (f.here k less within at)
-            by (inl same) = λ w linked. ap (λ (j : ℕ). get_or (set table i p) j no_ports) same ∙ get_or-set_same table i p no_ports (omega (arith, inside, f.below.rows)) ∙ ports w (at_here same w linked)
+            by (inl same) = λ w linked. ap (λ (j : ℕ). get_or (set table i p) j no_ports) same
+                ∙ get_or-set_same table i p no_ports (omega (arith, inside, f.below.rows)) ∙ ports w (at_here same w linked)
               where
                 at_here : k ≡ i → (w : Bytes) → IsLinked ds w k → IsLinked ds w i
                 at_here e w h = subst (λ (j : ℕ). IsLinked ds w j) e h

@@ -4,9 +4,10 @@ use Rattle.std.specs.Prelude.{slice_get}
 use Rattle.std.specs.List.{flat_map}
 use Rattle.std.proofs.lemmas.List.{get_or-map}
 use Rattle.syn_base.specs.Bytes.{Bytes}
+use Rattle.text_lines.specs.declared.fault.TextError.TheVariants as error
+use Rattle.text_lines.specs.Refusals.{Refused, Limit}
+use Rattle.algo_rules.specs.Refusals.{AlgoError, AlgoRefusal}
 use Rattle.algo_rules.specs.declared.Def.{Def}
-use Rattle.algo_rules.specs.declared.AlgoError.{AlgoError}
-use Rattle.algo_rules.specs.declared.AlgoError.TheVariants.{Refused, Limit, TooLarge, OutOfMemory}
 use Rattle.algo_rules.specs.declared.AlgoCause.TheVariants.{Misplaced}
 use Rattle.algo_rules.specs.Returned.{Tells}
 use Rattle.algo_rules.specs.Links.{fault, first_of, Mention, may_stand, misplaced_by, definition}
@@ -16,36 +17,30 @@ use Rattle.algo_check.proofs.Fresh.{from_here}
 use Rattle.algo_check.proofs.Found.{found}
 
 -- an error that is told is what the call answered, and back
-pub told : (A : Type 0) (e : AlgoError) (o : Option AlgoError) → Tells e o → Checks {A = A} (Err e) o
-told A (Refused f) o h = h
-told A (Limit f) o h = h
-told A TooLarge o h = h
-told A OutOfMemory o h = h
+pub told : (A : Type 0) (e : AlgoError) (o : Option AlgoRefusal) → Tells e o → Checks {A = A} (Err e) o
+told A e o h = h
 
-pub tells : (A : Type 0) (e : AlgoError) (o : Option AlgoError) → Checks {A = A} (Err e) o → Tells e o
-tells A (Refused f) o h = h
-tells A (Limit f) o h = h
-tells A TooLarge o h = h
-tells A OutOfMemory o h = h
+pub tells : (A : Type 0) (e : AlgoError) (o : Option AlgoRefusal) → Checks {A = A} (Err e) o → Tells e o
+tells A e o h = h
 
 -- what is told of the first is told of all
-some_first : (e : AlgoError) (xs ys : List (Option AlgoError)) → first_of xs ≡ Some e → first_of (xs ++ ys) ≡ Some e
+some_first : (e : AlgoRefusal) (xs ys : List (Option AlgoRefusal)) → first_of xs ≡ Some e → first_of (xs ++ ys) ≡ Some e
 some_first e [] ys h = cc
 some_first e (None ∷ xs) ys h = some_first e xs ys h
 some_first e (Some f ∷ xs) ys h = h
 
-none_first : (xs ys : List (Option AlgoError)) → first_of xs ≡ None → first_of (xs ++ ys) ≡ first_of ys
+none_first : (xs ys : List (Option AlgoRefusal)) → first_of xs ≡ None → first_of (xs ++ ys) ≡ first_of ys
 none_first [] ys h = refl
 none_first (None ∷ xs) ys h = none_first xs ys h
 none_first (Some f ∷ xs) ys h = cc
 
-first_told : (e : AlgoError) (xs ys : List (Option AlgoError)) → Tells e (first_of xs) → Tells e (first_of (xs ++ ys))
-first_told (Refused f) xs ys h = some_first (Refused f) xs ys h
-first_told (Limit f) xs ys h = some_first (Limit f) xs ys h
-first_told TooLarge xs ys h = some_first TooLarge xs ys h
-first_told OutOfMemory xs ys h = h
+first_told : (e : AlgoError) (xs ys : List (Option AlgoRefusal)) → Tells e (first_of xs) → Tells e (first_of (xs ++ ys))
+first_told (error.Refused f) xs ys h = some_first (Refused f) xs ys h
+first_told (error.Limit f) xs ys h = some_first (Limit f) xs ys h
+first_told error.OutOfMemory xs ys h = h
 
-module _ (f : Def → List (Option AlgoError)) (ds : List Def) (i : ℕ) (d : Def) (h : i < length ds) (is : d ≡ get_or ds i d) (before : first_of (flat_map f ds) ≡ first_of (flat_map f (drop i ds))) where
+module _ (f : Def → List (Option AlgoRefusal)) (ds : List Def) (i : ℕ) (d : Def) (h : i < length ds) (is : d ≡ get_or ds i d)
+    (before : first_of (flat_map f ds) ≡ first_of (flat_map f (drop i ds))) where
   here : first_of (flat_map f ds) ≡ first_of (f d ++ flat_map f (drop (i + 1) ds))
   here = before ∙ ap (λ xs. first_of (flat_map f xs)) (from_here ds i d h is)
 
@@ -57,11 +52,10 @@ module _ (f : Def → List (Option AlgoError)) (ds : List Def) (i : ℕ) (d : De
   pub goes : first_of (f d) ≡ None → first_of (flat_map f ds) ≡ first_of (flat_map f (drop (i + 1) ds))
   goes k = here ∙ none_first (f d) (flat_map f (drop (i + 1) ds)) k
 
-pub one_told : (e : AlgoError) (o : Option AlgoError) (os : List (Option AlgoError)) → Tells e o → Tells e (first_of (o ∷ os))
-one_told (Refused f) o os h = rw h refl
-one_told (Limit f) o os h = rw h refl
-one_told TooLarge o os h = rw h refl
-one_told OutOfMemory o os h = tt
+pub one_told : (e : AlgoError) (o : Option AlgoRefusal) (os : List (Option AlgoRefusal)) → Tells e o → Tells e (first_of (o ∷ os))
+one_told (error.Refused f) o os h = rw h refl
+one_told (error.Limit f) o os h = rw h refl
+one_told error.OutOfMemory o os h = tt
 
 -- A line of an owner, whose definition stands at the place that is given.
 module _ (ds : List Def) (owner : Bytes) (ms : List Mention) (places : List ℕ) (k : ℕ) (m : Mention)
@@ -79,7 +73,8 @@ module _ (ds : List Def) (owner : Bytes) (ms : List Mention) (places : List ℕ)
   fault_by : (b : Bool) → may_stand owner m (slice_get ds (get_or places k 0)) ≡ b → (if b then None else fault m.line (Misplaced m.def)) ≡ misplaced_by ds owner m
   fault_by b e = ap (λ (c : Bool). if c then None else fault m.line (Misplaced m.def)) (sym e ∙ same_standing)
 
-  pub line_stops : (e : AlgoError) (n : ℕ) (w : Bytes) → false ≡ may_stand owner m (slice_get ds (get_or places k 0)) → n ≡ m.line → w ≡ m.def → Tells e (fault n (Misplaced w)) → Tells e (misplaced_in ds owner ms)
+  pub line_stops : (e : AlgoError) (n : ℕ) (w : Bytes) → false ≡ may_stand owner m (slice_get ds (get_or places k 0)) → n ≡ m.line → w
+      ≡ m.def → Tells e (fault n (Misplaced w)) → Tells e (misplaced_in ds owner ms)
   line_stops e n w stands at named t =
       let here : fault n (Misplaced w) ≡ misplaced_by ds owner m = ap₂ (λ (l : ℕ) (x : Bytes). fault l (Misplaced x)) at named ∙ fault_by false (sym stands) in
       subst (λ o. Tells e o) (sym line) (one_told e _ _ (subst (λ o. Tells e o) here t))
@@ -88,8 +83,8 @@ module _ (ds : List Def) (owner : Bytes) (ms : List Mention) (places : List ℕ)
   line_goes stands = line ∙ ap (λ o. first_of (o ∷ map (misplaced_by ds owner) (drop (k + 1) ms))) (sym (fault_by true (sym stands)))
 
 -- two faults, the first before the second
-pub second_told : (e : AlgoError) (o p : Option AlgoError) → o ≡ None → Tells e p → Tells e (first_of (o ∷ p ∷ []))
-second_told e o p h k = subst (λ (x : Option AlgoError). Tells e (first_of (x ∷ p ∷ []))) (sym h) (one_told e p [] k)
+pub second_told : (e : AlgoError) (o p : Option AlgoRefusal) → o ≡ None → Tells e p → Tells e (first_of (o ∷ p ∷ []))
+second_told e o p h k = subst (λ (x : Option AlgoRefusal). Tells e (first_of (x ∷ p ∷ []))) (sym h) (one_told e p [] k)
 
-pub neither : (o p : Option AlgoError) → o ≡ None → p ≡ None → first_of (o ∷ p ∷ []) ≡ None
+pub neither : (o p : Option AlgoRefusal) → o ≡ None → p ≡ None → first_of (o ∷ p ∷ []) ≡ None
 neither o p h k = rw (h, k) refl

@@ -1,5 +1,37 @@
 -- Where the definition of a name stands.
-use Rattle.std.proofs.Common.{◌≡◌, ℕ, zero, suc, ◌+◌, ◌<◌, Bool, not, true, false, cond, List, [], ◌∷◌, ◌++◌, length, map, Option, Some, None, Result, IfOk, refl, ap, sym, subst, ◌∙◌, arith, nat_lt, position, if◌then◌else◌}
+use Rattle.std.proofs.Common.{
+  ◌≡◌,
+  ℕ,
+  zero,
+  suc,
+  ◌+◌,
+  ◌<◌,
+  Bool,
+  not,
+  true,
+  false,
+  cond,
+  List,
+  [],
+  ◌∷◌,
+  ◌++◌,
+  length,
+  map,
+  Option,
+  Some,
+  None,
+  Result,
+  IfOk,
+  refl,
+  ap,
+  sym,
+  subst,
+  ◌∙◌,
+  arith,
+  nat_lt,
+  position,
+  if◌then◌else◌,
+}
 use Rattle.std.specs.Prelude.{slice_get}
 use Rattle.std.specs.List.{flat_map, position_or_len}
 use Rattle.std.specs.Str.{bytes_eq}
@@ -9,8 +41,8 @@ use Rattle.std.proofs.lemmas.Option.{slice_get_past}
 use Rattle.std.proofs.lemmas.List.{map-append}
 use Rattle.text_lines.proofs.Places.{missing_at, found_at}
 use Rattle.syn_base.specs.Bytes.{Bytes}
+use Rattle.algo_rules.specs.Refusals.{AlgoError}
 use Rattle.algo_rules.specs.declared.Def.{Def}
-use Rattle.algo_rules.specs.declared.AlgoError.{AlgoError}
 use Rattle.algo_rules.specs.Links.{first_of, Mention, mentions, definition, unknown_by, unknown, links_of}
 use Rattle.algo_rules.specs.Placed.{Checks}
 use Rattle.algo_check.specs.Placing.{names_of, unknown_at, unknown_one, unknown_all, place_one, places_in, places_all, place_of, places_of}

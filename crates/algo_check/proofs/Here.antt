@@ -39,7 +39,8 @@ module _ (ds : List Def) (links : Links) (levels : List ℕ) (l : AreLeveled ds 
         let few : i < length links = omega (arith, links_count ds, ap (λ (ls : Links). length ls) l.linked, low) in
         same ∙ row_is r few (is ∙ ap (λ (ls : Links). get_or ls i r) are)
 
-    pub stands : (n : ℕ) (table : List Ports) (d : Def) (r : List ℕ) → get_or levels i 0 ≡ n → IsTable ds n table → d ≡ get_or ds i d → i < length links → r ≡ get_or links i r → ArePlaced ds table (named d.body) r
+    pub stands : (n : ℕ) (table : List Ports) (d : Def) (r : List ℕ) → get_or levels i 0 ≡ n → IsTable ds n table → d ≡ get_or ds i d → i
+        < length links → r ≡ get_or links i r → ArePlaced ds table (named d.body) r
     stands n table d r at t is few row_at =
         subst (λ (ps : List ℕ). ArePlaced ds table (named d.body) ps) (sym (row_is r few row_at))
         (placed ds l.known l.ends i d n table (found_at ds i d low is) low (omega (arith, at, level_is)) t)

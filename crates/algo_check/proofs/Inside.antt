@@ -30,7 +30,8 @@ as_many f (x ∷ xs) = ap suc (as_many f xs)
 pub links_count : (ds : List Def) → length (links_of ds) ≡ length ds
 links_count ds = as_many _ ds
 
-row_inside : (ds : List Def) → unknown ds ≡ None → (i : ℕ) (row : List ℕ) → i < length (links_of ds) → row ≡ get_or (links_of ds) i [] → (k d : ℕ) → k < length row → get_or row k d < length (links_of ds)
+row_inside : (ds : List Def) → unknown ds ≡ None → (i : ℕ) (row : List ℕ) → i < length (links_of ds) → row ≡ get_or (links_of ds) i []
+    → (k d : ℕ) → k < length row → get_or row k d < length (links_of ds)
 row_inside ds none i row low is k d below =
     let at = there ds i (omega (arith, low, links_count ds)) in
     let linked : AreLinked ds (named at.0.body) row = subst (λ (ps : List ℕ). AreLinked ds (named at.0.body) ps) (sym is) (all_lead ds i at.0 none at.1) in

@@ -5,11 +5,11 @@ use Rattle.std.specs.List.{flat_map}
 use Rattle.std.proofs.lemmas.Option.{slice_get_within}
 use Rattle.std.proofs.lemmas.List.{map-append}
 use Rattle.syn_base.specs.Bytes.{Bytes}
+use Rattle.algo_rules.specs.Refusals.{AlgoRefusal}
 use Rattle.algo_rules.specs.declared.Def.{Def}
 use Rattle.algo_rules.specs.declared.Body.{Body}
 use Rattle.algo_rules.specs.declared.Body.TheVariants.{Sensor, Actuator, Constant, Delay, Function, Graph, Switch, Repeat}
 use Rattle.algo_rules.specs.declared.Case.{Case}
-use Rattle.algo_rules.specs.declared.AlgoError.{AlgoError}
 use Rattle.algo_rules.specs.Links.{first_of, Mention, mentions, mentions_in, definition, unknown_by, links_of}
 use Rattle.algo_check.specs.Placing.{place_of, places_of}
 use Rattle.algo_check.specs.Linked.{IsLinked, AreLinked, named, EachLeads, AllLead}
@@ -20,12 +20,12 @@ map_at f [] i x y h = cc
 map_at f (z ∷ xs) zero x y h = let same : z ≡ x = cc in ap f same
 map_at f (z ∷ xs) (suc i) x y h = map_at f xs i x y h
 
-none_both : (o : Option AlgoError) (os : List (Option AlgoError)) → first_of (o ∷ os) ≡ None → (o ≡ None) × (first_of os ≡ None)
+none_both : (o : Option AlgoRefusal) (os : List (Option AlgoRefusal)) → first_of (o ∷ os) ≡ None → (o ≡ None) × (first_of os ≡ None)
 none_both None os h = (refl, h)
 none_both (Some e) os h = cc
 
 module _ (ds : List Def) where
-  abbrev fault_of : Mention → Option AlgoError
+  abbrev fault_of : Mention → Option AlgoRefusal
   fault_of m = unknown_by m (definition ds m.def)
 
   abbrev AreKnown : List Mention → Type 0
@@ -96,5 +96,6 @@ each_leads ds i k d m none at line =
 pub all_lead : AllLead
 all_lead ds i d none at =
     let known = known_in ds ds i d (known_lines ds (flat_map mentions ds) none) at in
-    let linked : AreLinked ds (named d.body) (places_of ds (mentions d)) = subst (λ (ws : List Bytes). AreLinked ds ws (places_of ds (mentions d))) (names_are d.line d.body) (all_linked ds (mentions d) known) in
+    let linked : AreLinked ds (named d.body) (places_of ds (mentions d)) =
+    subst (λ (ws : List Bytes). AreLinked ds ws (places_of ds (mentions d))) (names_are d.line d.body) (all_linked ds (mentions d) known) in
     subst (λ (ps : List ℕ). AreLinked ds (named d.body) ps) (sym (links_at ds i d at)) linked

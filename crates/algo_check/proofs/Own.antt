@@ -7,8 +7,8 @@ use Rattle.std.proofs.lemmas.Bool.{ltb-false}
 use Rattle.std.proofs.lemmas.List.FromFn.{length-map-range_with_len}
 use Rattle.std.proofs.lemmas.Cmp.{nat_list_eq_equiv}
 use Rattle.syn_base.specs.Bytes.{Bytes}
+use Rattle.algo_rules.specs.Refusals.{AlgoRefusal}
 use Rattle.algo_rules.specs.declared.Def.{Def}
-use Rattle.algo_rules.specs.declared.AlgoError.{AlgoError}
 use Rattle.algo_rules.specs.Well.{AreDistinctNames, IsNewName}
 use Rattle.algo_rules.specs.ReferenceLinks.{depths}
 use Rattle.algo_rules.specs.Links.{definition, links_of, too_deep, too_deep_by}
@@ -42,7 +42,7 @@ within (y ∷ ys) zero x h = omega arith
 within (y ∷ ys) (suc i) x h = omega (arith, within ys i x h)
 
 -- the first of too many: no depth is above 8
-shallow_by : (b : Bool) (n : ℕ) (e : AlgoError) (rest : Option AlgoError) → nat_lt 8 n ≡ b → (if b then Some e else rest) ≡ None → (n ≤ 8) × (rest ≡ None)
+shallow_by : (b : Bool) (n : ℕ) (e : AlgoRefusal) (rest : Option AlgoRefusal) → nat_lt 8 n ≡ b → (if b then Some e else rest) ≡ None → (n ≤ 8) × (rest ≡ None)
 shallow_by true n e rest is h = cc
 shallow_by false n e rest is h = (ltb-false 8 n is, h)
 

@@ -1,5 +1,34 @@
 -- Ports of repetitions that have passed their check.
-use Rattle.std.proofs.Common.{◌≡◌, ℕ, zero, suc, ◌≤◌, Bool, true, false, ◌&&◌, ◌==◌, List, [], ◌∷◌, ◌++◌, length, Option, Some, None, if◌then◌else◌, arith, nat_lt, refl, sym, subst, Result, Ok, Err, IfOk}
+use Rattle.std.proofs.Common.{
+  ◌≡◌,
+  ℕ,
+  zero,
+  suc,
+  ◌≤◌,
+  Bool,
+  true,
+  false,
+  ◌&&◌,
+  ◌==◌,
+  List,
+  [],
+  ◌∷◌,
+  ◌++◌,
+  length,
+  Option,
+  Some,
+  None,
+  if◌then◌else◌,
+  arith,
+  nat_lt,
+  refl,
+  sym,
+  subst,
+  Result,
+  Ok,
+  Err,
+  IfOk,
+}
 use Rattle.std.specs.List.{flat_map}
 use Rattle.std.proofs.lemmas.Bool.{eqb-true, ltb-false}
 use Rattle.std.proofs.lemmas.List.{length-append}
@@ -12,7 +41,6 @@ use Rattle.algo_rules.specs.declared.Body.TheVariants.{Repeat}
 use Rattle.algo_rules.specs.declared.Frontier.{Frontier}
 use Rattle.algo_rules.specs.declared.Frontier.TheVariants.{Fork, Diffuse, Iterate, Join}
 use Rattle.algo_rules.specs.declared.FrontierLine.{FrontierLine}
-use Rattle.algo_rules.specs.declared.AlgoError.{AlgoError}
 use Rattle.algo_rules.specs.declared.AlgoCause.TheVariants.{BadRepeat}
 use Rattle.algo_rules.specs.Links.{fault, first_of}
 use Rattle.algo_rules.specs.Frontiers.{too_long, used_by, is_open, frontier_fault, frontier_faults, repeat_fault, unfed}
@@ -21,10 +49,11 @@ use Rattle.algo_rules.specs.Resolved.{body_fault}
 use Rattle.algo_rules.specs.WellRead.{IsWellRead}
 use Rattle.algo_rules.specs.declared.ports.Ports.{Ports}
 use Rattle.body_check.specs.Bounds.{AreShort}
+use Rattle.algo_rules.specs.Refusals.{AlgoRefusal}
 use Rattle.algo_check.specs.Tables.{IsSmall}
 use Rattle.algo_check.proofs.InOrder.{both_none}
 
-short_by : (n : ℕ) (e : AlgoError) (b : Bool) → nat_lt 64 n ≡ b → (if b then Some e else None) ≡ None → n ≤ 64
+short_by : (n : ℕ) (e : AlgoRefusal) (b : Bool) → nat_lt 64 n ≡ b → (if b then Some e else None) ≡ None → n ≤ 64
 short_by n e true is h = cc
 short_by n e false is h = ltb-false 64 n is
 
@@ -59,7 +88,7 @@ module _ (copies : ℕ) (inner : Ports) where
       by false b c is h = cc
   line_short used line (Join y q) h = (no_port, one q _ (passes (has_port inner.outs y) _ line h))
 
-  lines_short : (used : List Bytes) (ls : List FrontierLine) (rest : List (Option AlgoError)) → first_of (frontier_faults copies inner used ls ++ rest) ≡ None
+  lines_short : (used : List Bytes) (ls : List FrontierLine) (rest : List (Option AlgoRefusal)) → first_of (frontier_faults copies inner used ls ++ rest) ≡ None
       → AreShort (flat_map (λ l. outer_ins copies inner l.frontier) ls) × AreShort (flat_map (λ l. outer_outs copies inner l.frontier) ls)
   lines_short used [] rest h = (no_port, no_port)
   lines_short used (l ∷ ls) rest h =
@@ -93,7 +122,8 @@ module _ (copies : ℕ) (inner : Ports) where
   }
 
 module _ (ds : List Def) (line : ℕ) (inner : Ports) where
-  pub body_small : (b : Body) (copies : ℕ) (def : Bytes) (ls : List FrontierLine) → b ≡ Repeat copies def ls → inner ≡ ports_of ds def → IsWellRead b → body_fault ds line b ≡ None → IsSmall (ports_by (λ w. inner) b)
+  pub body_small : (b : Body) (copies : ℕ) (def : Bytes) (ls : List FrontierLine) → b ≡ Repeat copies def ls → inner ≡ ports_of ds def
+      → IsWellRead b → body_fault ds line b ≡ None → IsSmall (ports_by (λ w. inner) b)
   body_small b copies def ls is same read none =
       let of_repeat : IsWellRead (Repeat copies def ls) → body_fault ds line (Repeat copies def ls) ≡ None → IsSmall (outer_ports copies inner ls)
       = λ r n. subst (λ (p : Ports). IsSmall (outer_ports copies p ls)) (sym same) (repeat_small copies (ports_of ds def) line ls r.few n) in

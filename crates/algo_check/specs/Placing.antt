@@ -3,8 +3,8 @@ use Rattle.std.specs.Prelude.{ℕ, List, map, position, Option, Some, None}
 use Rattle.std.specs.List.{flat_map, position_or_len}
 use Rattle.std.specs.Str.{bytes_eq}
 use Rattle.syn_base.specs.Bytes.{Bytes}
+use Rattle.algo_rules.specs.Refusals.{AlgoRefusal}
 use Rattle.algo_rules.specs.declared.Def.{Def}
-use Rattle.algo_rules.specs.declared.AlgoError.{AlgoError}
 use Rattle.algo_rules.specs.declared.AlgoCause.TheVariants.{UnknownName}
 use Rattle.algo_rules.specs.Links.{fault, first_of, Mention, mentions, misplaced_by}
 
@@ -12,18 +12,18 @@ use Rattle.algo_rules.specs.Links.{fault, first_of, Mention, mentions, misplaced
 abbrev pub names_of : List Def → List Bytes
 names_of ds = map (λ d. d.name) ds
 
-abbrev pub unknown_at : Mention → Option ℕ → Option AlgoError
+abbrev pub unknown_at : Mention → Option ℕ → Option AlgoRefusal
 unknown_at m None = fault m.line (UnknownName m.def)
 unknown_at m (Some p) = None
 
 -- the refusal of a line that names none of these
-abbrev pub unknown_one : List Bytes → Mention → Option AlgoError
+abbrev pub unknown_one : List Bytes → Mention → Option AlgoRefusal
 unknown_one names m = unknown_at m (position (bytes_eq m.def) names)
 
-abbrev pub unknown_in : List Bytes → List Mention → Option AlgoError
+abbrev pub unknown_in : List Bytes → List Mention → Option AlgoRefusal
 unknown_in names ms = first_of (map (unknown_one names) ms)
 
-abbrev pub unknown_all : List Bytes → List Def → Option AlgoError
+abbrev pub unknown_all : List Bytes → List Def → Option AlgoRefusal
 unknown_all names ds = first_of (flat_map (λ d. map (unknown_one names) (mentions d)) ds)
 
 -- where the name of a line stands among these
@@ -44,9 +44,9 @@ abbrev pub places_of : List Def → List Mention → List ℕ
 places_of ds ms = map (place_of ds) ms
 
 -- the first line of an owner that names what may not stand there
-abbrev pub misplaced_in : List Def → Bytes → List Mention → Option AlgoError
+abbrev pub misplaced_in : List Def → Bytes → List Mention → Option AlgoRefusal
 misplaced_in ds owner ms = first_of (map (misplaced_by ds owner) ms)
 
 -- the same over these owners
-abbrev pub misplaced_all : List Def → List Def → Option AlgoError
+abbrev pub misplaced_all : List Def → List Def → Option AlgoRefusal
 misplaced_all ds owners = first_of (flat_map (λ d. map (misplaced_by ds d.name) (mentions d)) owners)

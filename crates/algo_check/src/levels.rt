@@ -9,9 +9,10 @@ ghost use Rattle.algo_rules.specs.Placed.{Checks};
 ghost use Rattle.algo_check.specs.Leveled.{AreLeveled};
 
 use crate::links::links_of;
-use algo_rules::{AlgoCause, AlgoError, AlgoFault, Def, Defs, Depths, depths_of};
+use algo_rules::{AlgoCause, AlgoError, Def, Defs, Depths, depths_of};
 use std::alloc::Global;
 use syn_base::{Items, LimitFault, LimitKind};
+use text_lines::refused_at;
 
 /// What definitions refer to, and how deep they are.
 #[derive(Drop)]
@@ -71,10 +72,7 @@ fn recursive_def(alloc: Global, def: &Def) -> AlgoError
     ensures { Tells result (recursive_by (def.now ∷ []) (Some 0)) }
 {
     match def.name.copy(alloc) {
-        Ok(name) => AlgoError::Refused(AlgoFault {
-            line: def.line,
-            cause: AlgoCause::Recursive(name),
-        }),
+        Ok(name) => refused_at(def.line, AlgoCause::Recursive(name)),
         Err(_) => AlgoError::OutOfMemory,
     }
 }

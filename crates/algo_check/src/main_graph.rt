@@ -1,9 +1,12 @@
 //! The check of the main graph.
 ghost use Rattle.std.specs.Prelude.{◌≡◌, None, Some};
+ghost use Rattle.text_lines.specs.Refusals.{stop};
+ghost use Rattle.algo_rules.specs.declared.AlgoCause.TheVariants.{NoMain};
 ghost use Rattle.algo_rules.specs.Placed.{Checks};
 ghost use Rattle.algo_rules.specs.Resolved.{is_main_graph, no_main, no_main_by};
 
-use algo_rules::{AlgoCause, AlgoError, AlgoFault, Body, Def};
+use algo_rules::{AlgoCause, AlgoError, Body, Def};
+use text_lines::refused_at;
 
 /// Checks that there is a graph `main` without ports; the refusal is NoMain, at line 0. It takes no memory.
 pub fn check_main(defs: &[Def]) -> Result<(), AlgoError>
@@ -30,12 +33,9 @@ fn check_main_def(def: &Def) -> Result<(), AlgoError>
 
 /// The refusal of definitions without a main graph.
 fn no_main() -> AlgoError
-    ensures { Some result ≡ no_main_by None }
+    ensures { result ≡ stop 0 NoMain }
 {
-    AlgoError::Refused(AlgoFault {
-        line: 0,
-        cause: AlgoCause::NoMain,
-    })
+    refused_at(0, AlgoCause::NoMain)
 }
 
 /// Whether a body is a graph without ports.

@@ -1,5 +1,35 @@
 -- A graph whose checks have no fault has no cycle, and its references are told apart.
-use Rattle.std.proofs.Common.{◌≡◌, ℕ, zero, suc, ◌+◌, ◌<◌, Bool, true, false, not, cond, ◌&&◌, List, [], ◌∷◌, map, length, Option, Some, None, ◌⊎◌, inl, inr, refl, ap, sym, subst, arith, if◌then◌else◌}
+use Rattle.std.proofs.Common.{
+  ◌≡◌,
+  ℕ,
+  zero,
+  suc,
+  ◌+◌,
+  ◌<◌,
+  Bool,
+  true,
+  false,
+  not,
+  cond,
+  ◌&&◌,
+  List,
+  [],
+  ◌∷◌,
+  map,
+  length,
+  Option,
+  Some,
+  None,
+  ◌⊎◌,
+  inl,
+  inr,
+  refl,
+  ap,
+  sym,
+  subst,
+  arith,
+  if◌then◌else◌,
+}
 use Rattle.std.specs.Prelude.{◌==◌, slice_get}
 use Rattle.std.specs.Str.{bytes_eq}
 use Rattle.std.specs.List.{list_any}
@@ -46,7 +76,8 @@ abbrev AskedIs : Option Def → List Source → List Source → Type 0
 AskedIs o ins asked = (asked ≡ []) ⊎ ((is_delay o ≡ false) × (asked ≡ ins))
 
 module _ (ds : List Def) (make : Making) where
-  asked_body : (own : Ports) (s a : ℕ) (ins : List Source) (b : Body) (d : Def) → d.body ≡ b → AskedIs (Some (record { name = d.name; line = d.line; body = b })) ins (asked_by (kind_by ds make own s a b) ins)
+  asked_body : (own : Ports) (s a : ℕ) (ins : List Source) (b : Body) (d : Def) → d.body ≡ b
+      → AskedIs (Some (record { name = d.name; line = d.line; body = b })) ins (asked_by (kind_by ds make own s a b) ins)
   asked_body own s a ins (Sensor len) d e = inr (refl, refl)
   asked_body own s a ins (Actuator len) d e = inr (refl, refl)
   asked_body own s a ins (Constant values) d e = inr (refl, refl)
@@ -170,7 +201,8 @@ module _ (ds : List Def) (n : ℕ) (own : Ports) (all : List Reference) (edges :
   new_undelayed s [] h = refl
   new_undelayed s (r ∷ rs) h = neither (delayed s r) (list_any (delayed s) rs) (not_both (bytes_eq s r.name) (is_delay (definition ds r.def)) h.0) (new_undelayed s rs h.1)
 
-  undelayed : (s : Bytes) (r : Reference) (rs : List Reference) → AreDistinctNames (map (λ r. r.name) rs) → slice_get rs (place rs s) ≡ Some r → is_delay (definition ds r.def) ≡ false → list_any (delayed s) rs ≡ false
+  undelayed : (s : Bytes) (r : Reference) (rs : List Reference) → AreDistinctNames (map (λ r. r.name) rs) → slice_get rs (place rs s)
+      ≡ Some r → is_delay (definition ds r.def) ≡ false → list_any (delayed s) rs ≡ false
   undelayed s r [] h at k = refl
   undelayed s r (x ∷ rs) h at k = by (λ j. undelayed s r rs h.1 j k) (bytes_eq s x.name) refl at
     where
@@ -246,7 +278,9 @@ module _ (ds : List Def) (n : ℕ) (own : Ports) (all : List Reference) (edges :
   names_none i (x ∷ rs) k r h at = by (reaches_itself links i) refl h k at (λ j m. names_none (suc i) rs j r m)
     where
       by : (b : Bool) → reaches_itself links i ≡ b → (if b then x.name ∷ names_of ds all links (suc i) rs else names_of ds all links (suc i) rs) ≡ []
-          → (k : ℕ) → slice_get (x ∷ rs) k ≡ Some r → ((j : ℕ) → names_of ds all links (suc i) rs ≡ [] → slice_get rs j ≡ Some r → reaches_itself links (suc i + j) ≡ false) → reaches_itself links (i + k) ≡ false
+          → (k : ℕ) → slice_get (x ∷ rs) k ≡ Some r
+          → ((j : ℕ) → names_of ds all links (suc i) rs ≡ [] → slice_get rs j ≡ Some r → reaches_itself links (suc i + j) ≡ false)
+          → reaches_itself links (i + k) ≡ false
       by true e m k at rest = cc
       by false e m zero at rest = let same : i ≡ i + zero = omega arith in subst (λ (j : ℕ). reaches_itself links j ≡ false) same e
       by false e m (suc k) at rest = let same : suc i + k ≡ i + suc k = omega arith in subst (λ (j : ℕ). reaches_itself links j ≡ false) same (rest k m at)

@@ -1,5 +1,37 @@
 -- One port more, and one formula.
-use Rattle.std.proofs.Common.{◌≡◌, ℕ, ◌+◌, not, ◌||◌, ◌==◌, true, false, Option, Some, None, Ok, List, [], ◌∷◌, ◌++◌, length, map, take, drop, position, refl, arith, sym, ap, ◌∙◌, subst, append-nil, append_assoc, bytes_eq, ◌<◌}
+use Rattle.std.proofs.Common.{
+  ◌≡◌,
+  ℕ,
+  ◌+◌,
+  not,
+  ◌||◌,
+  ◌==◌,
+  true,
+  false,
+  Option,
+  Some,
+  None,
+  Ok,
+  List,
+  [],
+  ◌∷◌,
+  ◌++◌,
+  length,
+  map,
+  take,
+  drop,
+  position,
+  refl,
+  arith,
+  sym,
+  ap,
+  ◌∙◌,
+  subst,
+  append-nil,
+  append_assoc,
+  bytes_eq,
+  ◌<◌,
+}
 use Rattle.std.proofs.lemmas.List.{map-append, length-append, length-map}
 use Rattle.std.proofs.lemmas.List.Elements.{All-nil, All-push}
 use Rattle.text_lines.specs.Text.{words_of}

@@ -19,7 +19,27 @@ use Rattle.algo_rules.specs.declared.Body.TheVariants.{Sensor, Actuator, Constan
 use Rattle.algo_rules.specs.Among.{is_among}
 use Rattle.algo_rules.specs.Words.{number_of, count_of}
 use Rattle.algo_rules.specs.Blocks.{Block, new_block}
-use Rattle.algo_rules.specs.Text.{Stage, between, in_function, in_graph, in_switch, in_repeat, Reading, numbers_of, defined, end_line, values_line, deep_delay, deep_line, delay_line, opened, opening_line, repeat_line, between_line, first_part}
+use Rattle.algo_rules.specs.Text.{
+  Stage,
+  between,
+  in_function,
+  in_graph,
+  in_switch,
+  in_repeat,
+  Reading,
+  numbers_of,
+  defined,
+  end_line,
+  values_line,
+  deep_delay,
+  deep_line,
+  delay_line,
+  opened,
+  opening_line,
+  repeat_line,
+  between_line,
+  first_part,
+}
 use Rattle.algo_rules.proofs.Checks.{at_most, either, equal, found, held, neither, never, not_false, passed, read, same_ok}
 use Rattle.algo_rules.specs.declared.Part.TheVariants.{Conditioning, Inputs}
 use Rattle.algo_rules.specs.WellRead.{IsName, IsWellRead}
@@ -126,7 +146,8 @@ module _ (version : ℕ) (names : List Bytes) (defs : List Def) (b : Block) (kep
   delay_kept : (n : ℕ) (ws : List Bytes) (r : Reading) → delay_line here n ws ≡ Ok r → IsKept r
   delay_kept n ws r h = either (version == 1) _ _ r h (values_kept (Delay 1) n ws r (λ vs is. one_well vs is)) (deep_kept n ws r)
 
-  opening_kept : (s : Stage) (n : ℕ) (ws : List Bytes) (r : Reading) → ((w : Bytes) → open_name s (new_block (first_part s) w n) ≡ w ∷ []) → ((w : Bytes) → IsOpen s (new_block (first_part s) w n)) → opening_line s here n ws ≡ Ok r → IsKept r
+  opening_kept : (s : Stage) (n : ℕ) (ws : List Bytes) (r : Reading) → ((w : Bytes) → open_name s (new_block (first_part s) w n) ≡ w ∷ [])
+      → ((w : Bytes) → IsOpen s (new_block (first_part s) w n)) → opening_line s here n ws ≡ Ok r → IsKept r
   opening_kept s n ws r name_is well h =
       let form = passed (not (length ws == 2)) _ _ r h in
       let named = held (is_name (word ws 1)) _ _ r form.1 in

@@ -7,8 +7,8 @@ use Rattle.std.proofs.lemmas.Bool.{cases_lt}
 use Rattle.std.proofs.lemmas.List.{length-map}
 use Rattle.std.proofs.lemmas.List.FromFn.{length-map-range_with_len}
 use Rattle.syn_base.specs.Bytes.{Bytes}
+use Rattle.algo_rules.specs.Refusals.{AlgoRefusal}
 use Rattle.algo_rules.specs.declared.Def.{Def}
-use Rattle.algo_rules.specs.declared.AlgoError.{AlgoError}
 use Rattle.algo_rules.specs.ReferenceLinks.{depth, depths}
 use Rattle.algo_rules.specs.Links.{first_of, definition, unknown, recursive, too_deep, links_of}
 use Rattle.algo_rules.specs.Resolved.{body_fault, faults_at, bodies_fault}
@@ -26,11 +26,11 @@ each_range P (suc n) a k h le lt = elim (cases_lt a k) [
 pub same_number : (n m : ℕ) → n ≡ m → (n == m) ≡ true
 same_number n m e = grind arith
 
-rest_none : (b : Bool) (o : Option AlgoError) (os : List (Option AlgoError)) → first_of (if b then o ∷ os else os) ≡ None → first_of os ≡ None
+rest_none : (b : Bool) (o : Option AlgoRefusal) (os : List (Option AlgoRefusal)) → first_of (if b then o ∷ os else os) ≡ None → first_of os ≡ None
 rest_none true o os h = (none_both o os h).1
 rest_none false o os h = h
 
-here_none : (b : Bool) (o : Option AlgoError) (os : List (Option AlgoError)) → b ≡ true → first_of (if b then o ∷ os else os) ≡ None → o ≡ None
+here_none : (b : Bool) (o : Option AlgoRefusal) (os : List (Option AlgoRefusal)) → b ≡ true → first_of (if b then o ∷ os else os) ≡ None → o ≡ None
 here_none true o os e h = (none_both o os h).0
 here_none false o os e h = cc
 
@@ -52,7 +52,8 @@ passed_at ds n (x ∷ rest) (m ∷ ns) w d h e at lt =
         later k (subst (λ (p : ℕ). get_or (m ∷ ns) p 0 ≡ n) next i) (omega arith)
 
 -- The checks of a definition have no fault.
-pub all_passed : (ds : List Def) → unknown ds ≡ None → recursive ds ≡ None → too_deep ds ≡ None → bodies_fault ds ≡ None → (w : Bytes) (d : Def) → definition ds w ≡ Some d → body_fault ds d.line d.body ≡ None
+pub all_passed : (ds : List Def) → unknown ds ≡ None → recursive ds ≡ None → too_deep ds ≡ None → bodies_fault ds ≡ None
+    → (w : Bytes) (d : Def) → definition ds w ≡ Some d → body_fault ds d.line d.body ≡ None
 all_passed ds h k deep bodies w d e =
     let some = positive ds h k w d e in
     let most = not_deep ds deep w d e in

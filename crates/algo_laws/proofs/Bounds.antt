@@ -19,9 +19,8 @@ use Rattle.algo_rules.specs.Bounded.{IsPartBounded, IsKindBounded, IsBounded, Al
 use Rattle.algo_rules.specs.Links.{definition}
 use Rattle.algo_rules.specs.Ports.{ports_of, ports_by, lens_of}
 use Rattle.algo_rules.specs.declared.ports.Ports.{Ports}
-use Rattle.algo_rules.specs.Resolved.{Making, vertex_within, vertex_by, references_from, cases_from, owns, kind_by, inner_by, tree_of, sensor_count, actuator_count}
-use Rattle.algo_rules.specs.WellRead.{IsWellRead}
-use Rattle.algo_laws.specs.Central.{AcceptedHaveBounds}
+use Rattle.algo_rules.specs.Resolved.{Making, vertex_within, vertex_by, references_from, cases_from, owns, kind_by, inner_by, refusal, tree_of, sensor_count, actuator_count}
+use Rattle.algo_rules.specs.WellRead.{IsWellRead, AreWellRead}
 use Rattle.algo_laws.proofs.Refused.{has_none}
 use Rattle.algo_laws.proofs.Accepted.{Accepted, accepted, own_ports}
 
@@ -33,7 +32,8 @@ module _ (ds : List Def) (make : Making) where
   abbrev MakesBounded : Type 0
   MakesBounded = (part : Part) (w : Bytes) (ins : List Source) (s a : ℕ) → IsPartBounded part → IsBounded (make part w ins s a)
 
-  references_bounded : MakesBounded → (ins : List Port) (all : List Reference) (edges : List Edge) (s a : ℕ) (rs : List Reference) → AllBounded (vertices_of (references_from ds make ins all edges s a rs))
+  references_bounded : MakesBounded → (ins : List Port) (all : List Reference) (edges : List Edge) (s a : ℕ) (rs : List Reference)
+      → AllBounded (vertices_of (references_from ds make ins all edges s a rs))
   references_bounded h ins all edges s a [] = tt
   references_bounded h ins all edges s a (r ∷ rs) =
       (h (Named r.name) r.def _ s a tt, references_bounded h ins all edges (s + sensor_count (definition ds r.def)) (a + actuator_count (definition ds r.def)) rs)
@@ -71,12 +71,14 @@ module _ (ds : List Def) (make : Making) where
   kind_bounded of own s a (Switch on ins outs cases otherwise last) read = tt
   kind_bounded of own s a (Repeat copies def lines) read = let most = read.most in omega (arith, most)
 
-  vertex_bounded : Accepted ds → MakesBounded → (part : Part) (w : Bytes) (ins : List Source) (s a : ℕ) → IsPartBounded part → (o : Option Def) → definition ds w ≡ o → IsBounded (vertex_by ds make part w ins s a o)
+  vertex_bounded : Accepted ds → MakesBounded → (part : Part) (w : Bytes) (ins : List Source) (s a : ℕ) → IsPartBounded part
+      → (o : Option Def) → definition ds w ≡ o → IsBounded (vertex_by ds make part w ins s a o)
   vertex_bounded acc h part w ins s a p None e = (record { part = p; kind = tt }, tt)
   vertex_bounded acc h part w ins s a p (Some d) e =
       let read = acc.well_read w d e in
       let kind : IsKindBounded (kind_by ds make (ports_of ds w) s a d.body) (lens_of (ports_of ds w).outs) =
-      subst (λ (own : Ports). IsKindBounded (kind_by ds make (ports_of ds w) s a d.body) (lens_of own.outs)) (sym (own_ports ds acc.ranked w d e)) (kind_bounded (ports_of ds) (ports_of ds w) s a d.body read) in
+      subst (λ (own : Ports). IsKindBounded (kind_by ds make (ports_of ds w) s a d.body) (lens_of own.outs))
+      (sym (own_ports ds acc.ranked w d e)) (kind_bounded (ports_of ds) (ports_of ds w) s a d.body read) in
       (record { part = p; kind = kind }, inner_bounded h d.body read)
 
 within_bounded : (ds : List Def) → Accepted ds → (n : ℕ) → MakesBounded ds (vertex_within ds n)
@@ -86,5 +88,5 @@ within_bounded ds acc (suc n) part w ins s a p = vertex_bounded ds (vertex_withi
 inside : (u : tree.Vertex) → IsBounded u → HasBounds u
 inside (tree.vertex l us) h = h.1
 
-pub have_bounds : AcceptedHaveBounds
+pub have_bounds : (ds : List Def) → AreWellRead ds → refusal ds ≡ None → HasBounds (tree_of ds)
 have_bounds ds read no_refusal = inside (tree_of ds) (within_bounded ds (accepted ds read (has_none ds no_refusal)) 8 (Named (codes "main")) (codes "main") [] 0 0 tt)

@@ -38,7 +38,8 @@ module _ (of : Bytes → Ports) (ins outs : List Port) where
   passed true n h = refl
   passed false n h = cc
 
-  all_alike : (before : List ℤ) (cs : List Case) (otherwise : Bytes) (last : ℕ) → first_of (case_faults of ins outs before cs ++ (if fits ins outs (of otherwise) then None else fault last BadCase) ∷ []) ≡ None
+  all_alike : (before : List ℤ) (cs : List Case) (otherwise : Bytes) (last : ℕ)
+      → first_of (case_faults of ins outs before cs ++ (if fits ins outs (of otherwise) then None else fault last BadCase) ∷ []) ≡ None
       → Each IsAlike (map (λ c. c.def) cs ++ otherwise ∷ [])
   all_alike before [] otherwise last h =
       let one = none_both (if fits ins outs (of otherwise) then None else fault last BadCase) [] h in

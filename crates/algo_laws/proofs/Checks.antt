@@ -9,18 +9,18 @@ use Rattle.syn_base.specs.Limits.{bound_of}
 use Rattle.text_lines.specs.Refusals.{is_above}
 use Rattle.algo_rules.specs.declared.Port.{Port}
 use Rattle.algo_rules.specs.Typed.{IsLength}
-use Rattle.algo_rules.specs.declared.AlgoError.{AlgoError}
 use Rattle.algo_rules.specs.Words.{number_of, count_by, count_of}
 use Rattle.algo_rules.specs.Blocks.{Block, all_names, port_line}
 use Rattle.algo_rules.proofs.Checks.{at_most, fewer, found, held, passed}
 use Rattle.algo_rules.specs.WellRead.{IsName}
 use Rattle.text_lines.specs.Text.{word}
+use Rattle.algo_rules.specs.Refusals.{AlgoRefusal}
 
 pub above_none : (m : ℕ) → nat_lt 0 m ≡ true → 1 ≤ m
 above_none m h = grind arith
 
 -- all of the words are names
-pub names_hold : {A : Type 0} (n : ℕ) (ws : List Bytes) (go : Result A AlgoError) (r : A) → all_names n ws go ≡ Ok r → All IsName ws × (go ≡ Ok r)
+pub names_hold : {A : Type 0} (n : ℕ) (ws : List Bytes) (go : Result A AlgoRefusal) (r : A) → all_names n ws go ≡ Ok r → All IsName ws × (go ≡ Ok r)
 names_hold n [] go r h = (All-nil IsName, h)
 names_hold n (w ∷ ws) go r h =
     let first = held (is_name w) _ _ r h in
@@ -41,14 +41,14 @@ pub count_positive : (w : Bytes) (n : ℕ) → count_of w ≡ Some n → 1 ≤ n
 count_positive w n h = count_some (number_of w) n h
 
 -- A line of a port that is accepted: the port, and that there were fewer than the bound before it.
-pub record PortRead (before : ℕ) (go : Port → Result Block AlgoError) (after : Block) : Type 0 where
+pub record PortRead (before : ℕ) (go : Port → Result Block AlgoRefusal) (after : Block) : Type 0 where
   pub port : Port
   pub named : IsName port.name
   pub sized : IsLength port.len
   pub few : before < bound_of Ports
   pub then : go port ≡ Ok after
 
-pub port_read : (n before : ℕ) (ws : List Bytes) (go : Port → Result Block AlgoError) (after : Block) → port_line n before ws go ≡ Ok after → PortRead before go after
+pub port_read : (n before : ℕ) (ws : List Bytes) (go : Port → Result Block AlgoRefusal) (after : Block) → port_line n before ws go ≡ Ok after → PortRead before go after
 port_read n before ws go after h =
     let named = held (is_name (word ws 1)) _ _ after h in
     let counted = found (count_of (word ws 2)) _ _ after named.1 in

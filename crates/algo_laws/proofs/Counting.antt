@@ -29,7 +29,28 @@ use Rattle.algo_rules.specs.Links.{Mention, mentions, mentions_in, definition}
 use Rattle.algo_rules.specs.Ports.{ports_of, has_port, len_of, number_of}
 use Rattle.algo_rules.specs.declared.ports.Ports.{Ports}
 use Rattle.algo_rules.specs.Frontiers.{used_by}
-use Rattle.algo_rules.specs.Resolved.{Making, vertex_within, vertex_by, references_from, cases_from, sources_to, owns, kind_by, inner_by, feed_by, first_feed, feed_of, give_by, count_by, count_in, count_within, body_fault, vertices_of_line, sensor_count, actuator_count}
+use Rattle.algo_rules.specs.Resolved.{
+  Making,
+  vertex_within,
+  vertex_by,
+  references_from,
+  cases_from,
+  sources_to,
+  owns,
+  kind_by,
+  inner_by,
+  feed_by,
+  first_feed,
+  feed_of,
+  give_by,
+  count_by,
+  count_in,
+  count_within,
+  body_fault,
+  vertices_of_line,
+  sensor_count,
+  actuator_count,
+}
 use Rattle.algo_rules.specs.WellRead.{port_names}
 use Rattle.algo_laws.proofs.Firsts.{Each}
 use Rattle.algo_laws.proofs.Anywhere.{or_left, any_left, any_right}
@@ -173,14 +194,16 @@ abbrev MakesCounted : Making → (Bytes → ℕ) → Type 0
 MakesCounted make count = (part : Part) (w : Bytes) (ins : List Source) (s a : ℕ) → counted.operations (make part w ins s a) ≡ count w
 
 module _ (ds : List Def) (make : Making) (count : Bytes → ℕ) (ih : MakesCounted make count) where
-  references_counted : (ins : List Port) (all : List Reference) (edges : List Edge) (s a : ℕ) (rs : List Reference) → counted.operations_in (vertices_of (references_from ds make ins all edges s a rs)) ≡ sum_by (λ r. count r.def) rs
+  references_counted : (ins : List Port) (all : List Reference) (edges : List Edge) (s a : ℕ) (rs : List Reference)
+      → counted.operations_in (vertices_of (references_from ds make ins all edges s a rs)) ≡ sum_by (λ r. count r.def) rs
   references_counted ins all edges s a [] = refl
   references_counted ins all edges s a (r ∷ rs) =
       ap₂ (λ (m n : ℕ). m + n) (ih (Named r.name) r.def (sources_to (ports_of ds) ins all edges (Some r.name) (ports_of ds r.def).ins) s a)
       (references_counted ins all edges (s + sensor_count (definition ds r.def)) (a + actuator_count (definition ds r.def)) rs)
       ∙ sym (sum_by-cons (λ r. count r.def) r rs)
 
-  cases_counted : (ins c : ℕ) (otherwise : Bytes) (cs : List Case) → counted.operations_in (vertices_of (cases_from ds make ins c (map (λ c. c.def) cs ++ otherwise ∷ []))) ≡ sum_by (λ c. count c.def) cs + count otherwise
+  cases_counted : (ins c : ℕ) (otherwise : Bytes) (cs : List Case)
+      → counted.operations_in (vertices_of (cases_from ds make ins c (map (λ c. c.def) cs ++ otherwise ∷ []))) ≡ sum_by (λ c. count c.def) cs + count otherwise
   cases_counted ins c otherwise [] = let one = ih (Numbered c) otherwise (owns 1 ins) 0 0 in omega (arith, one)
   cases_counted ins c otherwise (x ∷ cs) =
       let one = ih (Numbered c) x.def (owns 1 ins) 0 0 in
@@ -214,7 +237,8 @@ pub all_distinct : (ds : List Def) → Accepted ds → (n : ℕ) (ms : List Ment
 all_distinct ds acc n [] h = tt
 all_distinct ds acc n (m ∷ ms) h = ((fine ds acc m.def h.0.0.0 h.0.0.1).distinct, all_distinct ds acc n ms h.1)
 
-one_counted : (ds : List Def) → Accepted ds → (n : ℕ) → MakesCounted (vertex_within ds n) (count_within ds n) → (part : Part) (w : Bytes) (ins : List Source) (s a : ℕ) (o : Option Def) → definition ds w ≡ o
+one_counted : (ds : List Def) → Accepted ds → (n : ℕ) → MakesCounted (vertex_within ds n) (count_within ds n)
+    → (part : Part) (w : Bytes) (ins : List Source) (s a : ℕ) (o : Option Def) → definition ds w ≡ o
     → counted.operations (vertex_by ds (vertex_within ds n) part w ins s a o) ≡ count_in (count_within ds n) o
 one_counted ds acc n ih part w ins s a None e = refl
 one_counted ds acc n ih part w ins s a (Some d) e =

@@ -33,8 +33,10 @@ module _ (ds : List Def) (make : Making) where
   references_no_ends : MakesNoEnds → (owner : Bytes) → is_main owner ≡ false → (ins : List Port) (all : List Reference) (edges : List Edge) (s a : ℕ) (rs : List Reference)
       → Each (Stands ds owner) (map reference_line rs) → AllNoEnds (vertices_of (references_from ds make ins all edges s a rs))
   references_no_ends h owner out ins all edges s a [] k = tt
-  references_no_ends h owner out ins all edges s a (r ∷ rs) k =
-      (h _ r.def _ s a (inner_by owner (reference_line r) (definition ds r.def) out k.0), references_no_ends h owner out ins all edges (s + sensor_count (definition ds r.def)) (a + actuator_count (definition ds r.def)) rs k.1)
+  references_no_ends h owner out ins all edges s a (r ∷ rs) k = (
+    h _ r.def _ s a (inner_by owner (reference_line r) (definition ds r.def) out k.0),
+    references_no_ends h owner out ins all edges (s + sensor_count (definition ds r.def)) (a + actuator_count (definition ds r.def)) rs k.1,
+  )
 
   abbrev IsNamed : Bytes → Type 0
   IsNamed w = IsInner w (definition ds w)

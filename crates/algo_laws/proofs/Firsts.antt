@@ -1,7 +1,7 @@
 -- What it tells that a list of checks has no fault.
 use Rattle.std.proofs.Common.{◌≡◌, List, [], ◌∷◌, ◌++◌, map, Option, Some, None, refl, zero, suc, arith}
 use Rattle.std.specs.List.{All, flat_map}
-use Rattle.algo_rules.specs.declared.AlgoError.{AlgoError}
+use Rattle.algo_rules.specs.Refusals.{AlgoRefusal}
 use Rattle.algo_rules.specs.Links.{first_of}
 
 -- it holds of each
@@ -9,20 +9,20 @@ abbrev pub Each : {A : Type 0} → (A → Type 0) → List A → Type 0
 Each P [] = Unit {0}
 Each P (x ∷ xs) = P x × Each P xs
 
-pub none_both : (o : Option AlgoError) (os : List (Option AlgoError)) → first_of (o ∷ os) ≡ None → (o ≡ None) × (first_of os ≡ None)
+pub none_both : (o : Option AlgoRefusal) (os : List (Option AlgoRefusal)) → first_of (o ∷ os) ≡ None → (o ≡ None) × (first_of os ≡ None)
 none_both None os h = (refl, h)
 none_both (Some e) os h = cc
 
-pub none_append : (xs ys : List (Option AlgoError)) → first_of (xs ++ ys) ≡ None → (first_of xs ≡ None) × (first_of ys ≡ None)
+pub none_append : (xs ys : List (Option AlgoRefusal)) → first_of (xs ++ ys) ≡ None → (first_of xs ≡ None) × (first_of ys ≡ None)
 none_append [] ys h = (refl, h)
 none_append (None ∷ xs) ys h = none_append xs ys h
 none_append (Some e ∷ xs) ys h = cc
 
-pub none_each : {A : Type 0} (f : A → Option AlgoError) (xs : List A) → first_of (map f xs) ≡ None → Each (λ x. f x ≡ None) xs
+pub none_each : {A : Type 0} (f : A → Option AlgoRefusal) (xs : List A) → first_of (map f xs) ≡ None → Each (λ x. f x ≡ None) xs
 none_each f [] h = tt
 none_each f (x ∷ xs) h = let both = none_both (f x) (map f xs) h in (both.0, none_each f xs both.1)
 
-pub none_flat : {A : Type 0} (f : A → List (Option AlgoError)) (xs : List A) → first_of (flat_map f xs) ≡ None → Each (λ x. first_of (f x) ≡ None) xs
+pub none_flat : {A : Type 0} (f : A → List (Option AlgoRefusal)) (xs : List A) → first_of (flat_map f xs) ≡ None → Each (λ x. first_of (f x) ≡ None) xs
 none_flat f [] h = tt
 none_flat f (x ∷ xs) h = let both = none_append (f x) (flat_map f xs) h in (both.0, none_flat f xs both.1)
 

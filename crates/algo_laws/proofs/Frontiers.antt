@@ -1,5 +1,35 @@
 -- The lines of a repetition whose checks have no fault: what they use is there, and the lengths fit.
-use Rattle.std.proofs.Common.{◌≡◌, ℕ, zero, ◌*◌, ◌<◌, ◌≤◌, Bool, true, false, not, ◌&&◌, ◌||◌, List, [], ◌∷◌, ◌++◌, map, get_or, Option, Some, None, refl, ap, ap₂, sym, ◌∙◌, arith, if◌then◌else◌, nat_lt}
+use Rattle.std.proofs.Common.{
+  ◌≡◌,
+  ℕ,
+  zero,
+  ◌*◌,
+  ◌<◌,
+  ◌≤◌,
+  Bool,
+  true,
+  false,
+  not,
+  ◌&&◌,
+  ◌||◌,
+  List,
+  [],
+  ◌∷◌,
+  ◌++◌,
+  map,
+  get_or,
+  Option,
+  Some,
+  None,
+  refl,
+  ap,
+  ap₂,
+  sym,
+  ◌∙◌,
+  arith,
+  if◌then◌else◌,
+  nat_lt,
+}
 use Rattle.std.specs.Prelude.{◌==◌}
 use Rattle.std.specs.Str.{bytes_eq}
 use Rattle.std.specs.List.{list_all, flat_map}
@@ -11,14 +41,14 @@ use Rattle.syn_base.specs.Limits.{bound_of}
 use Rattle.level_meaning.specs.declared.frontier.Feed.{Feed}
 use Rattle.level_meaning.specs.declared.frontier.Feed.TheVariants as feed
 use Rattle.syn_base.specs.Bytes.{Bytes}
+use Rattle.text_lines.specs.Refusals.{Limit}
+use Rattle.algo_rules.specs.Refusals.{AlgoRefusal}
 use Rattle.algo_rules.specs.declared.Port.{Port}
 use Rattle.algo_rules.specs.Typed.{AreLengths, IsFed, AllFed, fed_length, given_length}
 use Rattle.algo_rules.specs.Well.{IsNewName, AreDistinctNames}
 use Rattle.algo_rules.specs.declared.Frontier.{Frontier}
 use Rattle.algo_rules.specs.declared.Frontier.TheVariants.{Fork, Diffuse, Iterate, Join}
 use Rattle.algo_rules.specs.declared.FrontierLine.{FrontierLine}
-use Rattle.algo_rules.specs.declared.AlgoError.{AlgoError}
-use Rattle.algo_rules.specs.declared.AlgoError.TheVariants.{Limit}
 use Rattle.algo_rules.specs.declared.AlgoCause.TheVariants.{BadRepeat}
 use Rattle.algo_rules.specs.Among.{is_among}
 use Rattle.algo_rules.specs.Outer.{outer_names, all_outer}
@@ -35,12 +65,12 @@ use Rattle.algo_laws.proofs.Lengths.{len_at, len_is, IsFound, all_found, len_siz
 small : (n : ℕ) → too_long n ≡ None → n ≤ 64
 small n h = by (nat_lt 64 n) refl h
   where
-    by : (b : Bool) → nat_lt 64 n ≡ b → (if b then Some (Limit (record { which = PortLength; count = n; bound = bound_of PortLength })) else None) ≡ None → n ≤ 64
+    by : (b : Bool) → nat_lt 64 n ≡ b → (if◌then◌else◌ {A = Option AlgoRefusal} b (Some (Limit (record { which = PortLength; count = n; bound = bound_of PortLength }))) None) ≡ None → n ≤ 64
     by true e k = cc
     by false e k = ltb-false 64 n e
 
 -- a test that must hold before a check
-asked : (b : Bool) (n : ℕ) (o : Option AlgoError) → (if b then o else fault n BadRepeat) ≡ None → (b ≡ true) × (o ≡ None)
+asked : (b : Bool) (n : ℕ) (o : Option AlgoRefusal) → (if b then o else fault n BadRepeat) ≡ None → (b ≡ true) × (o ≡ None)
 asked true n o h = (refl, h)
 asked false n o h = cc
 
@@ -121,7 +151,8 @@ module _ (copies : ℕ) (inner : Ports) where
   ins_sized some h [] fit = tt
   ins_sized some h (l ∷ ls) fit = by l.frontier fit.0 (ins_sized some h ls fit.1)
     where
-      by : (f : Frontier) → LineFits f → AreLengths (lens_of (flat_map (λ l. outer_ins copies inner l.frontier) ls)) → AreLengths (lens_of (outer_ins copies inner f ++ flat_map (λ l. outer_ins copies inner l.frontier) ls))
+      by : (f : Frontier) → LineFits f → AreLengths (lens_of (flat_map (λ l. outer_ins copies inner l.frontier) ls))
+          → AreLengths (lens_of (outer_ins copies inner f ++ flat_map (λ l. outer_ins copies inner l.frontier) ls))
       by (Fork p x) k rest = ((times (len_of inner.ins x) some (len_sized inner.ins x h k.0).0, k.1), rest)
       by (Diffuse p x) k rest = (len_sized inner.ins x h k.0, rest)
       by (Iterate p x y q) k rest = (len_sized inner.ins x h k.0.0, rest)
@@ -131,7 +162,8 @@ module _ (copies : ℕ) (inner : Ports) where
   outs_sized some h [] fit = tt
   outs_sized some h (l ∷ ls) fit = by l.frontier fit.0 (outs_sized some h ls fit.1)
     where
-      by : (f : Frontier) → LineFits f → AreLengths (lens_of (flat_map (λ l. outer_outs copies inner l.frontier) ls)) → AreLengths (lens_of (outer_outs copies inner f ++ flat_map (λ l. outer_outs copies inner l.frontier) ls))
+      by : (f : Frontier) → LineFits f → AreLengths (lens_of (flat_map (λ l. outer_outs copies inner l.frontier) ls))
+          → AreLengths (lens_of (outer_outs copies inner f ++ flat_map (λ l. outer_outs copies inner l.frontier) ls))
       by (Fork p x) k rest = rest
       by (Diffuse p x) k rest = rest
       by (Iterate p x y q) k rest = (len_sized inner.outs y h k.0.1, rest)
@@ -161,12 +193,14 @@ module _ (copies : ℕ) (inner : Ports) where
       by (Join y q) k rest = rest k.1
 
   -- what the outputs of the body give
-  pub given : (own : Ports) (ls : List FrontierLine) → lens_of (flat_map (λ l. outer_outs copies inner l.frontier) ls) ≡ map (given_length copies (lens_of inner.outs)) (flat_map (λ l. give_by inner own l.frontier) ls)
+  pub given : (own : Ports) (ls : List FrontierLine) → lens_of (flat_map (λ l. outer_outs copies inner l.frontier) ls)
+      ≡ map (given_length copies (lens_of inner.outs)) (flat_map (λ l. give_by inner own l.frontier) ls)
   given own [] = refl
   given own (l ∷ ls) = by l.frontier (given own ls)
     where
       by : (f : Frontier) → lens_of (flat_map (λ l. outer_outs copies inner l.frontier) ls) ≡ map (given_length copies (lens_of inner.outs)) (flat_map (λ l. give_by inner own l.frontier) ls)
-          → lens_of (outer_outs copies inner f ++ flat_map (λ l. outer_outs copies inner l.frontier) ls) ≡ map (given_length copies (lens_of inner.outs)) (give_by inner own f ++ flat_map (λ l. give_by inner own l.frontier) ls)
+          → lens_of (outer_outs copies inner f ++ flat_map (λ l. outer_outs copies inner l.frontier) ls)
+          ≡ map (given_length copies (lens_of inner.outs)) (give_by inner own f ++ flat_map (λ l. give_by inner own l.frontier) ls)
       by (Fork p x) rest = rest
       by (Diffuse p x) rest = rest
       by (Iterate p x y q) rest = ap₂ (λ (n : ℕ) (ns : List ℕ). n ∷ ns) (sym (len_at inner.outs y)) rest
@@ -183,7 +217,8 @@ module _ (copies : ℕ) (inner : Ports) where
     outer_len : (p : Bytes) (n : ℕ) → IsFound own.ins (record { name = p; len = n }) → get_or (lens_of own.ins) (number_of own.ins p) 0 ≡ n
     outer_len p n h = len_at own.ins p ∙ len_is own.ins p n h
 
-    fed_by : (w x : Bytes) (b : Bool) (f g : Feed) (rest : Bool) → bytes_eq w x ≡ b → (b || rest) ≡ true → (w ≡ x → FeedFits w f) → (rest ≡ true → FeedFits w g) → FeedFits w (first_feed inner inner (if b then Some f else None) g)
+    fed_by : (w x : Bytes) (b : Bool) (f g : Feed) (rest : Bool) → bytes_eq w x ≡ b → (b || rest) ≡ true → (w ≡ x → FeedFits w f)
+        → (rest ≡ true → FeedFits w g) → FeedFits w (first_feed inner inner (if b then Some f else None) g)
     fed_by w x true f g rest e k here later = here ((bytes_eq-Decides w x).0 e)
     fed_by w x false f g rest e k here later = later k
 
@@ -191,7 +226,8 @@ module _ (copies : ℕ) (inner : Ports) where
     feed_fits w [] fit found k = cc
     feed_fits w (l ∷ ls) fit found k = by l.frontier fit.0 found.0 k (λ j. feed_fits w ls fit.1 found.1 j)
       where
-        by : (f : Frontier) → LineFits f → Each (IsFound own.ins) (outer_ins copies inner f) → is_among w (used_by f ++ uses_all ls) ≡ true → (is_among w (uses_all ls) ≡ true → FeedFits w (feed_of inner own ls w))
+        by : (f : Frontier) → LineFits f → Each (IsFound own.ins) (outer_ins copies inner f) → is_among w (used_by f ++ uses_all ls) ≡ true
+            → (is_among w (uses_all ls) ≡ true → FeedFits w (feed_of inner own ls w))
             → FeedFits w (first_feed inner own (feed_by inner own w f) (feed_of inner own ls w))
         by (Fork p x) fits there j later =
             fed_by w x (bytes_eq w x) (feed.Fork p (number_of own.ins p) (len_of inner.ins x)) (feed_of inner own ls w) (is_among w (uses_all ls)) refl j

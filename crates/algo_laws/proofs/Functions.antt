@@ -31,7 +31,8 @@ input_goes b after o a =
         inputs = ports_with b.ins p o.inputs a.few a.named a.sized;
         outputs = o.outputs;
         distinct = put_between (port_names b.ins) outs _ p.name (input_put b.ins p outs) a.new.ins a.new.results o.distinct;
-        formulas = subst (λ (l : List Output). All (λ r. PortsBelow (length (b.ins ++ p ∷ [])) r.formula) l) (sym (o.none_yet a.at)) (All-nil (λ (r : Output). PortsBelow (length (b.ins ++ p ∷ [])) r.formula));
+        formulas = subst (λ (l : List Output). All (λ r. PortsBelow (length (b.ins ++ p ∷ [])) r.formula) l) (sym (o.none_yet a.at))
+            (All-nil (λ (r : Output). PortsBelow (length (b.ins ++ p ∷ [])) r.formula));
         none_yet = o.none_yet;
       },
     )
@@ -46,7 +47,9 @@ output_goes b after o a =
       refl,
       record {
         inputs = o.inputs;
-        outputs = subst (λ (l : List Port). ArePorts l) (sym ports) (ports_with (ports_in b.results) p o.outputs (subst (λ (m : ℕ). m < bound_of Ports) (sym (length-map b.results (λ (r : Output). r.port))) a.few) a.named a.sized);
+        outputs = subst (λ (l : List Port). ArePorts l) (sym ports)
+            (ports_with (ports_in b.results) p o.outputs
+            (subst (λ (m : ℕ). m < bound_of Ports) (sym (length-map b.results (λ (r : Output). r.port))) a.few) a.named a.sized);
         distinct = put_behind before _ p.name (ap (λ (l : List Port). port_names b.ins ++ port_names l) ports ∙ output_put (port_names b.ins) (ports_in b.results) p)
             (new_both p.name (port_names b.ins) (port_names (ports_in b.results)) a.new.ins a.new.results) o.distinct;
         formulas = All-push (λ (r : Output). PortsBelow (length b.ins) r.formula) b.results result o.formulas a.below;
@@ -61,5 +64,7 @@ module _ (version : ℕ) (names : List Bytes) (defs : List Def) (b : Block) (kep
   pub function_kept : (n : ℕ) (ws : List Bytes) (code : Bytes) (r : Reading) → function_line (reading in_function version names defs b) n ws code ≡ Ok r → IsKept r
   function_kept n ws code r h =
       either (begins ws (codes "in")) _ _ r h (line_kept in_function version names defs b kept (in_line b n ws) r (λ after e. input_goes b after kept.well (in_added b n ws after e))) (λ h1.
-      either (begins ws (codes "out")) _ _ r h1 (line_kept in_function version names defs b kept (result_line b n code) r (λ after e. output_goes b after kept.well (result_added b n code after e))) (λ h2.
+      either (begins ws (codes "out")) _ _ r h1
+      (line_kept in_function version names defs b kept (result_line b n code) r
+      (λ after e. output_goes b after kept.well (result_added b n code after e))) (λ h2.
       either (begins ws (codes "end")) _ _ r h2 (end_kept in_function version names defs b kept refl (nat_lt 0 (length b.results)) (Function b.ins b.results) n ws r whole) (λ h3. never _ r h3)))

@@ -43,7 +43,8 @@ output_goes b after o a =
       record {
         inputs = o.inputs;
         outputs = ports_with b.outs p o.outputs a.few a.named a.sized;
-        distinct = put_behind (port_names b.ins ++ port_names b.outs) _ p.name (output_put (port_names b.ins) b.outs p) (new_both p.name (port_names b.ins) (port_names b.outs) a.new.ins a.new.outs) o.distinct;
+        distinct = put_behind (port_names b.ins ++ port_names b.outs) _ p.name (output_put (port_names b.ins) b.outs p)
+            (new_both p.name (port_names b.ins) (port_names b.outs) a.new.ins a.new.outs) o.distinct;
         few = o.few;
         named = o.named;
         once = o.once;

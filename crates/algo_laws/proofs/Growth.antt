@@ -1,21 +1,88 @@
 -- Each line adds at most one definition.
-use Rattle.std.proofs.Common.{◌≡◌, ℕ, ◌+◌, ◌≤◌, ◌==◌, Bool, not, ◌||◌, nat_lt, true, Option, Some, None, Result, Ok, Err, List, [], ◌∷◌, ◌++◌, length, drop, ap, arith, subst, length-append, codes, bytes_eq, ℤ}
+use Rattle.std.proofs.Common.{
+  ◌≡◌,
+  ℕ,
+  ◌+◌,
+  ◌≤◌,
+  ◌==◌,
+  Bool,
+  not,
+  ◌||◌,
+  nat_lt,
+  true,
+  Option,
+  Some,
+  None,
+  Result,
+  Ok,
+  Err,
+  List,
+  [],
+  ◌∷◌,
+  ◌++◌,
+  length,
+  drop,
+  ap,
+  arith,
+  subst,
+  length-append,
+  codes,
+  bytes_eq,
+  ℤ,
+}
 use Rattle.syn_base.specs.Name.{is_name}
 use Rattle.text_lines.specs.Text.{lines_of, words_of, code_of, foreign_place, word, begins}
 use Rattle.syn_base.specs.Bytes.{Bytes}
 use Rattle.syn_base.specs.declared.limits.LimitKind.TheVariants.{PortLength, Copies}
 use Rattle.text_lines.specs.Refusals.{is_above}
+use Rattle.algo_rules.specs.Refusals.{AlgoRefusal}
 use Rattle.algo_rules.specs.declared.Def.{Def}
 use Rattle.algo_rules.specs.declared.Defs.{Defs}
 use Rattle.algo_rules.specs.declared.Body.{Body}
 use Rattle.algo_rules.specs.declared.Body.TheVariants.{Sensor, Actuator, Constant, Delay, Function, Graph, Switch, Repeat}
-use Rattle.algo_rules.specs.declared.AlgoError.{AlgoError}
 use Rattle.algo_rules.specs.Among.{is_among}
 use Rattle.algo_rules.specs.Words.{count_of}
 use Rattle.algo_rules.specs.Parts.{is_whole}
 use Rattle.algo_rules.specs.declared.Part.TheVariants.{Inputs}
 use Rattle.algo_rules.specs.Blocks.{Block, new_block, in_line, out_line, result_line, reference_line, edge_line, on_line, case_line, otherwise_line, fork_line, diffuse_line, iterate_line, join_line}
-use Rattle.algo_rules.specs.Text.{first_part, Stage, before_version, between, in_function, in_graph, in_switch, in_repeat, Reading, start, defined, end_line, values_line, deep_delay, deep_line, delay_line, opened, opening_line, repeat_line, between_line, in_block, block_end, function_line, graph_line, switch_line, frontier_line, version_of, version_line, numbers_of, by_stage, line_by, next_line, at_end, defs_in, rest_of, definitions_of}
+use Rattle.algo_rules.specs.Text.{
+  first_part,
+  Stage,
+  before_version,
+  between,
+  in_function,
+  in_graph,
+  in_switch,
+  in_repeat,
+  Reading,
+  start,
+  defined,
+  end_line,
+  values_line,
+  deep_delay,
+  deep_line,
+  delay_line,
+  opened,
+  opening_line,
+  repeat_line,
+  between_line,
+  in_block,
+  block_end,
+  function_line,
+  graph_line,
+  switch_line,
+  frontier_line,
+  version_of,
+  version_line,
+  numbers_of,
+  by_stage,
+  line_by,
+  next_line,
+  at_end,
+  defs_in,
+  rest_of,
+  definitions_of,
+}
 use Rattle.algo_rules.proofs.Checks.{passed, held, found, read, either, never, same_ok}
 
 -- what was read after a line has at most one definition more
@@ -95,7 +162,7 @@ module _ (r : Reading) where
       either (begins ws (codes "repeat")) _ _ q h7 (repeat_grows n ws q) (λ h8. never _ q h8))))))))
 
   -- a line of the open block adds none, and its end one
-  block_grows : (b : Result Block AlgoError) (q : Reading) → in_block r b ≡ Ok q → Grows r q
+  block_grows : (b : Result Block AlgoRefusal) (q : Reading) → in_block r b ≡ Ok q → Grows r q
   block_grows (Ok b) q h = same_grows _ q as_many (same_ok _ q h)
   block_grows (Err e) q h = never _ q h
 
@@ -125,7 +192,9 @@ module _ (r : Reading) where
       either (begins ws (codes "out")) _ _ q h2 (block_grows (out_line r.block n ws) q) (λ h3.
       either (begins ws (codes "case")) _ _ q h3 (block_grows (case_line r.block n ws) q) (λ h4.
       either (begins ws (codes "otherwise")) _ _ q h4 (block_grows (otherwise_line r.block n ws) q) (λ h5.
-      either (begins ws (codes "end")) _ _ q h5 (closed_grows (is_whole r.block.part) (Switch r.block.on r.block.ins r.block.outs r.block.cases r.block.otherwise r.block.otherwise_line) n ws q) (λ h6. never _ q h6))))))
+      either (begins ws (codes "end")) _ _ q h5
+      (closed_grows (is_whole r.block.part)
+      (Switch r.block.on r.block.ins r.block.outs r.block.cases r.block.otherwise r.block.otherwise_line) n ws q) (λ h6. never _ q h6))))))
 
   frontier_grows : (n : ℕ) (ws : List Bytes) (q : Reading) → frontier_line r n ws ≡ Ok q → Grows r q
   frontier_grows n ws q h =

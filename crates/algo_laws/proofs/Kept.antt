@@ -6,11 +6,11 @@ use Rattle.std.proofs.lemmas.List.Elements.{All-push}
 use Rattle.syn_base.specs.Bytes.{Bytes}
 use Rattle.syn_base.specs.declared.limits.LimitKind.TheVariants as limits
 use Rattle.syn_base.specs.Limits.{bound_of}
+use Rattle.algo_rules.specs.Refusals.{AlgoRefusal}
 use Rattle.algo_rules.specs.Expr.{PortsBelow}
 use Rattle.algo_rules.specs.Well.{AreDistinctNames}
 use Rattle.algo_rules.specs.declared.Body.{Body}
 use Rattle.algo_rules.specs.declared.Def.{Def}
-use Rattle.algo_rules.specs.declared.AlgoError.{AlgoError}
 use Rattle.algo_rules.specs.Blocks.{Block}
 use Rattle.algo_rules.specs.Text.{Stage, before_version, between, in_function, in_graph, in_switch, in_repeat, Reading, in_block, block_end}
 use Rattle.algo_rules.proofs.Checks.{neither, never, not_false, passed, same_ok}
@@ -81,7 +81,7 @@ same_name in_repeat b after h = ap (λ (w : Bytes). w ∷ []) h
 abbrev pub reading : Stage → ℕ → List Bytes → List Def → Block → Reading
 reading s version names defs b = record { stage = s; version = version; names = names; defs = defs; block = b }
 
-pub line_kept : (s : Stage) (version : ℕ) (names : List Bytes) (defs : List Def) (b : Block) → Kept s names defs b → (x : Result Block AlgoError) (r : Reading)
+pub line_kept : (s : Stage) (version : ℕ) (names : List Bytes) (defs : List Def) (b : Block) → Kept s names defs b → (x : Result Block AlgoRefusal) (r : Reading)
     → ((after : Block) → x ≡ Ok after → Goes s b after) → in_block (reading s version names defs b) x ≡ Ok r → IsKept r
 line_kept s version names defs b kept (Err e) r goes h = never e r h
 line_kept s version names defs b kept (Ok after) r goes h =
@@ -98,7 +98,8 @@ pub names_with : (defs : List Def) (d : Def) → names_of defs ++ d.name ∷ [] 
 names_with defs d = sym (map-append (λ e. e.name) defs (d ∷ [])) ∙ sym (append-nil (names_of (defs ++ d ∷ [])))
 
 -- the line that ends a block of this kind
-pub end_kept : (s : Stage) (version : ℕ) (names : List Bytes) (defs : List Def) (b : Block) → Kept s names defs b → open_name s b ≡ b.name ∷ [] → (whole : Bool) (body : Body) (n : ℕ) (ws : List Bytes) (r : Reading)
+pub end_kept : (s : Stage) (version : ℕ) (names : List Bytes) (defs : List Def) (b : Block) → Kept s names defs b → open_name s b ≡ b.name
+    ∷ [] → (whole : Bool) (body : Body) (n : ℕ) (ws : List Bytes) (r : Reading)
     → (whole ≡ true → IsWellRead body) → block_end whole body (reading s version names defs b) n ws ≡ Ok r → IsKept r
 end_kept s version names defs b kept name_is whole body n ws r is_well h =
     let form = passed (not (length ws == 1) || not whole) _ _ r h in

@@ -38,7 +38,8 @@ labelled ds (suc n) part w ins s a = labelled_by ds (vertex_within ds n) part w 
 pub node_part : (u : Vertex) → (node u).part ≡ (label_of u).part
 node_part (vertex l us) = refl
 
-outs_by : (ds : List Def) (make : Making) (part : Part) (w : Bytes) (ins : List Source) (s a : ℕ) (o : Option Def) (d : Def) → o ≡ Some d → (label_of (vertex_by ds make part w ins s a o)).outs ≡ lens_of (ports_of ds w).outs
+outs_by : (ds : List Def) (make : Making) (part : Part) (w : Bytes) (ins : List Source) (s a : ℕ) (o : Option Def) (d : Def) → o ≡ Some d
+    → (label_of (vertex_by ds make part w ins s a o)).outs ≡ lens_of (ports_of ds w).outs
 outs_by ds make part w ins s a None d e = cc
 outs_by ds make part w ins s a (Some x) d e = refl
 
@@ -48,7 +49,9 @@ pub label_outs : (ds : List Def) → Accepted ds → (n : ℕ) (part : Part) (w 
 label_outs ds acc zero part w d ins s a e le = absurd (omega (arith, acc.ranked.positive w d e))
 label_outs ds acc (suc n) part w d ins s a e le = outs_by ds (vertex_within ds n) part w ins s a (definition ds w) d e
 
-pub references_outs : (ds : List Def) → Accepted ds → (n : ℕ) (ins : List Port) (all : List Reference) (edges : List Edge) (s a : ℕ) (rs : List Reference) → Each (λ m. IsLower ds (suc n) m.def) (map reference_line rs)
+pub references_outs : (ds : List Def) → Accepted ds
+    → (n : ℕ) (ins : List Port) (all : List Reference) (edges : List Edge) (s a : ℕ) (rs : List Reference)
+    → Each (λ m. IsLower ds (suc n) m.def) (map reference_line rs)
     → outs_of (vertices_of (references_from ds (vertex_within ds n) ins all edges s a rs)) ≡ out_lens (ports_of ds) rs
 references_outs ds acc n ins all edges s a [] h = refl
 references_outs ds acc n ins all edges s a (r ∷ rs) h =

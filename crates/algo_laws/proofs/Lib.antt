@@ -31,10 +31,10 @@ pub mod Typing
 pub mod LineNames
 pub mod Wellness
 pub mod Counting
-pub mod Sizing
 pub mod Trees
 pub mod Bounds
 pub mod Names
+pub mod Whole
 pub mod Worked
 -- Lemmas from below, which proofs above cite with those of this crate.
 pub use Rattle.algo_rules.proofs.Capped

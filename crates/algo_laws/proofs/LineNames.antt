@@ -101,12 +101,16 @@ module _ (inner own : Ports) where
       fork false true p x k len e f new rest = flip (fed ls v) p k len (new_fork p v ls new)
       fork false false p x k len e f new rest = rest
 
-      diffuse : (b c : Bool) (k : ℕ) → Apart (fed ls v) (fed ls w) → Apart (first_feed inner own (if b then Some (feed.Diffuse k) else None) (fed ls v)) (first_feed inner own (if c then Some (feed.Diffuse k) else None) (fed ls w))
+      diffuse : (b c : Bool) (k : ℕ) → Apart (fed ls v) (fed ls w)
+          → Apart (first_feed inner own (if b then Some (feed.Diffuse k) else None) (fed ls v))
+          (first_feed inner own (if c then Some (feed.Diffuse k) else None) (fed ls w))
       diffuse true c k rest = tt
       diffuse false true k rest = unlike_diffuse (fed ls v) k
       diffuse false false k rest = rest
 
-      iterate : (b c : Bool) (k y : ℕ) → Apart (fed ls v) (fed ls w) → Apart (first_feed inner own (if b then Some (feed.Iterate k y) else None) (fed ls v)) (first_feed inner own (if c then Some (feed.Iterate k y) else None) (fed ls w))
+      iterate : (b c : Bool) (k y : ℕ) → Apart (fed ls v) (fed ls w)
+          → Apart (first_feed inner own (if b then Some (feed.Iterate k y) else None) (fed ls v))
+          (first_feed inner own (if c then Some (feed.Iterate k y) else None) (fed ls w))
       iterate true c k y rest = tt
       iterate false true k y rest = unlike_iterate (fed ls v) k y
       iterate false false k y rest = rest
@@ -122,7 +126,8 @@ module _ (inner own : Ports) where
   joins_new v [] h = tt
   joins_new v (l ∷ ls) h = by l.frontier h (λ k. joins_new v ls k)
     where
-      by : (f : Frontier) → IsNewName v (outer_names f ++ all_outer ls) → (IsNewName v (all_outer ls) → IsNewName v (join_names (gives ls))) → IsNewName v (join_names (give_by inner own f ++ gives ls))
+      by : (f : Frontier) → IsNewName v (outer_names f ++ all_outer ls)
+          → (IsNewName v (all_outer ls) → IsNewName v (join_names (gives ls))) → IsNewName v (join_names (give_by inner own f ++ gives ls))
       by (Fork p x) k rest = rest k.1
       by (Diffuse p x) k rest = rest k.1
       by (Iterate p x y q) k rest = rest k.1.1
@@ -132,7 +137,8 @@ module _ (inner own : Ports) where
   joins_distinct [] h = tt
   joins_distinct (l ∷ ls) h = by l.frontier h (λ k. joins_distinct ls k)
     where
-      by : (f : Frontier) → AreDistinctNames (outer_names f ++ all_outer ls) → (AreDistinctNames (all_outer ls) → AreDistinctNames (join_names (gives ls))) → AreDistinctNames (join_names (give_by inner own f ++ gives ls))
+      by : (f : Frontier) → AreDistinctNames (outer_names f ++ all_outer ls)
+          → (AreDistinctNames (all_outer ls) → AreDistinctNames (join_names (gives ls))) → AreDistinctNames (join_names (give_by inner own f ++ gives ls))
       by (Fork p x) k rest = rest k.1
       by (Diffuse p x) k rest = rest k.1
       by (Iterate p x y q) k rest = rest k.1.1
@@ -171,7 +177,8 @@ module _ (inner own : Ports) where
   all_apart w ls h [] new = tt
   all_apart w ls h (p ∷ ps) new = (forks_apart w p.name new.0 ls h, all_apart w ls h ps new.1)
 
-  pub names_distinct : (ls : List FrontierLine) → AreDistinctNames (all_outer ls) → (ps : List Port) → AreDistinctNames (port_names ps) → AreDistinctNames (fork_names (feeds ls ps) ++ join_names (gives ls))
+  pub names_distinct : (ls : List FrontierLine) → AreDistinctNames (all_outer ls) → (ps : List Port) → AreDistinctNames (port_names ps)
+      → AreDistinctNames (fork_names (feeds ls ps) ++ join_names (gives ls))
   names_distinct ls h [] k = joins_distinct ls h
   names_distinct ls h (p ∷ ps) k =
       put_front (fed ls p.name) (feeds ls ps) (join_names (gives ls))

@@ -8,7 +8,25 @@ use Rattle.algo_rules.specs.Well.{AreDistinctNames}
 use Rattle.algo_rules.specs.declared.Def.{Def}
 use Rattle.algo_rules.specs.declared.Defs.{Defs}
 use Rattle.algo_rules.specs.Blocks.{Block}
-use Rattle.algo_rules.specs.Text.{Stage, before_version, between, in_function, in_graph, in_switch, in_repeat, Reading, start, version_of, version_line, by_stage, line_by, next_line, at_end, rest_of, definitions_of}
+use Rattle.algo_rules.specs.Text.{
+  Stage,
+  before_version,
+  between,
+  in_function,
+  in_graph,
+  in_switch,
+  in_repeat,
+  Reading,
+  start,
+  version_of,
+  version_line,
+  by_stage,
+  line_by,
+  next_line,
+  at_end,
+  rest_of,
+  definitions_of,
+}
 use Rattle.algo_rules.proofs.Checks.{found, never, passed, read, same_ok}
 use Rattle.algo_rules.specs.WellRead.{IsName, IsWellRead, AreWellRead}
 use Rattle.algo_laws.proofs.Kept.{names_of, Kept, IsKept, reading}
@@ -47,7 +65,8 @@ from_names : (ds : List Def) → All IsName (names_of ds) → All (λ (d : Def).
 from_names [] h = All-nil (λ (d : Def). IsName d.name)
 from_names (d ∷ ds) h = All-cons (λ (e : Def). IsName e.name) d ds (All-head IsName d.name (names_of ds) h) (from_names ds (All-tail IsName d.name (names_of ds) h))
 
-end_well : (s : Stage) (version : ℕ) (names : List Bytes) (defs : List Def) (ds : Defs) (b : Block) (n : ℕ) → Kept s names defs b → at_end s (record { version = version; defs = defs }) n ≡ Ok ds → AreWellRead ds.defs
+end_well : (s : Stage) (version : ℕ) (names : List Bytes) (defs : List Def) (ds : Defs) (b : Block) (n : ℕ) → Kept s names defs b
+    → at_end s (record { version = version; defs = defs }) n ≡ Ok ds → AreWellRead ds.defs
 end_well before_version version names defs ds b n kept h = never _ ds h
 end_well in_function version names defs ds b n kept h = never _ ds h
 end_well in_graph version names defs ds b n kept h = never _ ds h

@@ -1,5 +1,41 @@
 -- Marks stand in version 3 alone, and their numbers are from 1 to 16.
-use Rattle.std.proofs.Common.{◌≡◌, ℕ, ◌+◌, ◌≤◌, ◌==◌, ◌||◌, not, nat_lt, nat_le, Bool, true, false, cond, Option, Some, None, Result, Ok, Err, List, [], ◌∷◌, ◌++◌, length, drop, refl, sym, ap, arith, subst, codes, bytes_eq, ℤ, ◌%◌, ◌/◌}
+use Rattle.std.proofs.Common.{
+  ◌≡◌,
+  ℕ,
+  ◌+◌,
+  ◌≤◌,
+  ◌==◌,
+  ◌||◌,
+  not,
+  nat_lt,
+  nat_le,
+  Bool,
+  true,
+  false,
+  cond,
+  Option,
+  Some,
+  None,
+  Result,
+  Ok,
+  Err,
+  List,
+  [],
+  ◌∷◌,
+  ◌++◌,
+  length,
+  drop,
+  refl,
+  sym,
+  ap,
+  arith,
+  subst,
+  codes,
+  bytes_eq,
+  ℤ,
+  ◌%◌,
+  ◌/◌,
+}
 use Rattle.std.specs.Prelude.{All}
 use Rattle.std.proofs.lemmas.List.Elements.{All-nil, All-push}
 use Rattle.syn_base.specs.Name.{is_name}
@@ -8,18 +44,54 @@ use Rattle.syn_base.specs.declared.limits.LimitKind.TheVariants as limits
 use Rattle.text_lines.specs.Text.{lines_of, words_of, code_of, foreign_place, word, begins}
 use Rattle.syn_base.specs.Bytes.{Bytes}
 use Rattle.text_lines.specs.Refusals.{is_above}
+use Rattle.algo_rules.specs.Refusals.{AlgoRefusal}
 use Rattle.algo_rules.specs.declared.Def.{Def}
 use Rattle.algo_rules.specs.declared.Defs.{Defs}
 use Rattle.algo_rules.specs.declared.Body.{Body}
 use Rattle.algo_rules.specs.declared.Body.TheVariants.{Sensor, Actuator, Constant, Delay, Function, Graph, Switch, Repeat}
 use Rattle.algo_rules.specs.declared.Reference.{Reference}
-use Rattle.algo_rules.specs.declared.AlgoError.{AlgoError}
 use Rattle.algo_rules.specs.Among.{is_among}
 use Rattle.algo_rules.specs.Words.{count_of, period_by, end_of}
 use Rattle.algo_rules.specs.Parts.{is_whole}
 use Rattle.algo_rules.specs.declared.Part.TheVariants.{Inputs}
 use Rattle.algo_rules.specs.Blocks.{Block, new_block, in_line, out_line, result_line, reference_line, edge_line, on_line, case_line, otherwise_line, fork_line, diffuse_line, iterate_line, join_line}
-use Rattle.algo_rules.specs.Text.{first_part, Stage, before_version, between, in_function, in_graph, in_switch, in_repeat, Reading, start, defined, end_line, values_line, deep_delay, deep_line, delay_line, opened, opening_line, repeat_line, between_line, in_block, block_end, function_line, graph_line, switch_line, frontier_line, version_of, version_line, numbers_of, by_stage, line_by, next_line, at_end, rest_of, definitions_of}
+use Rattle.algo_rules.specs.Text.{
+  first_part,
+  Stage,
+  before_version,
+  between,
+  in_function,
+  in_graph,
+  in_switch,
+  in_repeat,
+  Reading,
+  start,
+  defined,
+  end_line,
+  values_line,
+  deep_delay,
+  deep_line,
+  delay_line,
+  opened,
+  opening_line,
+  repeat_line,
+  between_line,
+  in_block,
+  block_end,
+  function_line,
+  graph_line,
+  switch_line,
+  frontier_line,
+  version_of,
+  version_line,
+  numbers_of,
+  by_stage,
+  line_by,
+  next_line,
+  at_end,
+  rest_of,
+  definitions_of,
+}
 use Rattle.algo_rules.proofs.Checks.{either, equal, found, held, never, passed, read, same_ok}
 use Rattle.algo_rules.proofs.References.{IsMark, ReferenceRead, reference_read}
 use Rattle.algo_laws.specs.Periods.{IsPeriod, references_of, HasPeriods}
@@ -150,11 +222,13 @@ module _ (version : ℕ) (names : List Bytes) (defs : List Def) (b : Block) (bod
       either (begins ws (codes "repeat")) _ _ r h7 (repeat_marked n ws r) (λ h8. never _ r h8))))))))
 
   -- a line of the open block, and the line that ends it
-  block_marked : (s : Stage) (x : Result Block AlgoError) (r : Reading) → ((after : Block) → x ≡ Ok after → OpenMarks s version defs after) → in_block (reading s version names defs b) x ≡ Ok r → AreMarked r
+  block_marked : (s : Stage) (x : Result Block AlgoRefusal) (r : Reading) → ((after : Block) → x ≡ Ok after → OpenMarks s version defs after)
+      → in_block (reading s version names defs b) x ≡ Ok r → AreMarked r
   block_marked s (Ok after) r marks h = subst (λ (q : Reading). AreMarked q) (same_ok (reading s version names defs after) r h) (record { bodies = bodies; still = marks after refl })
   block_marked s (Err e) r marks h = never e r h
 
-  closed_marked : (s : Stage) (whole : Bool) (body : Body) (n : ℕ) (ws : List Bytes) (r : Reading) → HasPeriods version body → block_end whole body (reading s version names defs b) n ws ≡ Ok r → AreMarked r
+  closed_marked : (s : Stage) (whole : Bool) (body : Body) (n : ℕ) (ws : List Bytes) (r : Reading) → HasPeriods version body
+      → block_end whole body (reading s version names defs b) n ws ≡ Ok r → AreMarked r
   closed_marked s whole body n ws r marks h =
       let form = passed (not (length ws == 1) || not whole) _ _ r h in
       subst (λ (q : Reading). AreMarked q) (same_ok _ r form.1)
@@ -164,7 +238,9 @@ module _ (version : ℕ) (names : List Bytes) (defs : List Def) (b : Block) (bod
   function_marked n ws code r h =
       either (begins ws (codes "in")) _ _ r h (block_marked in_function (in_line b n ws) r (λ after e. tt)) (λ h1.
       either (begins ws (codes "out")) _ _ r h1 (block_marked in_function (result_line b n code) r (λ after e. tt)) (λ h2.
-      either (begins ws (codes "end")) _ _ r h2 (closed_marked in_function (nat_lt 0 (length b.results)) (Function b.ins b.results) n ws r (unmarked version (Function b.ins b.results) refl)) (λ h3. never _ r h3)))
+      either (begins ws (codes "end")) _ _ r h2
+      (closed_marked in_function (nat_lt 0 (length b.results)) (Function b.ins b.results) n ws r
+      (unmarked version (Function b.ins b.results) refl)) (λ h3. never _ r h3)))
 
   switch_marked : (n : ℕ) (ws : List Bytes) (r : Reading) → switch_line (reading in_switch version names defs b) n ws ≡ Ok r → AreMarked r
   switch_marked n ws r h =
@@ -182,7 +258,9 @@ module _ (version : ℕ) (names : List Bytes) (defs : List Def) (b : Block) (bod
       either (begins ws (codes "diffuse")) _ _ r h1 (block_marked in_repeat (diffuse_line b n ws) r (λ after e. tt)) (λ h2.
       either (begins ws (codes "iterate")) _ _ r h2 (block_marked in_repeat (iterate_line b n ws) r (λ after e. tt)) (λ h3.
       either (begins ws (codes "join")) _ _ r h3 (block_marked in_repeat (join_line b n ws) r (λ after e. tt)) (λ h4.
-      either (begins ws (codes "end")) _ _ r h4 (closed_marked in_repeat true (Repeat b.copies b.def b.frontier) n ws r (unmarked version (Repeat b.copies b.def b.frontier) refl)) (λ h5. never _ r h5)))))
+      either (begins ws (codes "end")) _ _ r h4
+      (closed_marked in_repeat true (Repeat b.copies b.def b.frontier) n ws r
+      (unmarked version (Repeat b.copies b.def b.frontier) refl)) (λ h5. never _ r h5)))))
 
   version_marked : defs ≡ [] → (n : ℕ) (ws : List Bytes) (r : Reading) → version_line (reading before_version version names defs b) n ws ≡ Ok r → AreMarked r
   version_marked none n ws r h =

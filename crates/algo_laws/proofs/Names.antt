@@ -28,9 +28,8 @@ use Rattle.algo_rules.specs.Outer.{outer_names, all_outer}
 use Rattle.algo_rules.specs.Links.{mentions_in, definition}
 use Rattle.algo_rules.specs.Ports.{ports_of, len_of, number_of}
 use Rattle.algo_rules.specs.declared.ports.Ports.{Ports}
-use Rattle.algo_rules.specs.Resolved.{feed_by, first_feed, feed_of, give_by, vertex_within, vertex_by, references_from, cases_from, sources_to, owns, kind_by, inner_by, sensor_count, actuator_count}
+use Rattle.algo_rules.specs.Resolved.{refusal, tree_of, feed_by, first_feed, feed_of, give_by, vertex_within, vertex_by, references_from, cases_from, sources_to, owns, kind_by, inner_by, sensor_count, actuator_count}
 use Rattle.algo_rules.specs.WellRead.{IsName, IsWellRead, AreWellRead}
-use Rattle.algo_laws.specs.Central.{AcceptedHaveNames}
 use Rattle.algo_laws.specs.Depths.{rank}
 use Rattle.algo_laws.proofs.Firsts.{Each, each_all, each_append}
 use Rattle.algo_laws.proofs.Standing.{definition_by, named}
@@ -130,7 +129,9 @@ module _ (ds : List Def) (n : ℕ) where
         (ih (Numbered 0) def h.0.0.0 (owns 0 (length (ports_of ds def).ins)) 0 0 tt h.0.0.1 (omega (arith, h.0.1)), tt),
       )
 
-named_of : (ds : List Def) → AreWellRead ds → (acc : Accepted ds) (n : ℕ) → MakesNamed ds n → (part : Part) (w : Bytes) (d : Def) (ins : List Source) (s a : ℕ) (o : Option Def) → IsPartNamed part → o ≡ Some d → definition ds w ≡ Some d → rank ds w ≤ suc n
+named_of : (ds : List Def) → AreWellRead ds → (acc : Accepted ds) (n : ℕ) → MakesNamed ds n
+    → (part : Part) (w : Bytes) (d : Def) (ins : List Source) (s a : ℕ) (o : Option Def) → IsPartNamed part → o ≡ Some d → definition ds w
+    ≡ Some d → rank ds w ≤ suc n
     → IsNamed (vertex_by ds (vertex_within ds n) part w ins s a o)
 named_of ds read acc n ih part w d ins s a None name is e le = cc
 named_of ds read acc n ih part w d ins s a (Some x) name is e le =
@@ -147,7 +148,7 @@ named_within ds read acc (suc n) part w d ins s a name e le =
 inside : (u : tree.Vertex) → IsNamed u → HasNames u
 inside (tree.vertex l us) h = h.1
 
-pub have_names : AcceptedHaveNames
+pub have_names : (ds : List Def) → AreWellRead ds → refusal ds ≡ None → HasNames (tree_of ds)
 have_names ds read no_refusal =
     let none = has_none ds no_refusal in
     let acc = accepted ds read none in

@@ -1,5 +1,34 @@
 -- The sensors and the actuators of the main graph: none stands inside another vertex, and they are numbered in order.
-use Rattle.std.proofs.Common.{◌≡◌, ℕ, suc, ◌+◌, true, false, List, [], ◌∷◌, ◌++◌, map, length, Option, Some, None, ◌⊎◌, inl, inr, refl, ap, sym, subst, ◌∙◌, arith, append_assoc, append-nil, add-zero, zero-add}
+use Rattle.std.proofs.Common.{
+  ◌≡◌,
+  ℕ,
+  suc,
+  ◌+◌,
+  true,
+  false,
+  List,
+  [],
+  ◌∷◌,
+  ◌++◌,
+  map,
+  length,
+  Option,
+  Some,
+  None,
+  ◌⊎◌,
+  inl,
+  inr,
+  refl,
+  ap,
+  sym,
+  subst,
+  ◌∙◌,
+  arith,
+  append_assoc,
+  append-nil,
+  add-zero,
+  zero-add,
+}
 use Rattle.level_meaning.specs.declared.source.Source.{Source}
 use Rattle.level_meaning.specs.declared.part.Part.{Part}
 use Rattle.level_meaning.specs.declared.part.Part.TheVariants.{Named}
@@ -48,7 +77,8 @@ module _ (ds : List Def) (n : ℕ) (ins : List Port) (all : List Reference) (edg
   references_none_inside : AllStand ds → (owner : Bytes) (s a : ℕ) (rs : List Reference) → Each (Stands ds owner) (map reference_line rs) → NoneInside (made s a rs)
   references_none_inside stand owner s a [] k = tt
   references_none_inside stand owner s a (r ∷ rs) k =
-      none_front _ _ (other_no_ends ds n stand _ r.def _ s a (definition ds r.def) refl (other_by owner r (definition ds r.def) k.0)) (references_none_inside stand owner (s + sensor_count (definition ds r.def)) (a + actuator_count (definition ds r.def)) rs k.1)
+      none_front _ _ (other_no_ends ds n stand _ r.def _ s a (definition ds r.def) refl (other_by owner r (definition ds r.def) k.0))
+      (references_none_inside stand owner (s + sensor_count (definition ds r.def)) (a + actuator_count (definition ds r.def)) rs k.1)
 
 -- a vertex has this number, or none
 abbrev Counts : List ℕ → ℕ → ℕ → Type 0
@@ -83,7 +113,8 @@ module _ (ds : List Def) (n : ℕ) where
   sensor_by own s a (Switch on ins outs cases otherwise last) d e = inr (refl, refl)
   sensor_by own s a (Repeat copies def lines) d e = inr (refl, refl)
 
-  actuator_by : (own : Ports) (s a : ℕ) (b : Body) (d : Def) → d.body ≡ b → Counts (actuator_number (kind_by ds make own s a b)) (actuator_count (Some (record { name = d.name; line = d.line; body = b }))) a
+  actuator_by : (own : Ports) (s a : ℕ) (b : Body) (d : Def) → d.body ≡ b
+      → Counts (actuator_number (kind_by ds make own s a b)) (actuator_count (Some (record { name = d.name; line = d.line; body = b }))) a
   actuator_by own s a (Sensor len) d e = inr (refl, refl)
   actuator_by own s a (Actuator len) d e = inl (refl, refl)
   actuator_by own s a (Constant values) d e = inr (refl, refl)
@@ -104,10 +135,12 @@ module _ (ds : List Def) (n : ℕ) where
 abbrev IsNumberedFrom : ℕ → List ℕ → Type 0
 IsNumberedFrom n ks = numbers_below n ++ ks ≡ numbers_below (n + length ks)
 
-sensor_put : (u : Vertex) (us : Vertices) (one s : ℕ) → Counts (sensor_number (label_of u).kind) one s → IsNumberedFrom (s + one) (sensor_numbers us) → IsNumberedFrom s (sensor_numbers (and_vertex u us))
+sensor_put : (u : Vertex) (us : Vertices) (one s : ℕ) → Counts (sensor_number (label_of u).kind) one s
+    → IsNumberedFrom (s + one) (sensor_numbers us) → IsNumberedFrom s (sensor_numbers (and_vertex u us))
 sensor_put (vertex l vs) us one s c h = in_front (sensor_number l.kind) one s (sensor_numbers us) c h
 
-actuator_put : (u : Vertex) (us : Vertices) (one a : ℕ) → Counts (actuator_number (label_of u).kind) one a → IsNumberedFrom (a + one) (actuator_numbers us) → IsNumberedFrom a (actuator_numbers (and_vertex u us))
+actuator_put : (u : Vertex) (us : Vertices) (one a : ℕ) → Counts (actuator_number (label_of u).kind) one a
+    → IsNumberedFrom (a + one) (actuator_numbers us) → IsNumberedFrom a (actuator_numbers (and_vertex u us))
 actuator_put (vertex l vs) us one a c h = in_front (actuator_number l.kind) one a (actuator_numbers us) c h
 
 module _ (ds : List Def) (n : ℕ) (ins : List Port) (all : List Reference) (edges : List Edge) where

@@ -1,5 +1,35 @@
 -- How deep a definition is: more than all that it names, and at most 8.
-use Rattle.std.proofs.Common.{◌≡◌, ℕ, zero, suc, ◌+◌, ◌<◌, ◌≤◌, Bool, true, false, not, cond, List, [], ◌∷◌, map, length, get_or, Option, Some, None, refl, ap, sym, subst, ◌∙◌, arith, if◌then◌else◌, nat_lt}
+use Rattle.std.proofs.Common.{
+  ◌≡◌,
+  ℕ,
+  zero,
+  suc,
+  ◌+◌,
+  ◌<◌,
+  ◌≤◌,
+  Bool,
+  true,
+  false,
+  not,
+  cond,
+  List,
+  [],
+  ◌∷◌,
+  map,
+  length,
+  get_or,
+  Option,
+  Some,
+  None,
+  refl,
+  ap,
+  sym,
+  subst,
+  ◌∙◌,
+  arith,
+  if◌then◌else◌,
+  nat_lt,
+}
 use Rattle.std.specs.Prelude.{slice_get}
 use Rattle.std.specs.List.{All, flat_map}
 use Rattle.std.specs.Str.{bytes_eq}
@@ -12,7 +42,6 @@ use Rattle.syn_base.specs.declared.limits.LimitKind.TheVariants.{Depth}
 use Rattle.syn_base.specs.Limits.{bound_of}
 use Rattle.syn_base.specs.Bytes.{Bytes}
 use Rattle.algo_rules.specs.declared.Def.{Def}
-use Rattle.algo_rules.specs.declared.AlgoError.TheVariants.{Limit}
 use Rattle.algo_rules.specs.ReferenceLinks.{from, depth, depths, numbers, first_recursive, reaches_itself}
 use Rattle.algo_rules.specs.Answer.{AreInside}
 use Rattle.algo_rules.proofs.Enough.{one_deeper}
@@ -21,6 +50,7 @@ use Rattle.algo_laws.specs.Depths.{place_of, rank}
 use Rattle.algo_laws.proofs.Firsts.{Each, none_each, each_flat, each_gives}
 use Rattle.algo_laws.proofs.Standing.{definition_by}
 use Rattle.syn_base.specs.Numbers.{greatest}
+use Rattle.text_lines.specs.Refusals.{Limit}
 
 -- The definition of a name stands at its place.
 found : (ds : List Def) (w : Bytes) → definition ds w ≡ slice_get ds (place_of ds w)
@@ -111,7 +141,8 @@ few_by : (ns : List ℕ) → too_deep_by ns ≡ None → (k : ℕ) → get_or ns
 few_by [] h k = omega arith
 few_by (n ∷ ns) h k = by (λ j i. few_by ns j i) (nat_lt 8 n) refl h k
   where
-    by : (too_deep_by ns ≡ None → (i : ℕ) → get_or ns i 0 ≤ 8) → (b : Bool) → nat_lt 8 n ≡ b → (if b then Some (Limit (record { which = Depth; count = n; bound = bound_of Depth })) else too_deep_by ns) ≡ None → (k : ℕ) → get_or (n ∷ ns) k 0 ≤ 8
+    by : (too_deep_by ns ≡ None → (i : ℕ) → get_or ns i 0 ≤ 8) → (b : Bool) → nat_lt 8 n ≡ b
+        → (if b then Some (Limit (record { which = Depth; count = n; bound = bound_of Depth })) else too_deep_by ns) ≡ None → (k : ℕ) → get_or (n ∷ ns) k 0 ≤ 8
     by rest true e j i = cc
     by rest false e j zero = omega (arith, ltb-false 8 n e)
     by rest false e j (suc i) = rest j i

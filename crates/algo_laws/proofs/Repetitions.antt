@@ -13,7 +13,6 @@ use Rattle.algo_rules.specs.declared.Body.TheVariants.{Repeat}
 use Rattle.algo_rules.specs.declared.Frontier.{Frontier}
 use Rattle.algo_rules.specs.declared.Frontier.TheVariants.{Fork, Diffuse, Iterate, Join}
 use Rattle.algo_rules.specs.declared.FrontierLine.{FrontierLine}
-use Rattle.algo_rules.specs.declared.AlgoError.{AlgoError}
 use Rattle.algo_rules.specs.Among.{is_among}
 use Rattle.algo_rules.specs.Outer.{outer_names, all_outer}
 use Rattle.algo_rules.specs.Blocks.{Block, all_names, with_frontier, fork_line, diffuse_line, iterate_line, join_line}
@@ -24,6 +23,7 @@ use Rattle.algo_laws.proofs.Checks.{names_hold}
 use Rattle.algo_laws.proofs.GivenOnce.{new_beside, new_both, distinct_behind}
 use Rattle.algo_laws.proofs.Kept.{Kept, IsKept, Goes, reading, line_kept, end_kept}
 use Rattle.text_lines.specs.Text.{word, begins}
+use Rattle.algo_rules.specs.Refusals.{AlgoRefusal}
 
 all_outer_with : (ls : List FrontierLine) (l : FrontierLine) → all_outer (ls ++ l ∷ []) ≡ all_outer ls ++ outer_names l.frontier
 all_outer_with [] l = append-nil (outer_names l.frontier)
@@ -77,7 +77,7 @@ module _ (b after : Block) (n : ℕ) (o : IsRepetition b.copies b.frontier) wher
   with_line f = record b { frontier = b.frontier ++ record { frontier = f; line = n } ∷ [] }
 
   -- a line with one outer name
-  one_goes : (many taken : AlgoError) (f : Frontier) (w : Bytes) → outer_names f ≡ w ∷ [] → IsName w
+  one_goes : (many taken : AlgoRefusal) (f : Frontier) (w : Bytes) → outer_names f ≡ w ∷ [] → IsName w
       → cond (is_above Ports (length b.frontier + 1)) (Err many) (cond (is_among w (all_outer b.frontier)) (Err taken) (Ok (with_line f))) ≡ Ok after → Goes in_repeat b after
   one_goes many taken f w outer named h =
       let few = passed (is_above Ports (length b.frontier + 1)) _ _ after h in
@@ -115,7 +115,7 @@ module _ (b after : Block) (n : ℕ) (o : IsRepetition b.copies b.frontier) wher
       (All-head IsName p (x ∷ y ∷ q ∷ []) all, All-head IsName q [] last)
 
   -- a line of two names
-  pair_line : (form : AlgoError) (f : Frontier) (ws : List Bytes) → cond (not (length ws == 3)) (Err form) (all_names n (drop 1 ws) (with_frontier b n f)) ≡ Ok after
+  pair_line : (form : AlgoRefusal) (f : Frontier) (ws : List Bytes) → cond (not (length ws == 3)) (Err form) (all_names n (drop 1 ws) (with_frontier b n f)) ≡ Ok after
       → (IsName (word ws 1) × IsName (word ws 2)) × (with_frontier b n f ≡ Ok after)
   pair_line e f ws h =
       let form = passed (not (length ws == 3)) _ _ after h in

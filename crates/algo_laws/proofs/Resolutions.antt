@@ -6,12 +6,10 @@ use Rattle.level_meaning.specs.declared.frontier.Feed.TheVariants as feed
 use Rattle.level_meaning.specs.declared.frontier.Give.TheVariants as give
 use Rattle.syn_base.specs.declared.limits.LimitKind.TheVariants.{PortLength, Depth, Operations}
 use Rattle.syn_base.specs.Bytes.{Bytes}
-use Rattle.text_lines.specs.Refusals.{and_then}
+use Rattle.text_lines.specs.Refusals.{and_then, Limit, refused}
+use Rattle.algo_rules.specs.Refusals.{AlgoRefusal}
 use Rattle.algo_rules.specs.Tree as tree
-use Rattle.algo_rules.specs.declared.AlgoError.{AlgoError}
-use Rattle.algo_rules.specs.declared.AlgoError.TheVariants.{Limit}
 use Rattle.algo_rules.specs.declared.AlgoCause.TheVariants.{UnknownName, WrongLength, Unconnected, TwiceConnected, Recursive, Cycle, NoMain, BadCase, Misplaced, BadRepeat}
-use Rattle.algo_rules.specs.Blocks.{refused}
 use Rattle.algo_rules.specs.Text.{definitions_of}
 use Rattle.algo_rules.specs.declared.Port.{Port}
 use Rattle.algo_rules.specs.Ports.{one_port, port}
@@ -21,10 +19,10 @@ abbrev text : List Bytes → Bytes
 text [] = []
 text (l ∷ ls) = l ++ 10 ∷ text ls
 
-abbrev read_as : Bytes → List Bytes → Result tree.Vertex AlgoError
+abbrev read_as : Bytes → List Bytes → Result tree.Vertex AlgoRefusal
 read_as version ls = and_then (definitions_of (text (version ∷ ls))) (λ d. resolution_of d.defs)
 
-abbrev read : List Bytes → Result tree.Vertex AlgoError
+abbrev read : List Bytes → Result tree.Vertex AlgoRefusal
 read ls = read_as (codes "algorithm 1") ls
 
 -- one output
@@ -60,7 +58,8 @@ unequal : read (codes "sensor S 2" ∷ codes "actuator A 1" ∷ codes "graph mai
 unequal = refl
 
 -- two references that feed each other
-cycle : read (codes "function F" ∷ codes "in x 1" ∷ codes "out y 1 = 1" ∷ codes "end" ∷ codes "graph main" ∷ codes "ref f F" ∷ codes "ref g F" ∷ codes "edge f.y g.x" ∷ codes "edge g.y f.x" ∷ codes "end" ∷ [])
+cycle : read (codes "function F" ∷ codes "in x 1" ∷ codes "out y 1 = 1" ∷ codes "end" ∷ codes "graph main" ∷ codes "ref f F"
+    ∷ codes "ref g F" ∷ codes "edge f.y g.x" ∷ codes "edge g.y f.x" ∷ codes "end" ∷ [])
     ≡ refused 6 (Cycle (codes "f" ∷ codes "g" ∷ []))
 cycle = refl
 
@@ -75,7 +74,9 @@ deep : read_as (codes "algorithm 2") (codes "delay M 2 = 1 2 3 4" ∷ codes "gra
 deep = refl
 
 -- it stands for two operations for each of them
-many_operations : read_as (codes "algorithm 2") (codes "delay M 16 = 1 2 3 4 5 6 7 8 9 10 11 12 13 14 15 16" ∷ codes "constant C = 0" ∷ codes "graph G" ∷ codes "ref a M" ∷ codes "ref c C" ∷ codes "edge a.o a.i" ∷ codes "end"
+many_operations : read_as (codes "algorithm 2")
+    (codes "delay M 16 = 1 2 3 4 5 6 7 8 9 10 11 12 13 14 15 16" ∷ codes "constant C = 0" ∷ codes "graph G" ∷ codes "ref a M"
+    ∷ codes "ref c C" ∷ codes "edge a.o a.i" ∷ codes "end"
     ∷ codes "repeat R 63 G" ∷ codes "end" ∷ codes "graph main" ∷ codes "ref r R" ∷ codes "end" ∷ [])
     ≡ Err (Limit (record { which = Operations; count = 2079; bound = 2048 }))
 many_operations = refl
@@ -130,7 +131,8 @@ good_switch = refl
 -- repetitions
 abbrev repeated : Bytes → List Bytes → List Bytes
 repeated count lines = codes "function F" ∷ codes "in x 2" ∷ codes "in a 1" ∷ codes "out y 1 = 1" ∷ codes "end" ∷ codes "constant Z = 0" ∷ codes "constant V = 1 2 3 4"
-    ∷ (codes "repeat R " ++ count ++ codes " F") ∷ lines ++ codes "end" ∷ codes "graph main" ∷ codes "ref v V" ∷ codes "ref z Z" ∷ codes "ref r R" ∷ codes "edge v.o r.p" ∷ codes "edge z.o r.z" ∷ codes "end" ∷ []
+    ∷ (codes "repeat R " ++ count ++ codes " F") ∷ lines ++ codes "end" ∷ codes "graph main" ∷ codes "ref v V" ∷ codes "ref z Z"
+    ∷ codes "ref r R" ∷ codes "edge v.o r.p" ∷ codes "edge z.o r.z" ∷ codes "end" ∷ []
 
 copies : read (repeated (codes "2") (codes "fork p x" ∷ codes "iterate z a y t" ∷ codes "join y q" ∷ [])) ≡ Ok (main_with
     (vertex (Named (codes "v")) (codes "V") [] (out (codes "o") 4) (tree.constant (pos 1 ∷ pos 2 ∷ pos 3 ∷ pos 4 ∷ [])) []

@@ -33,7 +33,12 @@ module _ (ds : List Def) where
   fine_by n (Graph ins outs references edges) read none h =
       record { ins = sized ins read.inputs.sized; outs = sized outs read.outputs.sized; distinct = (distinct_append (port_names ins) (port_names outs) read.distinct).0 }
   fine_by n (Switch on ins outs cases otherwise last) read none h =
-      record { ins = ((omega arith, omega arith), sized ins read.inputs.sized); outs = sized outs read.outputs.sized; distinct = (distinct_append (on ∷ port_names ins) (port_names outs) read.distinct).0 }
+      record {
+        ins = ((omega arith, omega arith), sized ins read.inputs.sized);
+        outs = sized outs read.outputs.sized;
+        distinct =
+            (distinct_append (on ∷ port_names ins) (port_names outs) read.distinct).0;
+      }
   fine_by n (Repeat copies def lines) read none h =
       let fits = repeat_fits copies (ports_of ds def) n lines none in
       record {

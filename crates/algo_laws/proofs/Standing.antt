@@ -39,7 +39,8 @@ pub all_stand : (ds : List Def) → misplaced ds ≡ None → (w : Bytes) (d : D
 all_stand ds h w d e =
     let lines = definition_by (λ x. first_of (map (misplaced_by ds x.name) (mentions x)) ≡ None) ds w d (none_flat (λ x. map (misplaced_by ds x.name) (mentions x)) ds h) e in
     let each : Each (Stands ds d.name) (mentions d) =
-    each_gives (λ m. misplaced_by ds d.name m ≡ None) (Stands ds d.name) (λ m k. stands_by m (may_stand d.name m (definition ds m.def)) k) (mentions d) (none_each (misplaced_by ds d.name) (mentions d) lines) in
+    each_gives (λ m. misplaced_by ds d.name m ≡ None) (Stands ds d.name) (λ m k. stands_by m (may_stand d.name m (definition ds m.def)) k)
+    (mentions d) (none_each (misplaced_by ds d.name) (mentions d) lines) in
     subst (λ (x : Bytes). Each (Stands ds x) (mentions d)) (sym (named ds w d e)) each
 
 pub both : (a b : Bool) → (a && b) ≡ true → (a ≡ true) × (b ≡ true)

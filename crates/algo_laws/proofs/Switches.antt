@@ -66,7 +66,8 @@ input_goes b after o a =
         named = o.named;
         inputs = ports_with b.ins p o.inputs a.few a.named a.sized;
         outputs = o.outputs;
-        distinct = put_between (b.on ∷ port_names b.ins) (port_names b.outs) _ p.name (ap (λ (l : List Bytes). b.on ∷ l) (input_put b.ins p (port_names b.outs))) (a.new.on, a.new.ins) a.new.outs o.distinct;
+        distinct = put_between (b.on ∷ port_names b.ins) (port_names b.outs) _ p.name
+            (ap (λ (l : List Bytes). b.on ∷ l) (input_put b.ins p (port_names b.outs))) (a.new.on, a.new.ins) a.new.outs o.distinct;
         few = o.few;
         no_inputs = λ e. both (is_conditioning b.part) later e;
         no_outputs = λ e. both (is_conditioning b.part) later e;
@@ -83,7 +84,8 @@ output_goes b after o a =
         named = λ e. o.named (begun b.part Outputs a.at);
         inputs = o.inputs;
         outputs = ports_with b.outs p o.outputs a.few a.named a.sized;
-        distinct = put_behind names _ p.name (ap (λ (l : List Bytes). b.on ∷ l) (output_put (port_names b.ins) b.outs p)) (a.new.on, new_both p.name (port_names b.ins) (port_names b.outs) a.new.ins a.new.outs) o.distinct;
+        distinct = put_behind names _ p.name (ap (λ (l : List Bytes). b.on ∷ l) (output_put (port_names b.ins) b.outs p))
+            (a.new.on, new_both p.name (port_names b.ins) (port_names b.outs) a.new.ins a.new.outs) o.distinct;
         few = o.few;
         no_inputs = λ e. cc;
         no_outputs = λ e. cc;
@@ -141,4 +143,6 @@ module _ (version : ℕ) (names : List Bytes) (defs : List Def) (b : Block) (kep
       either (begins ws (codes "out")) _ _ r h2 (line_kept in_switch version names defs b kept (out_line b n ws) r (λ after e. output_goes b after kept.well (out_added b n ws after e))) (λ h3.
       either (begins ws (codes "case")) _ _ r h3 (line_kept in_switch version names defs b kept (case_line b n ws) r (λ after e. case_goes b after n ws kept.well e)) (λ h4.
       either (begins ws (codes "otherwise")) _ _ r h4 (line_kept in_switch version names defs b kept (otherwise_line b n ws) r (λ after e. otherwise_goes b after n ws kept.well e)) (λ h5.
-      either (begins ws (codes "end")) _ _ r h5 (end_kept in_switch version names defs b kept refl (is_whole b.part) (Switch b.on b.ins b.outs b.cases b.otherwise b.otherwise_line) n ws r whole) (λ h6. never _ r h6))))))
+      either (begins ws (codes "end")) _ _ r h5
+      (end_kept in_switch version names defs b kept refl (is_whole b.part)
+      (Switch b.on b.ins b.outs b.cases b.otherwise b.otherwise_line) n ws r whole) (λ h6. never _ r h6))))))

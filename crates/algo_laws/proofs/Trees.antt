@@ -1,31 +1,30 @@
--- Definitions that are not refused make a tree.
-use Rattle.std.proofs.Common.{◌≡◌, ℕ, ◌≤◌, Bool, true, false, List, [], ◌∷◌, Option, Some, None, refl, ap, sym, subst, ◌∙◌, if◌then◌else◌, nat_lt}
+-- What the tree of definitions that are not refused is made of: its main graph without ports, and as many operations
+-- as are counted.
+use Rattle.std.proofs.Common.{◌≡◌, ℕ, ◌≤◌, Bool, true, false, List, [], ◌∷◌, Option, Some, None, refl, if◌then◌else◌, nat_lt}
 use Rattle.std.specs.Prelude.{codes}
 use Rattle.std.proofs.lemmas.Bool.{ltb-false}
 use Rattle.syn_base.specs.declared.limits.LimitKind.TheVariants.{Operations}
 use Rattle.syn_base.specs.Limits.{bound_of}
 use Rattle.level_meaning.specs.declared.part.Part.TheVariants.{Named}
 use Rattle.algo_rules.specs.declared.Port.{Port}
-use Rattle.algo_rules.specs.Typed.{label_of, IsTyped}
+use Rattle.algo_rules.specs.Typed.{label_of}
 use Rattle.algo_rules.specs.Valid.{HasNoPorts}
 use Rattle.algo_rules.specs.declared.Def.{Def}
 use Rattle.algo_rules.specs.declared.Body.{Body}
 use Rattle.algo_rules.specs.declared.Body.TheVariants.{Sensor, Actuator, Constant, Delay, Function, Graph, Switch, Repeat}
-use Rattle.algo_rules.specs.declared.AlgoError.TheVariants.{Limit}
 use Rattle.algo_rules.specs.Tree.{graph}
 use Rattle.algo_rules.specs.Links.{definition}
-use Rattle.algo_rules.specs.Ports.{ports_of, ports_by, lens_of}
+use Rattle.algo_rules.specs.Refusals.{AlgoRefusal}
+use Rattle.algo_rules.specs.Ports.{ports_of, ports_by}
 use Rattle.algo_rules.specs.declared.ports.Ports.{Ports}
-use Rattle.algo_rules.specs.Resolved.{Making, vertex_within, vertex_by, kind_by, is_portless, is_main_graph, operations, tree_of}
-use Rattle.algo_laws.specs.Central.{AcceptedMakeATree, OperationsAreCounted, VerticesAreCounted}
+use Rattle.algo_rules.specs.Resolved.{Making, vertex_within, vertex_by, kind_by, is_portless, is_main_graph, operations}
+use Rattle.algo_laws.specs.Central.{OperationsAreCounted}
 use Rattle.algo_laws.proofs.Numbered.{IsGraphOf}
-use Rattle.algo_laws.proofs.Refused.{has_none, main_is_graph, stand_in_main, are_numbered}
-use Rattle.algo_laws.proofs.Accepted.{accepted, own_ports}
-use Rattle.algo_laws.proofs.Typing.{typed}
-use Rattle.algo_laws.proofs.Wellness.{well}
+use Rattle.algo_laws.proofs.Refused.{has_none}
+use Rattle.algo_laws.proofs.Accepted.{accepted}
 use Rattle.algo_laws.proofs.Counting.{counted_within}
-use Rattle.algo_laws.proofs.Sizing.{made_to}
 use Rattle.syn_base.specs.Bytes.{Bytes}
+use Rattle.text_lines.specs.Refusals.{Limit}
 
 abbrev pub main : Bytes
 main = codes "main"
@@ -40,7 +39,7 @@ empty [] [] h = (refl, refl)
 empty [] (p ∷ ps) h = cc
 empty (p ∷ ps) outs h = cc
 
-no_inputs : (of : Bytes → Ports) (b : Body) → is_main_graph b ≡ true → (ports_by of b).ins ≡ []
+pub no_inputs : (of : Bytes → Ports) (b : Body) → is_main_graph b ≡ true → (ports_by of b).ins ≡ []
 no_inputs of (Graph ins outs references edges) h = (empty ins outs h).0
 no_inputs of (Sensor len) h = cc
 no_inputs of (Actuator len) h = cc
@@ -62,31 +61,13 @@ kind_is ds make own (Function ins outs) h = cc
 kind_is ds make own (Switch on ins outs cases otherwise last) h = cc
 kind_is ds make own (Repeat copies def lines) h = cc
 
-portless_by : (ds : List Def) (make : Making) (o : Option Def) → IsGraphOf o → HasNoPorts (label_of (vertex_by ds make (Named main) main [] 0 0 o))
+pub portless_by : (ds : List Def) (make : Making) (o : Option Def) → IsGraphOf o → HasNoPorts (label_of (vertex_by ds make (Named main) main [] 0 0 o))
 portless_by ds make None h = absurd h
 portless_by ds make (Some d) h = record { kind = kind_is ds make (ports_of ds main) d.body h; ins = refl }
 
-few_by : (n : ℕ) (b : Bool) → nat_lt 2048 n ≡ b → (if b then Some (Limit (record { which = Operations; count = n; bound = bound_of Operations })) else None) ≡ None → n ≤ 2048
+pub few_by : (n : ℕ) (b : Bool) → nat_lt 2048 n ≡ b → (if◌then◌else◌ {A = Option AlgoRefusal} b (Some (Limit (record { which = Operations; count = n; bound = bound_of Operations }))) None) ≡ None → n ≤ 2048
 few_by n true e h = cc
 few_by n false e h = ltb-false 2048 n e
 
-pub vertices_counted : VerticesAreCounted
-vertices_counted ds read no_refusal = made_to ds (accepted ds read (has_none ds no_refusal)) 8 (Named main) main [] 0 0
-
 pub are_counted : OperationsAreCounted
 are_counted ds read no_refusal = counted_within ds (accepted ds read (has_none ds no_refusal)) 8 (Named main) main [] 0 0
-
-pub make_a_tree : AcceptedMakeATree
-make_a_tree ds read no_refusal =
-    let none = has_none ds no_refusal in
-    let acc = accepted ds read none in
-    let is = main_by ds (definition ds main) refl (main_is_graph ds none) in
-    let lens : lens_of (ports_of ds main).ins ≡ [] = ap lens_of (ap (λ (p : Ports). p.ins) (own_ports ds acc.ranked main is.0 is.1.0) ∙ no_inputs (ports_of ds) is.0.body is.1.1) in
-    record {
-      portless = portless_by ds (vertex_within ds 7) (definition ds main) (main_is_graph ds none);
-      well = well ds acc 8 (Named main) main is.0 [] 0 0 is.1.0 (acc.ranked.most main is.0 is.1.0);
-      typed = subst (λ (ns : List ℕ). IsTyped ns (tree_of ds)) lens (typed ds acc 8 (Named main) main is.0 [] 0 0 is.1.0 (acc.ranked.most main is.0 is.1.0));
-      inside = stand_in_main ds none;
-      numbered = are_numbered ds none;
-      few = subst (λ (n : ℕ). n ≤ 2048) (sym (are_counted ds read no_refusal)) (few_by (operations ds) (nat_lt 2048 (operations ds)) refl none.too_many);
-    }

@@ -22,7 +22,23 @@ use Rattle.algo_rules.specs.Links.{Mention, mentions, mentions_in, definition}
 use Rattle.algo_rules.specs.Ports.{ports_of, ports_by, lens_of, outer_ports}
 use Rattle.algo_rules.specs.declared.ports.Ports.{Ports}
 use Rattle.algo_rules.specs.Graphs.{edge_faults, open_faults, cycle_fault}
-use Rattle.algo_rules.specs.Resolved.{groups, vertex, vertex_within, vertex_by, references_from, cases_from, sources_to, owns, kind_by, inner_by, feed_of, give_by, body_fault, sensor_count, actuator_count}
+use Rattle.algo_rules.specs.Resolved.{
+  groups,
+  vertex,
+  vertex_within,
+  vertex_by,
+  references_from,
+  cases_from,
+  sources_to,
+  owns,
+  kind_by,
+  inner_by,
+  feed_of,
+  give_by,
+  body_fault,
+  sensor_count,
+  actuator_count,
+}
 use Rattle.algo_rules.specs.WellRead.{IsWellRead, IsGraph, port_names}
 use Rattle.algo_laws.proofs.Firsts.{Each, none_both, none_append}
 use Rattle.algo_laws.proofs.Lengths.{distinct_append}
@@ -36,13 +52,15 @@ use Rattle.algo_laws.proofs.Frontiers.{repeat_fits, given, all_fed, all_fed_leng
 use Rattle.algo_laws.proofs.Labels.{labelled, label_outs, references_outs}
 
 -- the names of a switch's cases and of what is taken otherwise are less deep
-pub lower_cases : (ds : List Def) (n last : ℕ) (otherwise : Bytes) (cs : List Case) → Each (λ m. IsLower ds n m.def) (map case_line cs ++ record { line = last; def = otherwise; is_reference = false } ∷ [])
+pub lower_cases : (ds : List Def) (n last : ℕ) (otherwise : Bytes) (cs : List Case)
+    → Each (λ m. IsLower ds n m.def) (map case_line cs ++ record { line = last; def = otherwise; is_reference = false } ∷ [])
     → Each (IsLower ds n) (map (λ c. c.def) cs ++ otherwise ∷ [])
 lower_cases ds n last otherwise [] h = (h.0, tt)
 lower_cases ds n last otherwise (c ∷ cs) h = (h.0, lower_cases ds n last otherwise cs h.1)
 
 -- the inputs of references have distinct names
-pub inputs_distinct : (ds : List Def) → Accepted ds → (n : ℕ) (rs : List Reference) → Each (λ m. IsLower ds n m.def) (map reference_line rs) → Each (λ r. AreDistinctNames (port_names (ports_of ds r.def).ins)) rs
+pub inputs_distinct : (ds : List Def) → Accepted ds → (n : ℕ) (rs : List Reference)
+    → Each (λ m. IsLower ds n m.def) (map reference_line rs) → Each (λ r. AreDistinctNames (port_names (ports_of ds r.def).ins)) rs
 inputs_distinct ds acc n [] h = tt
 inputs_distinct ds acc n (r ∷ rs) h = ((fine ds acc r.def h.0.0.0 h.0.0.1).distinct, inputs_distinct ds acc n rs h.1)
 
@@ -85,7 +103,8 @@ module _ (ds : List Def) (acc : Accepted ds) (n : ℕ) where
   abbrev pub MakesTyped : Type 0
   MakesTyped = (part : Part) (w : Bytes) (d : Def) (ins : List Source) (s a : ℕ) → definition ds w ≡ Some d → rank ds w ≤ n → IsTyped (lens_of (ports_of ds w).ins) (vertex_within ds n part w ins s a)
 
-  typed_at : MakesTyped → (own : List ℕ) (outs : List (List ℕ)) (part : Part) (w : Bytes) (ins : List Source) (s a : ℕ) → IsLower ds (suc n) w → map (source_length own outs) ins ≡ lens_of (ports_of ds w).ins
+  typed_at : MakesTyped → (own : List ℕ) (outs : List (List ℕ)) (part : Part) (w : Bytes) (ins : List Source) (s a : ℕ)
+      → IsLower ds (suc n) w → map (source_length own outs) ins ≡ lens_of (ports_of ds w).ins
       → AreGuardsTyped (source_length own outs) (label_of (vertex_within ds n part w ins s a)).guards
       × IsTyped (map (source_length own outs) (label_of (vertex_within ds n part w ins s a)).ins) (vertex_within ds n part w ins s a)
   typed_at ih own outs part w ins s a low e =
@@ -118,7 +137,8 @@ module _ (ds : List Def) (acc : Accepted ds) (n : ℕ) where
   abbrev BodyTyped : Part → Bytes → List Source → ℕ → ℕ → Body → Ports → Type 0
   BodyTyped part w ins s a b own = IsTyped (lens_of own.ins) (vertex part w ins own.outs (kind_by ds (vertex_within ds n) own s a b) (inner_by ds (vertex_within ds n) b))
 
-  typed_body : MakesTyped → (part : Part) (w : Bytes) (ins : List Source) (s a line : ℕ) (b : Body) → IsWellRead b → body_fault ds line b ≡ None → Each (λ m. IsLower ds (suc n) m.def) (mentions_in line b)
+  typed_body : MakesTyped → (part : Part) (w : Bytes) (ins : List Source) (s a line : ℕ) (b : Body) → IsWellRead b → body_fault ds line b
+      ≡ None → Each (λ m. IsLower ds (suc n) m.def) (mentions_in line b)
       → AreFine (ports_by (ports_of ds) b) → BodyTyped part w ins s a b (ports_by (ports_of ds) b)
   typed_body ih part w ins s a line (Sensor len) read none h fine = ((fine.ins, fine.outs), (refl, refl))
   typed_body ih part w ins s a line (Actuator len) read none h fine = ((fine.ins, fine.outs), (refl, refl))
@@ -161,7 +181,8 @@ module _ (ds : List Def) (acc : Accepted ds) (n : ℕ) where
         (
           (
             subst (λ (ns : List ℕ). AllFed copies (lens_of own.ins) ns feeds) outs_are (all_fed copies body lines fits read.distinct),
-            subst (λ (ns : List ℕ). IsTyped ns u) (sym (all_fed_lengths copies body lines fits read.distinct inner.distinct)) (ih (Numbered 0) def h.0.0.0 (owns 0 (length body.ins)) 0 0 h.0.0.1 (omega (arith, h.0.1))),
+            subst (λ (ns : List ℕ). IsTyped ns u) (sym (all_fed_lengths copies body lines fits read.distinct inner.distinct))
+                (ih (Numbered 0) def h.0.0.0 (owns 0 (length body.ins)) 0 0 h.0.0.1 (omega (arith, h.0.1))),
           ),
           subst (λ (ns : List ℕ). lens_of own.outs ≡ map (given_length copies ns) gives) outs_are (given copies body own lines),
         ),
@@ -174,7 +195,8 @@ each_less ds n m le (x ∷ ms) h = ((h.0.0, omega (arith, h.0.1)), each_less ds 
 pub lower_lines : (ds : List Def) → Accepted ds → (n : ℕ) (w : Bytes) (d : Def) → definition ds w ≡ Some d → rank ds w ≤ n → Each (λ m. IsLower ds n m.def) (mentions d)
 lower_lines ds acc n w d e le = each_less ds n (rank ds w) le (mentions d) (acc.ranked.lower w d e)
 
-typed_of : (ds : List Def) (acc : Accepted ds) (n : ℕ) → MakesTyped ds acc n → (part : Part) (w : Bytes) (d : Def) (ins : List Source) (s a : ℕ) (o : Option Def) → o ≡ Some d → definition ds w ≡ Some d → rank ds w ≤ suc n
+typed_of : (ds : List Def) (acc : Accepted ds) (n : ℕ) → MakesTyped ds acc n
+    → (part : Part) (w : Bytes) (d : Def) (ins : List Source) (s a : ℕ) (o : Option Def) → o ≡ Some d → definition ds w ≡ Some d → rank ds w ≤ suc n
     → IsTyped (lens_of (ports_of ds w).ins) (vertex_by ds (vertex_within ds n) part w ins s a o)
 typed_of ds acc n ih part w d ins s a None is e le = cc
 typed_of ds acc n ih part w d ins s a (Some x) is e le =

@@ -106,9 +106,11 @@ as_many_values otherwise [] = refl
 as_many_values otherwise (c ∷ cs) = ap suc (as_many_values otherwise cs)
 
 -- the level of a graph
-level_well : (ds : List Def) → Accepted ds → (n line : ℕ) (is os : List Port) (references : List Reference) (edges : List Edge) → IsGraph is os references → body_fault ds line (Graph is os references edges) ≡ None
+level_well : (ds : List Def) → Accepted ds → (n line : ℕ) (is os : List Port) (references : List Reference) (edges : List Edge)
+    → IsGraph is os references → body_fault ds line (Graph is os references edges) ≡ None
     → Each (λ m. IsLower ds (suc n) m.def) (map reference_line references)
-    → IsAcyclic (nodes (vertices_of (references_from ds (vertex_within ds n) is references edges 0 0 references))) × HasDistinctParts (nodes (vertices_of (references_from ds (vertex_within ds n) is references edges 0 0 references)))
+    → IsAcyclic (nodes (vertices_of (references_from ds (vertex_within ds n) is references edges 0 0 references)))
+    × HasDistinctParts (nodes (vertices_of (references_from ds (vertex_within ds n) is references edges 0 0 references)))
 level_well ds acc zero line is os [] edges read none h = (λ r lt. absurd (omega arith), tt)
 level_well ds acc zero line is os (r ∷ rs) edges read none h = absurd (omega (arith, acc.ranked.positive r.def h.0.0.0 h.0.0.1, h.0.1))
 level_well ds acc (suc n) line is os references edges read none h =
@@ -116,7 +118,8 @@ level_well ds acc (suc n) line is os references edges read none h =
     let fits = graph_of ds acc (suc (suc n)) line is os references edges read none h in
     (acyclic ds n own references edges line fits.0.joined read.once fits.1, distinct_parts ds n own references edges 0 0 references read.once)
 
-well_body : (ds : List Def) (acc : Accepted ds) (n : ℕ) → MakesWell ds n → (own : Ports) (s a line : ℕ) (b : Body) → IsWellRead b → body_fault ds line b ≡ None → Each (λ m. IsLower ds (suc n) m.def) (mentions_in line b)
+well_body : (ds : List Def) (acc : Accepted ds) (n : ℕ) → MakesWell ds n → (own : Ports) (s a line : ℕ) (b : Body) → IsWellRead b
+    → body_fault ds line b ≡ None → Each (λ m. IsLower ds (suc n) m.def) (mentions_in line b)
     → IsKindWell (kind_by ds (vertex_within ds n) own s a b) [] (vertices_of (inner_by ds (vertex_within ds n) b)) × AllWell (vertices_of (inner_by ds (vertex_within ds n) b))
 well_body ds acc n ih own s a line (Sensor len) read none h = (tt, tt)
 well_body ds acc n ih own s a line (Actuator len) read none h = (tt, tt)
@@ -138,7 +141,8 @@ well_body ds acc n ih own s a line (Repeat copies def lines) read none h = (
   (ih (Numbered 0) def h.0.0.0 (owns 0 (length (ports_of ds def).ins)) 0 0 h.0.0.1 (omega (arith, h.0.1)), tt),
 )
 
-well_of : (ds : List Def) (acc : Accepted ds) (n : ℕ) → MakesWell ds n → (part : Part) (w : Bytes) (d : Def) (ins : List Source) (s a : ℕ) (o : Option Def) → o ≡ Some d → definition ds w ≡ Some d → rank ds w ≤ suc n
+well_of : (ds : List Def) (acc : Accepted ds) (n : ℕ) → MakesWell ds n
+    → (part : Part) (w : Bytes) (d : Def) (ins : List Source) (s a : ℕ) (o : Option Def) → o ≡ Some d → definition ds w ≡ Some d → rank ds w ≤ suc n
     → IsWell (vertex_by ds (vertex_within ds n) part w ins s a o)
 well_of ds acc n ih part w d ins s a None is e le = cc
 well_of ds acc n ih part w d ins s a (Some x) is e le =

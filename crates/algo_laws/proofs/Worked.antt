@@ -9,7 +9,7 @@ use Rattle.algo_rules.specs.declared.Edge.{Edge}
 use Rattle.algo_rules.specs.Resolved.{tree_of, refusal}
 use Rattle.algo_rules.specs.WellRead.{IsName, ArePorts, IsGraph, IsWellRead, AreWellRead}
 use Rattle.algo_laws.proofs.Firsts.{all_of}
-use Rattle.algo_laws.proofs.Trees.{make_a_tree}
+use Rattle.algo_laws.proofs.Whole.{make_a_tree}
 
 abbrev two : List Reference
 two = record { name = codes "s"; def = codes "Sense"; every = None; line = 5 } ∷ record { name = codes "a"; def = codes "Act"; every = None; line = 6 } ∷ []

@@ -1,7 +1,6 @@
 pub mod Accepted
 pub mod Few
 pub mod Periods
-pub mod Sizes
 pub mod Central
 pub mod Depths
 -- What the definitions here speak of: definitions, trees and the rules between them.
@@ -19,6 +18,7 @@ pub use Rattle.algo_rules.specs.Outer
 pub use Rattle.algo_rules.specs.Placed
 pub use Rattle.algo_rules.specs.Ports
 pub use Rattle.algo_rules.specs.ReferenceLinks
+pub use Rattle.algo_rules.specs.Refusals
 pub use Rattle.algo_rules.specs.Resolved
 pub use Rattle.algo_rules.specs.Returned
 pub use Rattle.algo_rules.specs.Size

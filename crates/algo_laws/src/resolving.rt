@@ -1,36 +1,20 @@
 //! The laws of resolving, each the contract of a function that does nothing.
-ghost use Rattle.algo_laws.specs.Central.{AcceptedHaveBounds, AcceptedHaveNames, AcceptedMakeATree, OperationsAreCounted, VerticesAreCounted};
+ghost use Rattle.algo_laws.specs.Central.{AcceptedMakeATree, OperationsAreCounted};
 ghost use Rattle.algo_laws.specs.Depths.{NamedAreLessDeep, PortsFollowFromBodies};
 
 /// Definitions as an accepted text has them, that have no refusal, resolve to a valid tree: well formed,
 /// with lengths that fit, without sensors or actuators inside what the main graph refers to, and with
-/// those of the main graph numbered in order, of at most 2,048 flat operations.
+/// those of the main graph numbered in order, of at most 2,048 flat operations. Each of its functions has 1 to 64
+/// outputs, the numbers of its cases and copies have 32 bits, and the parts of its paths, its definitions and the
+/// ports of which flattening makes vertices are names.
 pub fn accepted_make_a_tree()
     ensures { AcceptedMakeATree }
-{}
-
-/// In the tree of such definitions each function has 1 to 64 outputs, and the numbers of cases and copies
-/// have 32 bits.
-pub fn accepted_have_bounds()
-    ensures { AcceptedHaveBounds }
-{}
-
-/// In the tree of such definitions the parts of paths, the definitions and the ports of which flattening
-/// makes vertices are names.
-pub fn accepted_have_names()
-    ensures { AcceptedHaveNames }
 {}
 
 /// The tree of such definitions stands for as many flat operations as are counted for `main` from the
 /// definitions alone.
 pub fn operations_are_counted()
     ensures { OperationsAreCounted }
-{}
-
-/// The tree of such definitions is made of as many vertices, each copy of the body of a repetition
-/// counted, as are counted for `main` from the definitions alone.
-pub fn vertices_are_counted()
-    ensures { VerticesAreCounted }
 {}
 
 /// Where every name is known and no definition reaches itself, each definition that a definition names

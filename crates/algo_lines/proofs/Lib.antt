@@ -1,4 +1,3 @@
-pub mod Stops
 pub mod FrontNames
 pub mod Numbers
 pub mod NameTokens

@@ -1,5 +1,38 @@
 -- A token that is a name is the bytes of the name at the token's place.
-use Rattle.std.proofs.Common.{◌≡◌, ℕ, zero, suc, ◌+◌, ◌-◌, ◌==◌, ◌&&◌, nat_le, Bool, not, true, false, cond, Option, Some, None, Result, Ok, Err, [], ◌∷◌, length, take, min, refl, arith, ap, sym, ◌∙◌, subst, ℤ}
+use Rattle.std.proofs.Common.{
+  ◌≡◌,
+  ℕ,
+  zero,
+  suc,
+  ◌+◌,
+  ◌-◌,
+  ◌==◌,
+  ◌&&◌,
+  nat_le,
+  Bool,
+  not,
+  true,
+  false,
+  cond,
+  Option,
+  Some,
+  None,
+  Result,
+  Ok,
+  Err,
+  [],
+  ◌∷◌,
+  length,
+  take,
+  min,
+  refl,
+  arith,
+  ap,
+  sym,
+  ◌∙◌,
+  subst,
+  ℤ,
+}
 use Rattle.std.specs.Prelude.{slice_get}
 use Rattle.std.proofs.lemmas.Option.{slice_get-map}
 use Rattle.std.specs.Option.{option_map}
@@ -8,12 +41,31 @@ use Rattle.syn_base.specs.Name.{is_name, is_name_byte, is_digit, begins_name}
 use Rattle.syn_base.specs.Integer.{integer_of}
 use Rattle.syn_base.specs.declared.integer.NumFault.{NumFault}
 use Rattle.text_lines.specs.Text.{is_blank}
-use Rattle.body_text.specs.Tokens.{Placed, name, open_round, close_round, open_square, close_square, comma, front, len_by, number_or_bad, word_token, mark_or_word, token_of, tokens_from, placed, tokens}
+use Rattle.body_text.specs.Tokens.{
+  Placed,
+  name,
+  open_round,
+  close_round,
+  open_square,
+  close_square,
+  comma,
+  front,
+  len_by,
+  number_or_bad,
+  word_token,
+  mark_or_word,
+  token_of,
+  tokens_from,
+  placed,
+  tokens,
+}
 use Rattle.body_text.specs.Reads.{place_or, place_of}
 use Rattle.syn_base.specs.Bytes.{Bytes}
 use Rattle.algo_lines.specs.Lines.{name_length, name_from}
 
-no_mark : (a b c d e : Bool) (word p : Bytes) → mark_or_word (cond a (Some open_round) (cond b (Some close_round) (cond c (Some open_square) (cond d (Some close_square) (cond e (Some comma) None))))) word ≡ name p → word_token word ≡ name p
+no_mark : (a b c d e : Bool) (word p : Bytes)
+    → mark_or_word (cond a (Some open_round)
+    (cond b (Some close_round) (cond c (Some open_square) (cond d (Some close_square) (cond e (Some comma) None))))) word ≡ name p → word_token word ≡ name p
 no_mark true b c d e word p h = cc
 no_mark false true c d e word p h = cc
 no_mark false false true d e word p h = cc
@@ -104,7 +156,8 @@ stands start inside [] t x p is h = cc
 stands start (suc inside) (b ∷ bs) t x p is h = one_on b bs start x.place p (stands (suc start) inside bs t x p is h)
 stands start zero (b ∷ bs) t x p is h = past_blank (is_blank b) b bs start (len_by b bs - 1) t x p is (λ i k e. stands (suc start) i bs k x p is e) h
 
-by_place : (text : Bytes) (o : Option Placed) (t : ℕ) (p : Bytes) → slice_get (placed text) t ≡ o → option_map (λ (x : Placed). x.token) o ≡ Some (name p) → name_from text (place_or (length text) o) ≡ p
+by_place : (text : Bytes) (o : Option Placed) (t : ℕ) (p : Bytes) → slice_get (placed text) t ≡ o → option_map (λ (x : Placed). x.token) o
+    ≡ Some (name p) → name_from text (place_or (length text) o) ≡ p
 by_place text None t p e h = cc
 by_place text (Some x) t p e h =
     let is : x.token ≡ name p = cc in

@@ -6,8 +6,8 @@ use Rattle.body_text.specs.Ports.{resolved}
 use Rattle.body_text.specs.Reads.{IsUnknown, Reads}
 use Rattle.body_text.specs.declared.fault.BodyFault.{BodyFault}
 use Rattle.body_text.specs.declared.fault.BodyFault.TheVariants.{UnknownPort}
+use Rattle.text_lines.specs.Refusals.{refused}
 use Rattle.algo_text.specs.declared.fault.AlgoCause.TheVariants.{UnknownName}
-use Rattle.algo_text.specs.Blocks.{refused}
 use Rattle.algo_text.specs.Formulas.{name_in, known_by, formula_of}
 use Rattle.algo_text.proofs.Grammars.{written_formula}
 use Rattle.algo_text.proofs.PortNames.{Found, unknown_named}
@@ -22,5 +22,6 @@ unknown_formula n names text place h =
     ∙ ap (λ (o : Option Token). refused n (UnknownName (name_in o))) there.is
     ∙ ap (λ (w : Bytes). refused n (UnknownName w)) (sym (name_stands text h.token there.port there.is) ∙ ap (λ (k : ℕ). name_from text k) h.there)
 
-pub unknown_read : (n : ℕ) (names : List Bytes) (text : Bytes) (f : BodyFault) (place : ℕ) → f ≡ UnknownPort place → Reads names text (Err f) → formula_of n names text ≡ refused n (UnknownName (name_from text place))
+pub unknown_read : (n : ℕ) (names : List Bytes) (text : Bytes) (f : BodyFault) (place : ℕ) → f ≡ UnknownPort place
+    → Reads names text (Err f) → formula_of n names text ≡ refused n (UnknownName (name_from text place))
 unknown_read n names text f place is h = unknown_formula n names text place (subst (λ (g : BodyFault). Reads names text (Err g)) is h)

@@ -4,16 +4,15 @@ use Rattle.std.specs.List.{position_or_len}
 use Rattle.syn_base.specs.Name.{is_name, is_name_byte}
 use Rattle.syn_base.specs.declared.limits.LimitKind.TheVariants.{PortLength, Ports}
 use Rattle.algo_text.specs.declared.Port.{Port}
-use Rattle.algo_text.specs.declared.fault.AlgoError.{AlgoError}
 use Rattle.algo_text.specs.declared.fault.AlgoCause.TheVariants.{BadName, BadNumber}
 use Rattle.syn_base.specs.Bytes.{Bytes}
 use Rattle.algo_text.specs.Words.{count_of}
-use Rattle.algo_text.specs.Blocks.{refused, above}
 use Rattle.text_lines.specs.Text.{word}
-use Rattle.text_lines.specs.Refusals.{is_above, with_some}
+use Rattle.text_lines.specs.Refusals.{is_above, with_some, refused, above}
+use Rattle.algo_text.specs.Refusals.{AlgoRefusal}
 
 -- P LEN after `in` or `out`, where this many such lines stand before.
-unfoldable pub port_of : ℕ → ℕ → List Bytes → Result Port AlgoError
+unfoldable pub port_of : ℕ → ℕ → List Bytes → Result Port AlgoRefusal
 port_of line before words =
     if is_name (word words 1) then
     with_some (count_of (word words 2)) (refused line (BadNumber (word words 2))) (λ len.

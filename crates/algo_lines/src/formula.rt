@@ -1,8 +1,8 @@
 //! The expression of an output, for the line of an output of a function.
 ghost use Rattle.std.specs.Prelude.{◌≡◌, ◌≤◌, length, map, position, drop};
 ghost use Rattle.syn_base.specs.Limits.{most_in_text};
+ghost use Rattle.text_lines.specs.Refusals.{Gives};
 ghost use Rattle.algo_text.specs.Formulas.{formula_of};
-ghost use Rattle.algo_text.specs.Returned.{Gives};
 ghost use Rattle.algo_lines.specs.Lines.{name_length, name_from, is_other};
 
 use crate::fault::{bad_expression, unknown};

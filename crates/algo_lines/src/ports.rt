@@ -1,9 +1,8 @@
 //! The ports of a block, and the line that gives one, for functions, graphs and switches.
 ghost use Rattle.std.specs.Prelude.{◌≡◌, ◌<◌, ◌≤◌, length, map, [], IfOk};
 ghost use Rattle.syn_base.specs.Limits.{bound_of};
+ghost use Rattle.text_lines.specs.Refusals.{Gives, Adds};
 ghost use Rattle.algo_text.specs.Among.{is_among};
-ghost use Rattle.algo_text.specs.Returned.{Gives};
-ghost use Rattle.algo_lines.specs.Given.{Adds};
 ghost use Rattle.algo_lines.specs.Lines.{port_of};
 
 use crate::fault::bad_number;

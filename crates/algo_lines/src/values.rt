@@ -1,9 +1,8 @@
 //! The values of a constant or a delay, and the depth of a delay, for the lines of these definitions.
 ghost use Rattle.std.specs.Prelude.{◌≡◌, ◌≤◌, length, drop, IfOk};
+ghost use Rattle.text_lines.specs.Refusals.{GivesList, Steps};
 ghost use Rattle.algo_text.specs.Text.{deep_delay, numbers_of};
 ghost use Rattle.algo_text.specs.declared.definition.Body.TheVariants.{Delay};
-ghost use Rattle.algo_text.specs.Returned.{GivesList};
-ghost use Rattle.algo_lines.specs.Given.{Steps};
 
 use crate::fault::{bad_delay, bad_number};
 use crate::word::read_number;

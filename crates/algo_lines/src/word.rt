@@ -2,7 +2,8 @@
 //! lines call it.
 ghost use Rattle.std.specs.Prelude.{◌≡◌, position};
 ghost use Rattle.std.specs.List.{before_first, after_first};
-ghost use Rattle.algo_lines.specs.Given.{Has, IsNamed};
+ghost use Rattle.text_lines.specs.Refusals.{Has};
+ghost use Rattle.algo_lines.specs.Given.{IsNamed};
 ghost use Rattle.algo_text.specs.Words.{number_of, count_of, period_of, end_of, is_dot};
 ghost use Rattle.algo_text.specs.Text.{version_of};
 

@@ -1,5 +1,39 @@
 -- The canonical text of what was read is read as it.
-use Rattle.std.proofs.Common.{◌≡◌, ℕ, ◌+◌, ◌-◌, ◌≤◌, ◌==◌, Bool, not, ◌||◌, true, false, cond, List, [], ◌∷◌, ◌++◌, length, map, Option, Some, None, Result, Ok, refl, arith, ap, sym, ◌∙◌, subst, codes, append_assoc, append-nil, length-append}
+use Rattle.std.proofs.Common.{
+  ◌≡◌,
+  ℕ,
+  ◌+◌,
+  ◌-◌,
+  ◌≤◌,
+  ◌==◌,
+  Bool,
+  not,
+  ◌||◌,
+  true,
+  false,
+  cond,
+  List,
+  [],
+  ◌∷◌,
+  ◌++◌,
+  length,
+  map,
+  Option,
+  Some,
+  None,
+  Result,
+  Ok,
+  refl,
+  arith,
+  ap,
+  sym,
+  ◌∙◌,
+  subst,
+  codes,
+  append_assoc,
+  append-nil,
+  length-append,
+}
 use Rattle.std.specs.Str.{bytes_eq}
 use Rattle.std.specs.Fmt.{digits}
 use Rattle.std.proofs.lemmas.List.{map-append, length-map}
@@ -7,11 +41,29 @@ use Rattle.std.proofs.lemmas.List.Elements.{All-nil}
 use Rattle.text_lines.specs.Text.{lines_of, words_of, code_of, foreign_place, word, begins, count_text}
 use Rattle.algo_text.specs.declared.definition.Def.{Def}
 use Rattle.algo_text.specs.declared.definition.Defs.{Defs}
-use Rattle.algo_text.specs.declared.fault.AlgoError.{AlgoError}
 use Rattle.syn_base.specs.Bytes.{Bytes}
 use Rattle.algo_text.specs.Blocks.{Block}
-use Rattle.algo_text.specs.Text.{Stage, before_version, between, in_function, in_graph, in_switch, in_repeat, Reading, start, version_of, version_line, by_stage, line_by, next_line, at_end, rest_of, definitions_of}
+use Rattle.algo_text.specs.Text.{
+  Stage,
+  before_version,
+  between,
+  in_function,
+  in_graph,
+  in_switch,
+  in_repeat,
+  Reading,
+  start,
+  version_of,
+  version_line,
+  by_stage,
+  line_by,
+  next_line,
+  at_end,
+  rest_of,
+  definitions_of,
+}
 use Rattle.text_lines.specs.Refusals.{and_then}
+use Rattle.algo_text.specs.Refusals.{AlgoRefusal}
 use Rattle.algo_text.proofs.Checks.{finds, found, never, passed, read, same_ok}
 use Rattle.algo_print.specs.Canonical.{joined, version_words, canonical_text, IsPrintable, ArePrintable}
 use Rattle.algo_print.specs.ReadBack.{Says}
@@ -68,7 +120,8 @@ module _ (k : Numbered) (version : ℕ) (names : List Bytes) (defs : List Def) (
         printable = λ p. p;
       })
 
-  stage_step : (s : Stage) (n : ℕ) (ws : List Bytes) (code : Bytes) (r : Reading) → IsOrdered s defs b → by_stage s (record { stage = s; version = version; names = names; defs = defs; block = b }) n ws code ≡ Ok r → Adds k s version names defs b r
+  stage_step : (s : Stage) (n : ℕ) (ws : List Bytes) (code : Bytes) (r : Reading) → IsOrdered s defs b
+      → by_stage s (record { stage = s; version = version; names = names; defs = defs; block = b }) n ws code ≡ Ok r → Adds k s version names defs b r
   stage_step before_version n ws code r order h = version_step n ws r order h
   stage_step between n ws code r order h = between_step k version names defs b same n ws r h
   stage_step in_function n ws code r order h = function_step k version names defs b same order n ws code r h
@@ -111,7 +164,7 @@ with_line r after n kept adds =
           ∙ ap (λ (l : List Bytes). rest_of start 1 (l ++ more)) (map-append joined ls (ws ∷ []))
           ∙ ap (rest_of start 1) (append_assoc (map joined ls) (joined ws ∷ []) more)
           ∙ kept.again (joined ws ∷ more)
-          ∙ ap (λ (x : Result Reading AlgoError). and_then x (λ y. rest_of y (m + 1) more)) (next_words (numbered kept.numbers r) m ws adds.plain adds.some ∙ adds.reads m)
+          ∙ ap (λ (x : Result Reading AlgoRefusal). and_then x (λ y. rest_of y (m + 1) more)) (next_words (numbered kept.numbers r) m ws adds.plain adds.some ∙ adds.reads m)
           ∙ ap (λ (j : ℕ). rest_of (numbered (adds.next m) after) (j + 1) more) (sym size);
     }
 

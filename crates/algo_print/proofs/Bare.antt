@@ -5,7 +5,20 @@ use Rattle.algo_text.specs.declared.definition.Defs.{Defs}
 use Rattle.algo_text.specs.declared.definition.Body.{Body}
 use Rattle.algo_text.specs.declared.definition.Body.TheVariants.{Sensor, Actuator, Constant, Delay, Function, Graph, Switch, Repeat}
 use Rattle.syn_base.specs.Bytes.{Bytes}
-use Rattle.algo_print.specs.Canonical.{port_words, reference_words, edge_words, case_words, frontier_words, end_words, otherwise_lines, body_lines, definition_lines, version_words, text_of, canonical_text}
+use Rattle.algo_print.specs.Canonical.{
+  port_words,
+  reference_words,
+  edge_words,
+  case_words,
+  frontier_words,
+  end_words,
+  otherwise_lines,
+  body_lines,
+  definition_lines,
+  version_words,
+  text_of,
+  canonical_text,
+}
 use Rattle.algo_print.specs.ReadBack.{bare, bare_body, bare_reference, bare_edge, bare_case, bare_frontier}
 use Rattle.algo_print.proofs.State.{Lines}
 use Rattle.text_lines.specs.Text.{count_text}

@@ -1,5 +1,37 @@
 -- Lines between definitions add canonical lines.
-use Rattle.std.proofs.Common.{◌≡◌, ℕ, ◌==◌, ◌/◌, ◌%◌, Bool, not, ◌||◌, true, false, cond, sym, nat_lt, List, [], ◌∷◌, ◌++◌, length, map, drop, Ok, refl, arith, ap, ◌∙◌, ◌≤◌, suc, subst, codes, length-drop, ℤ}
+use Rattle.std.proofs.Common.{
+  ◌≡◌,
+  ℕ,
+  ◌==◌,
+  ◌/◌,
+  ◌%◌,
+  Bool,
+  not,
+  ◌||◌,
+  true,
+  false,
+  cond,
+  sym,
+  nat_lt,
+  List,
+  [],
+  ◌∷◌,
+  ◌++◌,
+  length,
+  map,
+  drop,
+  Ok,
+  refl,
+  arith,
+  ap,
+  ◌∙◌,
+  ◌≤◌,
+  suc,
+  subst,
+  codes,
+  length-drop,
+  ℤ,
+}
 use Rattle.std.specs.Str.{bytes_eq}
 use Rattle.std.specs.Fmt.{signed_decimal}
 use Rattle.std.proofs.lemmas.List.{length-map}
@@ -12,7 +44,25 @@ use Rattle.syn_base.specs.Bytes.{Bytes}
 use Rattle.algo_text.specs.Among.{is_among}
 use Rattle.algo_text.specs.Words.{count_of, number_of}
 use Rattle.algo_text.specs.Blocks.{Block, new_block}
-use Rattle.algo_text.specs.Text.{Stage, between, in_function, in_graph, in_switch, in_repeat, Reading, end_line, numbers_of, values_line, deep_delay, deep_line, delay_line, opening_line, repeat_line, between_line, first_part}
+use Rattle.algo_text.specs.Text.{
+  Stage,
+  between,
+  in_function,
+  in_graph,
+  in_switch,
+  in_repeat,
+  Reading,
+  end_line,
+  numbers_of,
+  values_line,
+  deep_delay,
+  deep_line,
+  delay_line,
+  opening_line,
+  repeat_line,
+  between_line,
+  first_part,
+}
 use Rattle.algo_text.proofs.Checks.{either, finds, found, held, holds, neither, never, passed, passes, read, reads, same_ok}
 use Rattle.syn_base.specs.declared.limits.LimitKind.TheVariants.{PortLength, Copies}
 use Rattle.syn_base.specs.declared.limits.LimitKind.TheVariants as limits
@@ -26,7 +76,8 @@ use Rattle.algo_print.proofs.State.{Lines, lines_at, Numbered, numbered, AreSame
 use Rattle.text_lines.specs.Text.{word, begins, count_text}
 
 -- one definition more, of these lines
-pub definition_added : (version : ℕ) (defs : List Def) (d : Def) (ws : List Bytes) → body_lines version d.name d.body ≡ ws ∷ [] → definition_lines version (defs ++ d ∷ []) ≡ definition_lines version defs ++ ws ∷ []
+pub definition_added : (version : ℕ) (defs : List Def) (d : Def) (ws : List Bytes) → body_lines version d.name d.body ≡ ws ∷ []
+    → definition_lines version (defs ++ d ∷ []) ≡ definition_lines version defs ++ ws ∷ []
 definition_added version defs d ws one = definitions_joined version defs (d ∷ []) ∙ ap (λ (ls : Lines). definition_lines version defs ++ (ls ++ [])) one
 
 pub one_printable : (defs : List Def) (d : Def) → IsPrintable d.body → ArePrintable defs → ArePrintable (defs ++ d ∷ [])
@@ -143,7 +194,8 @@ neither_holds p q h g = rw (h, g) refl
 module _ (k : Numbered) (version : ℕ) (names : List Bytes) (defs : List Def) (b : Block) (same : AreSame k defs b) where
   values_step : (key : Bytes) (kind : List ℤ → Body) (n : ℕ) (ws : List Bytes) (r : Reading) → is_word key ≡ true
       → ((w : Bytes) (vs : List ℤ) → body_lines version w (kind vs) ≡ value_words key w vs ∷ []) → ((vs : List ℤ) → IsPrintable (kind vs))
-      → ((m : ℕ) (w : Bytes) (vs : List Bytes) → between_line (numbered k (open_at version names defs b)) m (key ∷ w ∷ codes "=" ∷ vs) ≡ values_line kind (numbered k (open_at version names defs b)) m (key ∷ w ∷ codes "=" ∷ vs))
+      → ((m : ℕ) (w : Bytes) (vs : List Bytes) → between_line (numbered k (open_at version names defs b)) m (key ∷ w ∷ codes "=" ∷ vs)
+      ≡ values_line kind (numbered k (open_at version names defs b)) m (key ∷ w ∷ codes "=" ∷ vs))
       → values_line kind (open_at version names defs b) n ws ≡ Ok r → Adds k between version names defs b r
   values_step key kind n ws r key_word one printable key_line h =
       let w : Bytes = word ws 1 in
@@ -200,7 +252,9 @@ module _ (k : Numbered) (version : ℕ) (names : List Bytes) (defs : List Def) (
   delay_step true n ws r first h =
       values_step (codes "delay") (Delay 1) n ws r refl
       (λ w vs. ap (λ (t : Bool). cond t (value_words (codes "delay") w vs) (codes "delay" ∷ w ∷ count_text 1 ∷ codes "=" ∷ map signed_decimal vs) ∷ []) first) (λ vs. tt)
-      (λ m w vs. ap (λ (t : Bool). cond t (values_line (Delay 1) (numbered k (open_at version names defs b)) m (codes "delay" ∷ w ∷ codes "=" ∷ vs)) (deep_line (numbered k (open_at version names defs b)) m (codes "delay" ∷ w ∷ codes "=" ∷ vs))) first)
+      (λ m w vs. ap (λ (t : Bool). cond t
+      (values_line (Delay 1) (numbered k (open_at version names defs b)) m (codes "delay" ∷ w ∷ codes "=" ∷ vs))
+      (deep_line (numbered k (open_at version names defs b)) m (codes "delay" ∷ w ∷ codes "=" ∷ vs))) first)
       (sym (ap (λ (t : Bool). cond t (values_line (Delay 1) (open_at version names defs b) n ws) (deep_line (open_at version names defs b) n ws)) first) ∙ h)
   delay_step false n ws r second h =
       deep_step n ws r second (sym (ap (λ (t : Bool). cond t (values_line (Delay 1) (open_at version names defs b) n ws) (deep_line (open_at version names defs b) n ws)) second) ∙ h)
@@ -214,7 +268,8 @@ module _ (k : Numbered) (version : ℕ) (names : List Bytes) (defs : List Def) (
 
   -- a block that was opened has no lines yet
   opened_with : (s : Stage) (w : Bytes) (n : ℕ) (copies : ℕ) (def : Bytes) (ws : List Bytes) → are_words ws ≡ true → (length ws == 0) ≡ false
-      → lines_at s version defs (record (new_block (first_part s) w n) { copies = copies; def = def }) ≡ version_words version ∷ (definition_lines version defs ++ ws ∷ []) → IsOrdered s defs (record (new_block (first_part s) w n) { copies = copies; def = def })
+      → lines_at s version defs (record (new_block (first_part s) w n) { copies = copies; def = def }) ≡ version_words version
+      ∷ (definition_lines version defs ++ ws ∷ []) → IsOrdered s defs (record (new_block (first_part s) w n) { copies = copies; def = def })
       → ((m : ℕ) → between_line (numbered k (open_at version names defs b)) m ws ≡ Ok (numbered (fresh m) (opened_here s w (record (new_block (first_part s) w n) { copies = copies; def = def }))))
       → Adds k between version names defs b (opened_here s w (record (new_block (first_part s) w n) { copies = copies; def = def }))
   opened_with s w n copies def ws plain some lines ordered again = record {
@@ -230,7 +285,8 @@ module _ (k : Numbered) (version : ℕ) (names : List Bytes) (defs : List Def) (
   }
 
   opening_step : (key : Bytes) (s : Stage) (n : ℕ) (ws : List Bytes) (r : Reading) → is_word key ≡ true
-      → ((w : Bytes) → lines_at s version defs (new_block (first_part s) w n) ≡ version_words version ∷ (definition_lines version defs ++ (key ∷ w ∷ []) ∷ [])) → ((w : Bytes) → IsOrdered s defs (new_block (first_part s) w n))
+      → ((w : Bytes) → lines_at s version defs (new_block (first_part s) w n) ≡ version_words version
+      ∷ (definition_lines version defs ++ (key ∷ w ∷ []) ∷ [])) → ((w : Bytes) → IsOrdered s defs (new_block (first_part s) w n))
       → ((m : ℕ) (w : Bytes) → between_line (numbered k (open_at version names defs b)) m (key ∷ w ∷ []) ≡ opening_line s (numbered k (open_at version names defs b)) m (key ∷ w ∷ []))
       → opening_line s (open_at version names defs b) n ws ≡ Ok r → Adds k between version names defs b r
   opening_step key s n ws r key_word lines ordered key_line h =
@@ -266,7 +322,13 @@ module _ (k : Numbered) (version : ℕ) (names : List Bytes) (defs : List Def) (
       either (begins ws (codes "actuator")) _ _ r h1 (end_step k version names defs b same (codes "actuator") Actuator n ws r refl (λ w len. refl) (λ len. tt) (λ m w v. refl)) (λ h2.
       either (begins ws (codes "constant")) _ _ r h2 (values_step (codes "constant") Constant n ws r refl (λ w vs. refl) (λ vs. tt) (λ m w vs. refl)) (λ h3.
       either (begins ws (codes "delay")) _ _ r h3 (delay_step (version == 1) n ws r refl) (λ h4.
-      either (begins ws (codes "function")) _ _ r h4 (opening_step (codes "function") in_function n ws r refl (λ w. refl) (λ w. record { no_results = λ e. refl; printable = All-nil _ }) (λ m w. refl)) (λ h5.
-      either (begins ws (codes "graph")) _ _ r h5 (opening_step (codes "graph") in_graph n ws r refl (λ w. refl) (λ w. record { no_outs = λ e. refl; no_references = λ e. refl; no_edges = λ e. refl }) (λ m w. refl)) (λ h6.
-      either (begins ws (codes "switch")) _ _ r h6 (opening_step (codes "switch") in_switch n ws r refl (λ w. refl) (λ w. record { no_ins = λ e. refl; no_outs = λ e. refl; no_cases = λ e. refl }) (λ m w. refl)) (λ h7.
+      either (begins ws (codes "function")) _ _ r h4
+      (opening_step (codes "function") in_function n ws r refl (λ w. refl)
+      (λ w. record { no_results = λ e. refl; printable = All-nil _ }) (λ m w. refl)) (λ h5.
+      either (begins ws (codes "graph")) _ _ r h5
+      (opening_step (codes "graph") in_graph n ws r refl (λ w. refl)
+      (λ w. record { no_outs = λ e. refl; no_references = λ e. refl; no_edges = λ e. refl }) (λ m w. refl)) (λ h6.
+      either (begins ws (codes "switch")) _ _ r h6
+      (opening_step (codes "switch") in_switch n ws r refl (λ w. refl)
+      (λ w. record { no_ins = λ e. refl; no_outs = λ e. refl; no_cases = λ e. refl }) (λ m w. refl)) (λ h7.
       either (begins ws (codes "repeat")) _ _ r h7 (repeat_step n ws r) (λ h8. never _ r h8))))))))

@@ -9,7 +9,6 @@ use Rattle.algo_text.specs.declared.definition.Reference.{Reference}
 use Rattle.algo_text.specs.declared.definition.Edge.{Edge}
 use Rattle.algo_text.specs.declared.definition.Case.{Case}
 use Rattle.algo_text.specs.declared.definition.FrontierLine.{FrontierLine}
-use Rattle.algo_text.specs.declared.fault.AlgoError.{AlgoError}
 use Rattle.syn_base.specs.Bytes.{Bytes}
 use Rattle.algo_text.specs.Among.{is_among}
 use Rattle.algo_text.specs.Words.{count_of}
@@ -27,6 +26,7 @@ use Rattle.algo_print.proofs.Spelled.{name_word, count_back, count_word, count_p
 use Rattle.algo_print.proofs.State.{Lines, open_lines, lines_at, Numbered, numbered_block, numbered, AreSame, Adds, IsOrdered, definitions_joined, more, same_outer}
 use Rattle.algo_print.proofs.Between.{one_printable}
 use Rattle.text_lines.specs.Text.{word, count_text}
+use Rattle.algo_text.specs.Refusals.{AlgoRefusal}
 
 -- a list of lines with one more in front of nothing, and after others
 pub in_front : {A : Type 0} (f : A → List Bytes) (xs : List A) (x : A) (rest : Lines) → rest ≡ [] → map f (xs ++ x ∷ []) ++ rest ≡ (map f xs ++ rest) ++ f x ∷ []
@@ -54,27 +54,30 @@ alike k defs b c same rs es cs fs = record {
 }
 
 -- what is read into the block
-pub record IntoBlock (r : Reading) (x : Result Block AlgoError) (after : Reading) : Type 0 where
+pub record IntoBlock (r : Reading) (x : Result Block AlgoRefusal) (after : Reading) : Type 0 where
   pub block : Block
   pub is : x ≡ Ok block
   pub after_is : record r { block = block } ≡ after
 
-pub into_block : (r : Reading) (x : Result Block AlgoError) (after : Reading) → in_block r x ≡ Ok after → IntoBlock r x after
+pub into_block : (r : Reading) (x : Result Block AlgoRefusal) (after : Reading) → in_block r x ≡ Ok after → IntoBlock r x after
 into_block r (Ok b) after h = record { block = b; is = refl; after_is = same_ok _ after h }
 into_block r (Err e) after h = cc
 
-module _ (k : Numbered) (s : Stage) (version : ℕ) (names : List Bytes) (defs : List Def) (b : Block) (same : AreSame k defs b) (open_is : (c : Block) → lines_at s version defs c ≡ version_words version ∷ (definition_lines version defs ++ open_lines s c)) where
+module _ (k : Numbered) (s : Stage) (version : ℕ) (names : List Bytes) (defs : List Def) (b : Block) (same : AreSame k defs b)
+    (open_is : (c : Block) → lines_at s version defs c ≡ version_words version ∷ (definition_lines version defs ++ open_lines s c)) where
   -- a line of the block, by the block that it makes
   pub block_adds : (c : Block) (ws : List Bytes) (next : ℕ → Numbered) → are_words ws ≡ true → (length ws == 0) ≡ false
       → open_lines s c ≡ open_lines s b ++ ws ∷ []
-      → ((m : ℕ) → by_stage s (numbered k (record { stage = s; version = version; names = names; defs = defs; block = b })) m ws (joined ws) ≡ Ok (numbered (next m) (record { stage = s; version = version; names = names; defs = defs; block = c })))
+      → ((m : ℕ) → by_stage s (numbered k (record { stage = s; version = version; names = names; defs = defs; block = b })) m ws
+      (joined ws) ≡ Ok (numbered (next m) (record { stage = s; version = version; names = names; defs = defs; block = c })))
       → ((m : ℕ) → AreSame (next m) defs c) → IsOrdered s defs c
       → Adds k s version names defs b (record { stage = s; version = version; names = names; defs = defs; block = c })
   block_adds c ws next plain some lines again alike ordered = record {
     words = ws;
     plain = plain;
     some = some;
-    lines = open_is c ∙ ap (λ (ls : Lines). version_words version ∷ ls) (behind (definition_lines version defs) (open_lines s b) (open_lines s c) ws lines) ∙ ap (λ (ls : Lines). ls ++ ws ∷ []) (sym (open_is b));
+    lines = open_is c ∙ ap (λ (ls : Lines). version_words version ∷ ls)
+        (behind (definition_lines version defs) (open_lines s b) (open_lines s c) ws lines) ∙ ap (λ (ls : Lines). ls ++ ws ∷ []) (sym (open_is b));
     next = next;
     reads = again;
     same = alike;
@@ -114,7 +117,7 @@ module _ (k : Numbered) (s : Stage) (version : ℕ) (names : List Bytes) (defs :
   }
 
 -- a line of a port that is accepted
-pub record PortRead (before : ℕ) (ws : List Bytes) (go : Port → Result Block AlgoError) (after : Block) : Type 0 where
+pub record PortRead (before : ℕ) (ws : List Bytes) (go : Port → Result Block AlgoRefusal) (after : Block) : Type 0 where
   pub len : ℕ
   pub named : is_name (word ws 1) ≡ true
   pub few : is_above limits.Ports (before + 1) ≡ false
@@ -122,7 +125,7 @@ pub record PortRead (before : ℕ) (ws : List Bytes) (go : Port → Result Block
   pub low : is_above limits.PortLength len ≡ false
   pub then : go (record { name = word ws 1; len = len }) ≡ Ok after
 
-pub port_read : (n before : ℕ) (ws : List Bytes) (go : Port → Result Block AlgoError) (after : Block) → port_line n before ws go ≡ Ok after → PortRead before ws go after
+pub port_read : (n before : ℕ) (ws : List Bytes) (go : Port → Result Block AlgoRefusal) (after : Block) → port_line n before ws go ≡ Ok after → PortRead before ws go after
 port_read n before ws go after h =
     let named = held (is_name (word ws 1)) _ _ after h in
     let counted = found (count_of (word ws 2)) _ _ after named.1 in
@@ -130,7 +133,8 @@ port_read n before ws go after h =
     let low = passed (is_above limits.PortLength counted.0) _ _ after few.1 in
     record { len = counted.0; named = named.0; few = few.0; some = count_positive (word ws 2) counted.0 counted.1; low = low.0; then = low.1 }
 
-pub port_again : (m before len : ℕ) (key w : Bytes) (go : Port → Result Block AlgoError) (after : Block) → is_name w ≡ true → is_above limits.Ports (before + 1) ≡ false → (len == 0) ≡ false → is_above limits.PortLength len ≡ false
+pub port_again : (m before len : ℕ) (key w : Bytes) (go : Port → Result Block AlgoRefusal) (after : Block) → is_name w ≡ true
+    → is_above limits.Ports (before + 1) ≡ false → (len == 0) ≡ false → is_above limits.PortLength len ≡ false
     → go (record { name = w; len = len }) ≡ Ok after → port_line m before (key ∷ w ∷ count_text len ∷ []) go ≡ Ok after
 port_again m before len key w go after named few some low then =
     holds _ _ _ _ named (finds _ _ _ _ len (count_back len some low) (passes _ _ _ _ few (passes _ _ _ _ low then)))
@@ -138,7 +142,9 @@ port_again m before len key w go after named few some low then =
 -- names that are taken do not depend on numbers of lines
 pub taken_same : (k : Numbered) (defs : List Def) (b : Block) (w : Bytes) → AreSame k defs b → is_taken (numbered_block k b) w ≡ is_taken b w
 taken_same k defs b w same =
-    ap (λ (ns : List Bytes). is_among w (b.on ∷ (map (λ p. p.name) b.ins ++ (map (λ o. o.port.name) b.results ++ (map (λ p. p.name) b.outs ++ ns))))) (same_outer k.frontier b.frontier same.frontier_same)
+    ap (λ (ns : List Bytes). is_among w
+    (b.on ∷ (map (λ p. p.name) b.ins ++ (map (λ o. o.port.name) b.results ++ (map (λ p. p.name) b.outs ++ ns)))))
+    (same_outer k.frontier b.frontier same.frontier_same)
 
 -- a line of an input that is accepted, and accepted again
 pub record InRead (b after : Block) : Type 0 where

@@ -1,5 +1,37 @@
 -- Lines of functions add canonical lines.
-use Rattle.std.proofs.Common.{◌≡◌, ℕ, ◌+◌, ◌≤◌, ◌==◌, not, ◌||◌, true, nat_lt, List, [], ◌∷◌, ◌++◌, length, map, take, drop, position, Option, Some, None, Ok, refl, ap, ap₂, sym, ◌∙◌, subst, codes, append_assoc, append-nil}
+use Rattle.std.proofs.Common.{
+  ◌≡◌,
+  ℕ,
+  ◌+◌,
+  ◌≤◌,
+  ◌==◌,
+  not,
+  ◌||◌,
+  true,
+  nat_lt,
+  List,
+  [],
+  ◌∷◌,
+  ◌++◌,
+  length,
+  map,
+  take,
+  drop,
+  position,
+  Option,
+  Some,
+  None,
+  Ok,
+  refl,
+  ap,
+  ap₂,
+  sym,
+  ◌∙◌,
+  subst,
+  codes,
+  append_assoc,
+  append-nil,
+}
 use Rattle.std.specs.Prelude.{All}
 use Rattle.std.specs.List.{list_all}
 use Rattle.std.proofs.lemmas.List.{map-append, take_at, drop_at, length-append}
@@ -115,7 +147,8 @@ result_read b n code after h =
       at = not_false (admits b.part Outputs) order.1;
       printable = is;
       after_is = same_ok _ after free.1;
-      plain = and_true (is_word w) _ (name_word w p.named) (and_true (is_word (count_text p.len)) _ (count_word p.len p.low) (and_true (is_word (canonical names e)) true (expression_word names e is) refl));
+      plain = and_true (is_word w) _ (name_word w p.named)
+          (and_true (is_word (count_text p.len)) _ (count_word p.len p.low) (and_true (is_word (canonical names e)) true (expression_word names e is) refl));
       again = λ k defs m same.
           cut_line (numbered_block k b) m w (count_text p.len) (canonical names e) (name_word w p.named) (count_word p.len p.low) (name_bytes w p.named) (count_bytes p.len p.low)
           ∙ passes _ _ _ _ order.1

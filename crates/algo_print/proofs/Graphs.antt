@@ -1,5 +1,37 @@
 -- Lines of graphs add canonical lines.
-use Rattle.std.proofs.Common.{◌≡◌, ℕ, ◌<◌, ◌≤◌, ◌==◌, Bool, not, ◌&&◌, ◌||◌, true, false, cond, List, [], ◌∷◌, ◌++◌, length, map, Option, Some, None, Result, Ok, refl, arith, ap, ap₂, ◌∙◌, subst, codes, ◌+◌}
+use Rattle.std.proofs.Common.{
+  ◌≡◌,
+  ℕ,
+  ◌<◌,
+  ◌≤◌,
+  ◌==◌,
+  Bool,
+  not,
+  ◌&&◌,
+  ◌||◌,
+  true,
+  false,
+  cond,
+  List,
+  [],
+  ◌∷◌,
+  ◌++◌,
+  length,
+  map,
+  Option,
+  Some,
+  None,
+  Result,
+  Ok,
+  refl,
+  arith,
+  ap,
+  ap₂,
+  ◌∙◌,
+  subst,
+  codes,
+  ◌+◌,
+}
 use Rattle.std.proofs.lemmas.List.{map-append}
 use Rattle.syn_base.specs.Name.{is_name}
 use Rattle.algo_text.specs.declared.Port.{Port}
@@ -8,7 +40,6 @@ use Rattle.algo_text.specs.declared.definition.Body.TheVariants.{Graph}
 use Rattle.algo_text.specs.declared.definition.End.{End}
 use Rattle.algo_text.specs.declared.definition.Edge.{Edge}
 use Rattle.algo_text.specs.declared.definition.Reference.{Reference}
-use Rattle.algo_text.specs.declared.fault.AlgoError.{AlgoError}
 use Rattle.syn_base.specs.Bytes.{Bytes}
 use Rattle.algo_text.specs.Among.{is_among}
 use Rattle.algo_text.specs.Words.{period_of, end_of, end_word}
@@ -29,6 +60,7 @@ use Rattle.algo_print.proofs.Ends.{end_read, end_again}
 use Rattle.algo_print.proofs.State.{Lines, GraphOrder, Numbered, numbered_block, numbered, AreSame, Adds, more, same_length, same_names}
 use Rattle.algo_print.proofs.BlockLines.{in_front, behind, no_lines, key_words, IntoBlock, into_block, alike, block_adds, end_adds, InRead, in_read, OutRead, out_read}
 use Rattle.text_lines.specs.Text.{word, begins, count_text}
+use Rattle.algo_text.specs.Refusals.{AlgoRefusal}
 
 and_false : (t : Bool) → (t && false) ≡ false
 and_false true = refl
@@ -64,7 +96,8 @@ module _ (k : Numbered) (version : ℕ) (names : List Bytes) (defs : List Def) (
   no_output_lines low = no_lines outputs (references ++ edges) (ap (λ (l : List Port). map (port_words (codes "out")) l) (order.no_outs low)) (no_reference_lines (omega arith))
 
   -- a line makes this block of the open one
-  from : (x : Result Block AlgoError) (r : Reading) (c : Block) (into : IntoBlock here x r) → c ≡ into.block → Adds k in_graph version names defs b (record here { block = c }) → Adds k in_graph version names defs b r
+  from : (x : Result Block AlgoRefusal) (r : Reading) (c : Block) (into : IntoBlock here x r) → c ≡ into.block
+      → Adds k in_graph version names defs b (record here { block = c }) → Adds k in_graph version names defs b r
   from x r c into is adds = subst (λ (q : Reading). Adds k in_graph version names defs b q) (ap (λ (d : Block). record here { block = d }) is ∙ into.after_is) adds
 
   input_step : (n : ℕ) (ws : List Bytes) (r : Reading) → in_block here (in_line b n ws) ≡ Ok r → Adds k in_graph version names defs b r
@@ -110,7 +143,8 @@ module _ (k : Numbered) (version : ℕ) (names : List Bytes) (defs : List Def) (
   IsReferred w def every = (m : ℕ) (c : Block) → with_reference (numbered_block k b) (referred w def every m) ≡ Ok c
       → reference_line version (numbered_block k b) m (reference_words (referred w def every m)) ≡ Ok c
 
-  reference_adds : (n : ℕ) (w def : Bytes) (every : Option ℕ) → admits b.part References ≡ true → is_above limits.References (length b.references + 1) ≡ false → is_among w (map (λ x. x.name) b.references) ≡ false
+  reference_adds : (n : ℕ) (w def : Bytes) (every : Option ℕ) → admits b.part References ≡ true
+      → is_above limits.References (length b.references + 1) ≡ false → is_among w (map (λ x. x.name) b.references) ≡ false
       → are_words (reference_words (referred w def every n)) ≡ true → (length (reference_words (referred w def every n)) == 0) ≡ false → IsReferred w def every
       → Adds k in_graph version names defs b (record here { block = with_one (referred w def every n) })
   reference_adds n w def every admits_it few free plain some says =
@@ -142,7 +176,8 @@ module _ (k : Numbered) (version : ℕ) (names : List Bytes) (defs : List Def) (
       ap (λ (t : Bool). cond t (marked_line (numbered_block k b) m ws) (plain_line (numbered_block k b) m ws)) (and_false (version == 3))
       ∙ passes _ _ _ _ (ap not admits_it) (reads _ _ _ (referred w def None m) (names_again m w def [] named known) put)
 
-  marked_again : (w def : Bytes) (n : ℕ) → is_name w ≡ true → is_name def ≡ true → admits b.part References ≡ true → (version == 3) ≡ true → period_of (count_text n) ≡ Some n → IsReferred w def (Some n)
+  marked_again : (w def : Bytes) (n : ℕ) → is_name w ≡ true → is_name def ≡ true → admits b.part References ≡ true → (version == 3) ≡ true
+      → period_of (count_text n) ≡ Some n → IsReferred w def (Some n)
   marked_again w def n named known admits_it third period m c put =
       let ws : List Bytes = codes "ref" ∷ w ∷ def ∷ codes "every" ∷ count_text n ∷ [] in
       ap (λ (t : Bool). cond t (marked_line (numbered_block k b) m ws) (plain_line (numbered_block k b) m ws)) (and_true (version == 3) true third refl)
@@ -158,7 +193,8 @@ module _ (k : Numbered) (version : ℕ) (names : List Bytes) (defs : List Def) (
   reference_made n ws (Some period) mark admits_it named known few free =
       let back : PeriodRead period = period_read (word ws 4) period mark.1 in
       reference_adds n (word ws 1) (word ws 2) (Some period) admits_it few free
-      (and_true (is_word (word ws 1)) _ (name_word (word ws 1) named) (and_true (is_word (word ws 2)) _ (name_word (word ws 2) known) (and_true (is_word (count_text period)) true (count_word period back.low) refl)))
+      (and_true (is_word (word ws 1)) _ (name_word (word ws 1) named)
+      (and_true (is_word (word ws 2)) _ (name_word (word ws 2) known) (and_true (is_word (count_text period)) true (count_word period back.low) refl)))
       refl (marked_again (word ws 1) (word ws 2) period named known admits_it mark.0 back.again)
 
   reference_step : (n : ℕ) (ws : List Bytes) (r : Reading) → in_block here (reference_line version b n ws) ≡ Ok r → Adds k in_graph version names defs b r

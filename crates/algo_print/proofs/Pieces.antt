@@ -152,11 +152,13 @@ no_stop test (b ∷ l) h =
 
 -- a line without comment is its own code
 pub code_back : (ws : List Bytes) → are_words ws ≡ true → code_of (joined ws) ≡ joined ws
-code_back ws h = take_all (position_or_len is_hash (joined ws)) (joined ws) (omega (arith, no_stop is_hash (joined ws) (joined_bytes (λ b. not (is_hash b)) refl (λ b p. ap not ((plain b p).no_hash)) ws h)))
+code_back ws h = take_all (position_or_len is_hash (joined ws)) (joined ws)
+    (omega (arith, no_stop is_hash (joined ws) (joined_bytes (λ b. not (is_hash b)) refl (λ b p. ap not ((plain b p).no_hash)) ws h)))
 
 pub foreign_back : (ws : List Bytes) → are_words ws ≡ true → foreign_place (joined ws) ≡ None
 foreign_back ws h =
-    rw (code_back ws h) (none_at (position_or_len is_foreign (joined ws)) (length (joined ws)) (no_stop is_foreign (joined ws) (joined_bytes (λ b. not (is_foreign b)) refl (λ b p. ap not ((plain b p).no_foreign)) ws h)))
+    rw (code_back ws h) (none_at (position_or_len is_foreign (joined ws)) (length (joined ws))
+    (no_stop is_foreign (joined ws) (joined_bytes (λ b. not (is_foreign b)) refl (λ b p. ap not ((plain b p).no_foreign)) ws h)))
 
 -- the first byte of a kind
 pub first_stands : (test : ℕ → Bool) (l rest : Bytes) (b : ℕ) → list_all (λ c. not (test c)) l ≡ true → test b ≡ true → position test (l ++ b ∷ rest) ≡ Some (length l)

@@ -7,16 +7,15 @@ use Rattle.algo_text.specs.declared.definition.Body.TheVariants.{Repeat}
 use Rattle.algo_text.specs.declared.definition.Frontier.{Frontier}
 use Rattle.algo_text.specs.declared.definition.Frontier.TheVariants.{Fork, Diffuse, Iterate, Join}
 use Rattle.algo_text.specs.declared.definition.FrontierLine.{FrontierLine}
-use Rattle.algo_text.specs.declared.fault.AlgoError.{AlgoError}
 use Rattle.algo_text.specs.declared.fault.AlgoCause.TheVariants.{BadLine, DuplicateName}
 use Rattle.syn_base.specs.declared.limits.LimitKind.TheVariants.{Ports}
 use Rattle.syn_base.specs.Bytes.{Bytes}
 use Rattle.algo_text.specs.Among.{is_among}
 use Rattle.algo_text.specs.Outer.{all_outer}
-use Rattle.algo_text.specs.Blocks.{Block, refused, above, all_names, with_frontier}
+use Rattle.algo_text.specs.Blocks.{Block, all_names, with_frontier}
 use Rattle.algo_text.specs.Text.{in_repeat, Reading, in_block, block_end, frontier_line}
 use Rattle.algo_text.proofs.Checks.{either, equal, held, holds, never, passed, passes, same_ok}
-use Rattle.text_lines.specs.Refusals.{is_above}
+use Rattle.text_lines.specs.Refusals.{is_above, refused, above}
 use Rattle.algo_print.specs.Canonical.{words_of_frontier, frontier_words}
 use Rattle.algo_print.specs.ReadBack.{bare_frontier}
 use Rattle.algo_print.proofs.Pieces.{is_word, are_words, and_true}
@@ -24,9 +23,10 @@ use Rattle.algo_print.proofs.Spelled.{name_word}
 use Rattle.algo_print.proofs.State.{Numbered, numbered_block, numbered, AreSame, Adds, more, same_length, same_outer}
 use Rattle.algo_print.proofs.BlockLines.{behind, key_words, IntoBlock, into_block, block_adds, end_adds}
 use Rattle.text_lines.specs.Text.{word, begins}
+use Rattle.algo_text.specs.Refusals.{AlgoRefusal}
 
 -- a line of two names, of which one is an outer one
-abbrev pair_line : Block → ℕ → Frontier → Bytes → Result Block AlgoError
+abbrev pair_line : Block → ℕ → Frontier → Bytes → Result Block AlgoRefusal
 pair_line c m f outer =
     if is_above Ports (length c.frontier + 1) then above Ports (length c.frontier + 1) else
     if is_among outer (all_outer c.frontier) then refused m (DuplicateName outer) else
@@ -90,10 +90,11 @@ module _ (k : Numbered) (version : ℕ) (names : List Bytes) (defs : List Def) (
         frontier_same = more bare_frontier k.frontier b.frontier (at m) (at n) same.frontier_same refl;
       }) tt
 
-  from : (x : Result Block AlgoError) (r : Reading) (c : Block) (into : IntoBlock here x r) → c ≡ into.block → Adds k in_repeat version names defs b (record here { block = c }) → Adds k in_repeat version names defs b r
+  from : (x : Result Block AlgoRefusal) (r : Reading) (c : Block) (into : IntoBlock here x r) → c ≡ into.block
+      → Adds k in_repeat version names defs b (record here { block = c }) → Adds k in_repeat version names defs b r
   from x r c into is adds = subst (λ (q : Reading). Adds k in_repeat version names defs b q) (ap (λ (d : Block). record here { block = d }) is ∙ into.after_is) adds
 
-  two_names : (n : ℕ) (v w : Bytes) (go : Result Block AlgoError) (after : Block) → all_names n (v ∷ w ∷ []) go ≡ Ok after → (is_name v ≡ true) × (is_name w ≡ true) × (go ≡ Ok after)
+  two_names : (n : ℕ) (v w : Bytes) (go : Result Block AlgoRefusal) (after : Block) → all_names n (v ∷ w ∷ []) go ≡ Ok after → (is_name v ≡ true) × (is_name w ≡ true) × (go ≡ Ok after)
   two_names n v w go after h =
       let first = held (is_name v) _ _ after h in
       let second = held (is_name w) _ _ after first.1 in
@@ -106,7 +107,7 @@ module _ (k : Numbered) (version : ℕ) (names : List Bytes) (defs : List Def) (
       → ((m : ℕ) (x y : Bytes) → frontier_line there m (key ∷ x ∷ y ∷ []) ≡ in_block there (all_names m (x ∷ y ∷ []) (with_frontier (numbered_block k b) m (f x y))))
       → in_block here (all_names n (v ∷ w ∷ []) (with_frontier b n (f v w))) ≡ Ok r → Adds k in_repeat version names defs b r
   pair_step key f outer n v w r key_word words_are line_is key_line h =
-      let x : Result Block AlgoError = all_names n (v ∷ w ∷ []) (with_frontier b n (f v w)) in
+      let x : Result Block AlgoRefusal = all_names n (v ∷ w ∷ []) (with_frontier b n (f v w)) in
       let into : IntoBlock here x r = into_block here x r h in
       let two = two_names n v w (with_frontier b n (f v w)) into.block into.is in
       let few = passed (is_above Ports (length b.frontier + 1)) _ _ into.block (sym (line_is b n v w) ∙ two.2) in
@@ -118,7 +119,7 @@ module _ (k : Numbered) (version : ℕ) (names : List Bytes) (defs : List Def) (
 
   iterate_step : (n : ℕ) (p x y q : Bytes) (r : Reading) → in_block here (all_names n (p ∷ x ∷ y ∷ q ∷ []) (with_frontier b n (Iterate p x y q))) ≡ Ok r → Adds k in_repeat version names defs b r
   iterate_step n p x y q r h =
-      let line : Result Block AlgoError = all_names n (p ∷ x ∷ y ∷ q ∷ []) (with_frontier b n (Iterate p x y q)) in
+      let line : Result Block AlgoRefusal = all_names n (p ∷ x ∷ y ∷ q ∷ []) (with_frontier b n (Iterate p x y q)) in
       let into : IntoBlock here line r = into_block here line r h in
       let first = held (is_name p) _ _ into.block into.is in
       let second = held (is_name x) _ _ into.block first.1 in
@@ -141,7 +142,7 @@ module _ (k : Numbered) (version : ℕ) (names : List Bytes) (defs : List Def) (
       (ap (λ (ls : List FrontierLine). Repeat b.copies b.def ls) same.frontier_same) tt
       (λ m. refl))
 
-  in_form : (n count : ℕ) (ws all : List Bytes) (go : Result Block AlgoError) (r : Reading) → ((length ws == count) ≡ true → drop 1 ws ≡ all)
+  in_form : (n count : ℕ) (ws all : List Bytes) (go : Result Block AlgoRefusal) (r : Reading) → ((length ws == count) ≡ true → drop 1 ws ≡ all)
       → in_block here (cond (not (length ws == count)) (refused n BadLine) (all_names n (drop 1 ws) go)) ≡ Ok r → in_block here (all_names n all go) ≡ Ok r
   in_form n count ws all go r are h = by (length ws == count) refl h
     where
@@ -151,8 +152,14 @@ module _ (k : Numbered) (version : ℕ) (names : List Bytes) (defs : List Def) (
 
   pub frontier_step : (n : ℕ) (ws : List Bytes) (r : Reading) → frontier_line here n ws ≡ Ok r → Adds k in_repeat version names defs b r
   frontier_step n ws r h =
-      either (begins ws (codes "fork")) _ _ r h (λ g. pair_step (codes "fork") Fork (λ x y. x) n (word ws 1) (word ws 2) r refl (λ x y. refl) (λ c m x y. refl) (λ m x y. refl) (in_form n 3 ws _ _ r (behind_two ws) g)) (λ h1.
-      either (begins ws (codes "diffuse")) _ _ r h1 (λ g. pair_step (codes "diffuse") Diffuse (λ x y. x) n (word ws 1) (word ws 2) r refl (λ x y. refl) (λ c m x y. refl) (λ m x y. refl) (in_form n 3 ws _ _ r (behind_two ws) g)) (λ h2.
+      either (begins ws (codes "fork")) _ _ r h
+      (λ g. pair_step (codes "fork") Fork (λ x y. x) n (word ws 1) (word ws 2) r refl (λ x y. refl) (λ c m x y. refl) (λ m x y. refl)
+      (in_form n 3 ws _ _ r (behind_two ws) g)) (λ h1.
+      either (begins ws (codes "diffuse")) _ _ r h1
+      (λ g. pair_step (codes "diffuse") Diffuse (λ x y. x) n (word ws 1) (word ws 2) r refl (λ x y. refl) (λ c m x y. refl)
+      (λ m x y. refl) (in_form n 3 ws _ _ r (behind_two ws) g)) (λ h2.
       either (begins ws (codes "iterate")) _ _ r h2 (λ g. iterate_step n (word ws 1) (word ws 2) (word ws 3) (word ws 4) r (in_form n 5 ws _ _ r (behind_four ws) g)) (λ h3.
-      either (begins ws (codes "join")) _ _ r h3 (λ g. pair_step (codes "join") Join (λ x y. y) n (word ws 1) (word ws 2) r refl (λ x y. refl) (λ c m x y. refl) (λ m x y. refl) (in_form n 3 ws _ _ r (behind_two ws) g)) (λ h4.
+      either (begins ws (codes "join")) _ _ r h3
+      (λ g. pair_step (codes "join") Join (λ x y. y) n (word ws 1) (word ws 2) r refl (λ x y. refl) (λ c m x y. refl) (λ m x y. refl)
+      (in_form n 3 ws _ _ r (behind_two ws) g)) (λ h4.
       either (begins ws (codes "end")) _ _ r h4 (repeat_end n ws r) (λ h5. never _ r h5)))))

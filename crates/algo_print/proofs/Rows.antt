@@ -3,8 +3,8 @@ use Rattle.std.proofs.Common.{◌≡◌, refl, List, [], ◌∷◌, ◌++◌, Re
 use Rattle.std.specs.Fmt.{digits}
 use Rattle.body_text.specs.Words.{form_of}
 use Rattle.algo_text.specs.declared.definition.Defs.{Defs}
-use Rattle.algo_text.specs.declared.fault.AlgoError.{AlgoError}
 use Rattle.syn_base.specs.Bytes.{Bytes}
+use Rattle.algo_text.specs.Refusals.{AlgoRefusal}
 use Rattle.algo_text.specs.Text.{definitions_of}
 use Rattle.algo_print.specs.Canonical.{canonical_text}
 
@@ -12,7 +12,7 @@ abbrev text : List Bytes → Bytes
 text [] = []
 text (l ∷ ls) = l ++ 10 ∷ text ls
 
-abbrev printed : Result Defs AlgoError → Bytes
+abbrev printed : Result Defs AlgoRefusal → Bytes
 printed (Ok defs) = canonical_text defs
 printed (Err e) = []
 

@@ -7,7 +7,6 @@ use Rattle.algo_text.specs.declared.Port.{Port}
 use Rattle.algo_text.specs.declared.definition.Def.{Def}
 use Rattle.algo_text.specs.declared.definition.Body.TheVariants.{Switch}
 use Rattle.algo_text.specs.declared.definition.Case.{Case}
-use Rattle.algo_text.specs.declared.fault.AlgoError.{AlgoError}
 use Rattle.syn_base.specs.Bytes.{Bytes}
 use Rattle.algo_text.specs.Words.{number_of}
 use Rattle.algo_text.specs.Blocks.{Block, in_line, out_line, on_line, case_line, otherwise_line}
@@ -27,6 +26,7 @@ use Rattle.algo_print.proofs.Spelled.{name_word, number_word, number_back}
 use Rattle.algo_print.proofs.State.{Lines, open_switch, SwitchOrder, Numbered, numbered, AreSame, Adds, more, same_length}
 use Rattle.algo_print.proofs.BlockLines.{in_front, behind, no_lines, key_words, IntoBlock, into_block, alike, block_adds, end_adds, InRead, in_read, OutRead, out_read}
 use Rattle.text_lines.specs.Text.{word, begins}
+use Rattle.algo_text.specs.Refusals.{AlgoRefusal}
 
 -- the lines of an open switch, by its part
 before_on : (part : Part) (on : Bytes) (lines : Lines) (otherwise : Bytes) → is_conditioning part ≡ true → open_switch part on lines otherwise ≡ []
@@ -89,7 +89,8 @@ module _ (k : Numbered) (version : ℕ) (names : List Bytes) (defs : List Def) (
   no_input_lines : rank b.part < rank Inputs → inputs ++ (outputs ++ cases) ≡ []
   no_input_lines low = no_lines inputs (outputs ++ cases) (ap (λ (l : List Port). map (port_words (codes "in")) l) (order.no_ins low)) (no_output_lines (omega arith))
 
-  from : (x : Result Block AlgoError) (r : Reading) (c : Block) (into : IntoBlock here x r) → c ≡ into.block → Adds k in_switch version names defs b (record here { block = c }) → Adds k in_switch version names defs b r
+  from : (x : Result Block AlgoRefusal) (r : Reading) (c : Block) (into : IntoBlock here x r) → c ≡ into.block
+      → Adds k in_switch version names defs b (record here { block = c }) → Adds k in_switch version names defs b r
   from x r c into is adds = subst (λ (q : Reading). Adds k in_switch version names defs b q) (ap (λ (d : Block). record here { block = d }) is ∙ into.after_is) adds
 
   on_adds : (n : ℕ) (w : Bytes) → is_name w ≡ true → is_conditioning b.part ≡ true → Adds k in_switch version names defs b (record here { block = record b { part = Inputs; on = w } })
@@ -204,7 +205,8 @@ module _ (k : Numbered) (version : ℕ) (names : List Bytes) (defs : List Def) (
       ap (λ (ls : Lines). first ∷ ls) (sym (append_assoc (switch_lines b.on b.ins b.outs b.cases) ((codes "otherwise" ∷ b.otherwise ∷ []) ∷ []) (end_words ∷ [])))
       ∙ ap (λ (p : Part). (first ∷ open_switch p b.on (inputs ++ (outputs ++ cases)) b.otherwise) ++ end_words ∷ []) (whole_is b.part last)
 
-  switch_end : (n : ℕ) (ws : List Bytes) (r : Reading) → block_end (is_whole b.part) (Switch b.on b.ins b.outs b.cases b.otherwise b.otherwise_line) here n ws ≡ Ok r → Adds k in_switch version names defs b r
+  switch_end : (n : ℕ) (ws : List Bytes) (r : Reading)
+      → block_end (is_whole b.part) (Switch b.on b.ins b.outs b.cases b.otherwise b.otherwise_line) here n ws ≡ Ok r → Adds k in_switch version names defs b r
   switch_end n ws r h =
       let form = passed (not (length ws == 1) || not (is_whole b.part)) _ _ r h in
       let whole = neither (not (length ws == 1)) (not (is_whole b.part)) form.0 in

@@ -80,7 +80,7 @@ words_of_frontier (Diffuse outer inner) = codes "diffuse" ∷ outer ∷ inner �
 words_of_frontier (Iterate outer inner given last) = codes "iterate" ∷ outer ∷ inner ∷ given ∷ last ∷ []
 words_of_frontier (Join given outer) = codes "join" ∷ given ∷ outer ∷ []
 
--- The same for a frontier line with its number, which is not printed.
+-- The words of a frontier line; its number is not printed.
 abbrev pub frontier_words : FrontierLine → List Bytes
 frontier_words l = words_of_frontier l.frontier
 

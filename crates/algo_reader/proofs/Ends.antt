@@ -1,9 +1,9 @@
 -- The end of the text, by whether a block is open.
 use Rattle.std.proofs.Common.{◌≡◌, ℕ, Ok, refl}
 use Rattle.std.specs.Prelude.{if◌then◌else◌}
+use Rattle.text_lines.specs.Refusals.{refused}
 use Rattle.algo_text.specs.declared.definition.Defs.{Defs}
 use Rattle.algo_text.specs.declared.fault.AlgoCause.TheVariants.{BadLine}
-use Rattle.algo_text.specs.Blocks.{refused}
 use Rattle.algo_text.specs.Text.{Stage, before_version, between, in_function, in_graph, in_switch, in_repeat, at_end}
 use Rattle.algo_reader.specs.Views.{is_between}
 

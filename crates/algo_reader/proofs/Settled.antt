@@ -1,44 +1,95 @@
 -- Between definitions, the block that has ended says nothing of what follows.
-use Rattle.std.proofs.Common.{◌≡◌, ℕ, ◌+◌, ◌==◌, Bool, not, ◌||◌, nat_lt, true, false, cond, Option, Some, None, List, [], ◌∷◌, ◌++◌, length, drop, Result, Ok, Err, refl, ap, sym, ◌∙◌, subst, ℤ, codes}
+use Rattle.std.proofs.Common.{
+  ◌≡◌,
+  ℕ,
+  ◌+◌,
+  ◌==◌,
+  Bool,
+  not,
+  ◌||◌,
+  nat_lt,
+  true,
+  false,
+  cond,
+  Option,
+  Some,
+  None,
+  List,
+  [],
+  ◌∷◌,
+  ◌++◌,
+  length,
+  drop,
+  Result,
+  Ok,
+  Err,
+  refl,
+  ap,
+  sym,
+  ◌∙◌,
+  subst,
+  ℤ,
+  codes,
+}
 use Rattle.syn_base.specs.Name.{is_name}
 use Rattle.std.specs.Str.{bytes_eq}
 use Rattle.text_lines.specs.Text.{words_of, code_of, foreign_place, word, begins}
 use Rattle.algo_text.specs.declared.definition.Body.{Body}
 use Rattle.algo_text.specs.declared.definition.Body.TheVariants.{Sensor, Actuator, Constant, Delay}
 use Rattle.algo_text.specs.declared.definition.Defs.{Defs}
-use Rattle.algo_text.specs.declared.fault.AlgoError.{AlgoError}
-use Rattle.algo_text.specs.declared.fault.AlgoError.TheVariants.{Refused, Limit, TooLarge, OutOfMemory}
 use Rattle.syn_base.specs.Bytes.{Bytes}
 use Rattle.algo_text.specs.Among.{is_among}
 use Rattle.algo_text.specs.Words.{count_of}
 use Rattle.syn_base.specs.declared.limits.LimitKind.TheVariants.{PortLength}
 use Rattle.algo_text.specs.declared.part.Part.TheVariants.{Inputs}
 use Rattle.algo_text.specs.Blocks.{Block, new_block}
-use Rattle.algo_text.specs.Text.{Stage, before_version, between, in_function, in_graph, in_switch, in_repeat, Reading, numbers_of, defined, end_line, values_line, deep_delay, deep_line, delay_line, between_line, by_stage, next_line, line_by, rest_of}
-use Rattle.text_lines.specs.Refusals.{is_above, and_then, with_some}
+use Rattle.algo_text.specs.Text.{
+  Stage,
+  before_version,
+  between,
+  in_function,
+  in_graph,
+  in_switch,
+  in_repeat,
+  Reading,
+  numbers_of,
+  defined,
+  end_line,
+  values_line,
+  deep_delay,
+  deep_line,
+  delay_line,
+  between_line,
+  by_stage,
+  next_line,
+  line_by,
+  rest_of,
+}
+use Rattle.text_lines.specs.Refusals.{is_above, and_then, with_some, Refused, Limit, Fails, Steps}
+use Rattle.text_lines.specs.declared.fault.TextError.TheVariants as error
+use Rattle.algo_text.specs.Refusals.{AlgoError, AlgoRefusal}
 use Rattle.algo_reader.specs.declared.reader.Reader.{Reader}
 use Rattle.algo_reader.specs.declared.reader.Place.{Place}
 use Rattle.algo_reader.specs.declared.reader.Place.TheVariants.{BeforeVersion, Between, InFunction, InGraph, InSwitch, InRepeat}
-use Rattle.algo_text.specs.Returned.{Fails}
-use Rattle.algo_lines.specs.Given.{Steps}
 use Rattle.algo_reader.specs.Views.{reading, settled, settle, open_at, stage_of, block_of}
 
 -- two answers are the same but for a block that has ended
-record Same (x y : Result Reading AlgoError) : Type 0 where
+record Same (x y : Result Reading AlgoRefusal) : Type 0 where
   is : settle x ≡ settle y
 
-alike : (x : Result Reading AlgoError) → Same x x
+alike : (x : Result Reading AlgoRefusal) → Same x x
 alike x = record { is = refl }
 
-same_if : (c : Bool) (x y v w : Result Reading AlgoError) → Same x v → Same y w → Same (cond c x y) (cond c v w)
+same_if : (c : Bool) (x y v w : Result Reading AlgoRefusal) → Same x v → Same y w → Same (cond c x y) (cond c v w)
 same_if true x y v w first second = first
 same_if false x y v w first second = second
 
-same_some : {A : Type 0} (o : Option A) (missing : Result Reading AlgoError) (go on : A → Result Reading AlgoError) → ((x : A) → Same (go x) (on x)) → Same (with_some o missing go) (with_some o missing on)
+same_some : {A : Type 0} (o : Option A) (missing : Result Reading AlgoRefusal) (go on : A → Result Reading AlgoRefusal)
+    → ((x : A) → Same (go x) (on x)) → Same (with_some o missing go) (with_some o missing on)
 same_some (Some x) missing go on each = each x
 same_some None missing go on each = alike missing
 
-same_then : {A : Type 0} (r : Result A AlgoError) (go on : A → Result Reading AlgoError) → ((x : A) → Same (go x) (on x)) → Same (and_then r go) (and_then r on)
+same_then : {A : Type 0} (r : Result A AlgoRefusal) (go on : A → Result Reading AlgoRefusal) → ((x : A) → Same (go x) (on x)) → Same (and_then r go) (and_then r on)
 same_then (Ok x) go on each = each x
 same_then (Err e) go on each = alike (Err e)
 
@@ -117,22 +168,22 @@ settled_at lines forgets r n in_repeat h = refl
 settled_rest : (lines : List Bytes) → Forgets lines → (r : Reading) (n : ℕ) → rest_of r n lines ≡ rest_of (settled r) n lines
 settled_rest lines forgets r n = settled_at lines forgets r n r.stage refl
 
-abbrev after_line : ℕ → List Bytes → Result Reading AlgoError → Result Defs AlgoError
+abbrev after_line : ℕ → List Bytes → Result Reading AlgoRefusal → Result Defs AlgoRefusal
 after_line n lines x = and_then x (λ after. rest_of after n lines)
 
-same_after : (lines : List Bytes) → Forgets lines → (n : ℕ) (x y : Result Reading AlgoError) → settle x ≡ settle y → after_line n lines x ≡ after_line n lines y
+same_after : (lines : List Bytes) → Forgets lines → (n : ℕ) (x y : Result Reading AlgoRefusal) → settle x ≡ settle y → after_line n lines x ≡ after_line n lines y
 same_after lines forgets n (Ok r) (Ok s) h =
     let same : settled r ≡ settled s = cc in
     settled_rest lines forgets r n ∙ ap (λ (q : Reading). rest_of q n lines) same ∙ sym (settled_rest lines forgets s n)
 same_after lines forgets n (Ok r) (Err e) h = cc
 same_after lines forgets n (Err e) (Ok s) h = cc
-same_after lines forgets n (Err e) (Err f) h = let same : e ≡ f = cc in ap (λ (g : AlgoError). Err g) same
+same_after lines forgets n (Err e) (Err f) h = let same : e ≡ f = cc in ap (λ (g : AlgoRefusal). Err g) same
 
 forgets_all : (lines : List Bytes) → Forgets lines
 forgets_all [] r b n h = refl
 forgets_all (line ∷ lines) r b n h = same_after lines (λ s c k e. forgets_all lines s c k e) (n + 1) (next_line r n line) (next_line (with_block r b) n line) (same_next r b h n line).is
 
-read_after : (lines : List Bytes) (n : ℕ) (x : Result Reading AlgoError) (new : Reading) → settle x ≡ Ok new → after_line n lines x ≡ rest_of new n lines
+read_after : (lines : List Bytes) (n : ℕ) (x : Result Reading AlgoRefusal) (new : Reading) → settle x ≡ Ok new → after_line n lines x ≡ rest_of new n lines
 read_after lines n (Ok r) new h = let same : settled r ≡ new = cc in settled_rest lines (forgets_all lines) r n ∙ ap (λ (q : Reading). rest_of q n lines) same
 read_after lines n (Err e) new h = cc
 
@@ -140,20 +191,18 @@ read_after lines n (Err e) new h = cc
 pub line_read : (r new : Reading) (n : ℕ) (line : Bytes) (all lines : List Bytes) → all ≡ line ∷ lines → settle (next_line r n line) ≡ Ok new → rest_of r n all ≡ rest_of new (n + 1) lines
 line_read r new n line all lines e is = ap (λ (l : List Bytes). rest_of r n l) e ∙ read_after lines (n + 1) (next_line r n line) new is
 
-fails_after : (e : AlgoError) (lines : List Bytes) (n : ℕ) (x : Result Reading AlgoError) → Fails e (settle x) → Fails e (after_line n lines x)
-fails_after (Refused f) lines n (Ok r) h = cc
-fails_after (Refused f) lines n (Err e) h = let same : e ≡ Refused f = cc in ap (λ (g : AlgoError). Err g) same
-fails_after (Limit f) lines n (Ok r) h = cc
-fails_after (Limit f) lines n (Err e) h = let same : e ≡ Limit f = cc in ap (λ (g : AlgoError). Err g) same
-fails_after TooLarge lines n (Ok r) h = cc
-fails_after TooLarge lines n (Err e) h = let same : e ≡ TooLarge = cc in ap (λ (g : AlgoError). Err g) same
-fails_after OutOfMemory lines n x h = tt
+fails_after : (e : AlgoError) (lines : List Bytes) (n : ℕ) (x : Result Reading AlgoRefusal) → Fails e (settle x) → Fails e (after_line n lines x)
+fails_after (error.Refused f) lines n (Ok r) h = cc
+fails_after (error.Refused f) lines n (Err e) h = let same : e ≡ Refused f = cc in ap (λ (g : AlgoRefusal). Err g) same
+fails_after (error.Limit f) lines n (Ok r) h = cc
+fails_after (error.Limit f) lines n (Err e) h = let same : e ≡ Limit f = cc in ap (λ (g : AlgoRefusal). Err g) same
+fails_after error.OutOfMemory lines n x h = tt
 
 -- A line that is refused.
-pub line_refused : (e : AlgoError) (r : Reading) (n : ℕ) (line : Bytes) (all lines : List Bytes) (whole : Result Defs AlgoError)
+pub line_refused : (e : AlgoError) (r : Reading) (n : ℕ) (line : Bytes) (all lines : List Bytes) (whole : Result Defs AlgoRefusal)
     → all ≡ line ∷ lines → Fails e (settle (next_line r n line)) → rest_of r n all ≡ whole → Fails e whole
 line_refused e r n line all lines whole is h same =
-    subst (λ (x : Result Defs AlgoError). Fails e x) (sym (ap (λ (l : List Bytes). rest_of r n l) is) ∙ same) (fails_after e lines (n + 1) (next_line r n line) h)
+    subst (λ (x : Result Defs AlgoRefusal). Fails e x) (sym (ap (λ (l : List Bytes). rest_of r n l) is) ∙ same) (fails_after e lines (n + 1) (next_line r n line) h)
 
 open_stays : (p : Place) → open_at (stage_of p) (block_of p) ≡ block_of p
 open_stays BeforeVersion = refl
@@ -167,12 +216,11 @@ open_stays (InRepeat r) = refl
 pub reading_settled : (r : Reader) → settled (reading r) ≡ reading r
 reading_settled r = ap (λ (k : Block). record (reading r) { block = k }) (open_stays r.place)
 
-fails_settled : (e : AlgoError) (x : Result Reading AlgoError) → Fails e x → Fails e (settle x)
-fails_settled (Refused f) x h = ap settle h
-fails_settled (Limit f) x h = ap settle h
-fails_settled TooLarge x h = ap settle h
-fails_settled OutOfMemory x h = tt
+fails_settled : (e : AlgoError) (x : Result Reading AlgoRefusal) → Fails e x → Fails e (settle x)
+fails_settled (error.Refused f) x h = ap settle h
+fails_settled (error.Limit f) x h = ap settle h
+fails_settled error.OutOfMemory x h = tt
 
-pub steps_settled : {T : Type 0} (result : Result T AlgoError) (new : Reader) (read : Result Reading AlgoError) → Steps result (reading new) read → Steps result (reading new) (settle read)
+pub steps_settled : {T : Type 0} (result : Result T AlgoError) (new : Reader) (read : Result Reading AlgoRefusal) → Steps result (reading new) read → Steps result (reading new) (settle read)
 steps_settled (Ok x) new read h = ap settle h ∙ ap (λ (q : Reading). Ok q) (reading_settled new)
 steps_settled (Err e) new read h = fails_settled e read h

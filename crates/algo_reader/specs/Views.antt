@@ -19,6 +19,8 @@ use Rattle.std.specs.Prelude.{
   Err,
 }
 use Rattle.syn_base.specs.Bytes.{Bytes}
+use Rattle.text_lines.specs.Refusals.{refused}
+use Rattle.algo_text.specs.Refusals.{AlgoRefusal}
 use Rattle.algo_text.specs.declared.definition.Def.{Def}
 use Rattle.algo_text.specs.declared.definition.Frontier.{Frontier}
 use Rattle.algo_text.specs.declared.definition.Body.{Body}
@@ -32,12 +34,11 @@ use Rattle.algo_text.specs.declared.definition.Body.TheVariants.{
   Switch,
   Repeat,
 }
-use Rattle.algo_text.specs.declared.fault.AlgoError.{AlgoError}
 use Rattle.algo_text.specs.declared.fault.AlgoCause.TheVariants.{BadLine}
 use Rattle.algo_text.specs.declared.part.Part.{Part}
 use Rattle.algo_text.specs.declared.part.Part.TheVariants as parts
 use Rattle.algo_text.specs.Parts.{is_whole}
-use Rattle.algo_text.specs.Blocks.{Block, new_block, refused}
+use Rattle.algo_text.specs.Blocks.{Block, new_block}
 use Rattle.algo_text.specs.Text.{
   Stage,
   before_version,
@@ -179,7 +180,7 @@ abbrev pub settled : Reading → Reading
 settled read = record read { block = open_at read.stage read.block }
 
 -- The same where a line may be refused.
-abbrev pub settle : Result Reading AlgoError → Result Reading AlgoError
+abbrev pub settle : Result Reading AlgoRefusal → Result Reading AlgoRefusal
 settle (Ok read) = Ok (settled read)
 settle (Err e) = Err e
 
@@ -230,28 +231,28 @@ is_between in_switch = false
 is_between in_repeat = false
 
 -- What the line `end` makes of a function, which has an output.
-abbrev pub function_end : Reading → ℕ → List Bytes → Result Reading AlgoError
+abbrev pub function_end : Reading → ℕ → List Bytes → Result Reading AlgoRefusal
 function_end read line words =
     block_end (nat_lt 0 (length read.block.results)) (Function read.block.ins read.block.results) read line words
 
-abbrev pub graph_end : Reading → ℕ → List Bytes → Result Reading AlgoError
+abbrev pub graph_end : Reading → ℕ → List Bytes → Result Reading AlgoRefusal
 graph_end read line words =
     block_end true (Graph read.block.ins read.block.outs read.block.references read.block.edges) read line words
 
 -- What the line `end` makes of a switch, which has its `otherwise`.
-abbrev pub switch_end : Reading → ℕ → List Bytes → Result Reading AlgoError
+abbrev pub switch_end : Reading → ℕ → List Bytes → Result Reading AlgoRefusal
 switch_end read line words =
     block_end (is_whole read.block.part)
     (Switch read.block.on read.block.ins read.block.outs read.block.cases
     read.block.otherwise read.block.otherwise_line)
     read line words
 
-abbrev pub repeat_end : Reading → ℕ → List Bytes → Result Reading AlgoError
+abbrev pub repeat_end : Reading → ℕ → List Bytes → Result Reading AlgoRefusal
 repeat_end read line words =
     block_end true (Repeat read.block.copies read.block.def read.block.frontier) read line words
 
 -- What the line `end` makes of the block that is open at a stage.
-abbrev pub any_end : Stage → Reading → ℕ → List Bytes → Result Reading AlgoError
+abbrev pub any_end : Stage → Reading → ℕ → List Bytes → Result Reading AlgoRefusal
 any_end before_version read line words = refused line BadLine
 any_end between read line words = refused line BadLine
 any_end in_function read line words = function_end read line words

@@ -1,8 +1,8 @@
 //! The block of a function: its lines so far, which the reader gives it one by one.
 ghost use Rattle.std.specs.Prelude.{◌≡◌, ◌≤◌, map, length, drop, position};
+ghost use Rattle.text_lines.specs.Refusals.{Steps};
 ghost use Rattle.algo_text.specs.Among.{is_among};
 ghost use Rattle.algo_text.specs.Blocks.{in_line, result_line, result_words, is_equals, is_taken, new_block};
-ghost use Rattle.algo_lines.specs.Given.{Steps};
 ghost use Rattle.algo_reader.specs.Views.{function_view, function_def};
 
 use algo_lines::{Ports, bad_line, duplicate, read_formula, read_port};

@@ -1,9 +1,8 @@
 //! The block of a graph: its lines so far, which the reader gives it one by one.
 ghost use Rattle.std.specs.Prelude.{◌≡◌, ◌≤◌, map, true, length};
+ghost use Rattle.text_lines.specs.Refusals.{Gives, Steps};
 ghost use Rattle.algo_text.specs.Among.{is_among};
 ghost use Rattle.algo_text.specs.Blocks.{in_line, out_line, reference_of, with_reference, plain_line, marked_line, reference_line, edge_line, is_taken, new_block};
-ghost use Rattle.algo_text.specs.Returned.{Gives};
-ghost use Rattle.algo_lines.specs.Given.{Steps};
 ghost use Rattle.algo_reader.specs.Views.{graph_view, graph_def};
 
 use algo_lines::{

@@ -2,10 +2,9 @@
 ghost use Rattle.std.specs.Prelude.{◌≡◌, ◌<◌, ◌≤◌, length, Ok};
 ghost use Rattle.syn_base.specs.Limits.{most_in_text};
 ghost use Rattle.text_lines.specs.Text.{lines_of};
+ghost use Rattle.text_lines.specs.Refusals.{Gives, Steps};
 ghost use Rattle.algo_text.specs.Blocks.{new_block};
 ghost use Rattle.algo_text.specs.Text.{definitions_of, start, first_part, version_line, end_line, values_line, deep_line, delay_line, opening_line, repeat_line, between_line, function_line, graph_line, switch_line, frontier_line, by_stage, next_line, at_end, defs_in, in_function, in_graph, in_switch, in_repeat};
-ghost use Rattle.algo_text.specs.Returned.{Gives};
-ghost use Rattle.algo_lines.specs.Given.{Steps};
 ghost use Rattle.algo_reader.specs.Views.{reading, settle, ended, is_between, function_end, graph_end, switch_end, repeat_end, any_end, stage_of, block_of, stage_for, end_body, values_body, function_view, graph_view, switch_view, repeat_view};
 
 use crate::function::FunctionBlock;

@@ -1,11 +1,11 @@
 //! The block of a repetition: its lines so far, which the reader gives it one by one.
 ghost use Rattle.std.specs.Prelude.{◌≡◌, ◌∷◌, []};
+ghost use Rattle.text_lines.specs.Refusals.{Steps};
 ghost use Rattle.algo_text.specs.Among.{is_among};
 ghost use Rattle.algo_text.specs.Outer.{all_outer, outer_names};
 ghost use Rattle.algo_text.specs.Blocks.{fork_line, diffuse_line, iterate_line, join_line, new_block, with_frontier};
 ghost use Rattle.algo_text.specs.declared.definition.Frontier.{Frontier};
 ghost use Rattle.algo_text.specs.declared.part.Part.TheVariants.{Inputs};
-ghost use Rattle.algo_lines.specs.Given.{Steps};
 ghost use Rattle.algo_reader.specs.Views.{repeat_view, repeat_def, with_line};
 
 use algo_lines::{bad_line, duplicate, line_name};

@@ -1,9 +1,9 @@
 //! The block of a switch: its lines so far, which the reader gives it one by one.
 ghost use Rattle.std.specs.Prelude.{◌≡◌, true, false, MatchOption};
 ghost use Rattle.std.specs.Str.{bytes_eq};
+ghost use Rattle.text_lines.specs.Refusals.{Steps};
 ghost use Rattle.algo_text.specs.Parts.{is_whole};
 ghost use Rattle.algo_text.specs.Blocks.{in_line, out_line, on_line, case_line, otherwise_line, is_taken, new_block};
-ghost use Rattle.algo_lines.specs.Given.{Steps};
 ghost use Rattle.algo_reader.specs.Views.{switch_view, switch_def, part_of, on_of};
 
 use algo_lines::{Ports, bad_line, bad_number, duplicate, line_name, read_number, read_port};

@@ -1,9 +1,10 @@
 pub mod Placed
 pub mod Steps
 pub mod Told
-pub mod Within
 pub mod Edges
-pub mod Sizing
+pub mod Idle
+pub mod Rounds
+pub mod LeadsByHops
+pub mod Pruning
 pub mod Planned
 pub mod Groups
-pub mod Rounds

@@ -21,7 +21,8 @@ use Rattle.algo_laws.specs.ReferenceLinks.{Links}
 use Rattle.algo_resolve.specs.Ready.{IsReady}
 
 -- the first definition of a name
-pub first_here : (ds : List Def) (i : ℕ) (d : Def) (w : Bytes) → i < length ds → d ≡ get_or ds i d → bytes_eq w d.name ≡ true → definition (drop i ds) w ≡ definition ds w → definition ds w ≡ slice_get ds i
+pub first_here : (ds : List Def) (i : ℕ) (d : Def) (w : Bytes) → i < length ds → d ≡ get_or ds i d → bytes_eq w d.name ≡ true
+    → definition (drop i ds) w ≡ definition ds w → definition ds w ≡ slice_get ds i
 first_here ds i d w low is same rest =
     sym rest
     ∙ ap (λ (xs : List Def). definition xs w) (from_here ds i d low is)
@@ -72,6 +73,12 @@ module _ (ds : List Def) (links : Links) (table : List Ports) (ready : IsReady d
   many_links = ap (λ (ls : Links). length ls) ready.linked ∙ links_count ds
 
   -- what was taken out of the links
+  pub places_linked : (i : ℕ) (d : Def) (row : List ℕ) → i < length ds → slice_get ds i ≡ Some d → row ≡ get_or links i row → AreLinked ds (named d.body) row
+  places_linked i d row low at is =
+      let many : i < length links = omega (arith, low, many_links) in
+      let same : row ≡ get_or (links_of ds) i [] = is ∙ get_or_default links i row [] many ∙ ap (λ (ls : Links). get_or ls i []) ready.linked in
+      subst (λ (ps : List ℕ). AreLinked ds (named d.body) ps) (sym same) (all_lead ds i d ready.known at)
+
   pub places_stand : (i : ℕ) (d : Def) (row : List ℕ) → i < length ds → slice_get ds i ≡ Some d → row ≡ get_or links i row → ArePlaced ds table (named d.body) row
   places_stand i d row low at is =
       let many : i < length links = omega (arith, low, many_links) in
@@ -93,7 +100,8 @@ module _ (ds : List Def) (table : List Ports) where
   place_there (r ∷ rs) (p ∷ ps) h zero low = omega arith
   place_there (r ∷ rs) (p ∷ ps) h (suc k) low = let more = place_there rs ps h.1 k (omega (arith, low)) in omega (arith, more)
 
-  pub place_at : (rs : List Reference) (ps : List ℕ) → ArePlaced ds table (map (λ r. r.def) rs) ps → (k : ℕ) (r : Reference) → k < length rs → r ≡ get_or rs k r → IsPlaced ds table r.def (get_or ps k 0)
+  pub place_at : (rs : List Reference) (ps : List ℕ) → ArePlaced ds table (map (λ r. r.def) rs) ps → (k : ℕ) (r : Reference) → k
+      < length rs → r ≡ get_or rs k r → IsPlaced ds table r.def (get_or ps k 0)
   place_at [] ps h k r low is = absurd (omega (arith, low))
   place_at (s ∷ rs) [] h k r low is = absurd h
   place_at (s ∷ rs) (p ∷ ps) h zero r low is = subst (λ (x : Reference). IsPlaced ds table x.def p) (sym is) h.0

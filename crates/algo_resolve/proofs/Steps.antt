@@ -12,16 +12,15 @@ use Rattle.algo_laws.specs.declared.Source.TheVariants.{Own}
 use Rattle.algo_laws.specs.declared.Part.{Part}
 use Rattle.algo_laws.specs.declared.Part.TheVariants.{Named, Numbered}
 use Rattle.algo_laws.specs.Tree as tree
-use Rattle.algo_laws.specs.View.{kind_view, view}
+use Rattle.algo_laws.specs.View.{view}
 use Rattle.algo_laws.specs.declared.Vertex.{Vertex}
-use Rattle.algo_laws.specs.declared.Kind.{Kind}
 use Rattle.algo_laws.specs.declared.Def.{Def}
 use Rattle.algo_laws.specs.declared.Reference.{Reference}
 use Rattle.algo_laws.specs.declared.Edge.{Edge}
 use Rattle.algo_laws.specs.RuleLinks.{definition}
 use Rattle.algo_laws.specs.Placed.{ArePlaced, IsPlaced}
 use Rattle.algo_laws.specs.Ports.{ports_of}
-use Rattle.algo_laws.specs.Resolved.{Making, cases_from, inner_by, kind_by, owns, references_from, sources_to, vertex, vertex_by, vertex_within, sensor_count, actuator_count}
+use Rattle.algo_laws.specs.Resolved.{Making, actuator_count, cases_from, owns, references_from, sensor_count, sources_to}
 use Rattle.algo_laws.specs.declared.Ports.{Ports}
 use Rattle.algo_resolve.specs.declared.build.Seat.{Seat}
 
@@ -66,32 +65,21 @@ pub owns_itself : (first n : ℕ) (ss : List Source) → ss ≡ owns first n →
 owns_itself first n ss is = is ∙ ap (owns first) (sym (owns_long first n ss is))
 
 module _ (ds : List Def) where
-  -- a definition with fuel left
-  pub vertex_step : (n m : ℕ) (part : Part) (w : Bytes) (ins : List Source) (s a : ℕ) (d : Def) (own : Ports) (kind : Kind) (inner : List Vertex)
-      → n ≡ suc m → definition ds w ≡ Some d → own ≡ ports_of ds w
-      → kind_view kind ≡ kind_by ds (vertex_within ds m) own s a d.body → map view inner ≡ inner_by ds (vertex_within ds m) d.body
-      → vertex part w ins own.outs (kind_view kind) (map view inner) ≡ vertex_within ds n part w ins s a
-  vertex_step n m part w ins s a d own kind inner is at same kinds inners =
-      ap (λ k. vertex part w ins own.outs k (map view inner)) kinds
-      ∙ ap (λ us. vertex part w ins own.outs (kind_by ds (vertex_within ds m) own s a d.body) us) inners
-      ∙ ap (λ (p : Ports). vertex part w ins p.outs (kind_by ds (vertex_within ds m) p s a d.body) (inner_by ds (vertex_within ds m) d.body)) same
-      ∙ sym (ap (λ (k : ℕ). vertex_within ds k part w ins s a) is ∙ ap (vertex_by ds (vertex_within ds m) part w ins s a) at)
-
   pub first_place : (table : List Ports) (w : Bytes) (ps : List ℕ) → ArePlaced ds table (w ∷ []) ps → IsPlaced ds table w (get_or ps 0 0)
   first_place table w [] h = absurd h
   first_place table w (p ∷ ps) h = h.0
 
   -- the vertex of the body of a repetition, which is alone
-  pub one_copy : (fuel : ℕ) (w : Bytes) (wires : List (List Source)) (wire ins : List Source) (seat : Seat) (v : Vertex) (us : List Vertex)
+  pub one_copy : (make : Making) (w : Bytes) (wires : List (List Source)) (wire ins : List Source) (seat : Seat) (v : Vertex) (us : List Vertex)
       → wires ≡ owns 0 (length (ports_of ds w).ins) ∷ [] → wire ≡ get_or wires 0 wire → ins ≡ wire → seat ≡ inner_at 0 ins
-      → view v ≡ vertex_within ds fuel seat.part w seat.ins seat.sensor seat.actuator → us ≡ v ∷ []
-      → map view us ≡ vertex_within ds fuel (Numbered 0) w (owns 0 (length (ports_of ds w).ins)) 0 0 ∷ []
-  one_copy fuel w wires wire ins seat v us planned here same sits made alone =
+      → view v ≡ make seat.part w seat.ins seat.sensor seat.actuator → us ≡ v ∷ []
+      → map view us ≡ make (Numbered 0) w (owns 0 (length (ports_of ds w).ins)) 0 0 ∷ []
+  one_copy make w wires wire ins seat v us planned here same sits made alone =
       ap (λ (vs : List Vertex). map view vs) alone
       ∙ ap (λ (u : tree.Vertex). u ∷ [])
       (made
-      ∙ ap (λ (s : Seat). vertex_within ds fuel s.part w s.ins s.sensor s.actuator) sits
-      ∙ ap (λ (ss : List Source). vertex_within ds fuel (Numbered 0) w ss 0 0) (same ∙ only_wire wires wire (owns 0 (length (ports_of ds w).ins)) planned here))
+      ∙ ap (λ (s : Seat). make s.part w s.ins s.sensor s.actuator) sits
+      ∙ ap (λ (ss : List Source). make (Numbered 0) w ss 0 0) (same ∙ only_wire wires wire (owns 0 (length (ports_of ds w).ins)) planned here))
 
   module _ (make : Making) where
     pub next_reference : (ins : List Port) (all : List Reference) (edges : List Edge) (rs : List Reference) (i : ℕ) (r : Reference) (s a t b : ℕ)
@@ -105,13 +93,15 @@ module _ (ds : List Def) where
         ∙ ap (λ (k : ℕ). v ∷ references_from ds make ins all edges t k (drop (i + 1) rs)) (sym actuators)
 
     -- the vertex of the next reference, after those that are made
-    pub one_reference : (ins : List Port) (all : List Reference) (edges : List Edge) (rs : List Reference) (i : ℕ) (r : Reference) (s a t b : ℕ) (us : List Vertex) (v : Vertex) (whole : List tree.Vertex)
+    pub one_reference : (ins : List Port) (all : List Reference) (edges : List Edge) (rs : List Reference) (i : ℕ) (r : Reference)
+        (s a t b : ℕ) (us : List Vertex) (v : Vertex) (whole : List tree.Vertex)
         → i < length rs → r ≡ get_or rs i r → t ≡ s + sensor_count (definition ds r.def) → b ≡ a + actuator_count (definition ds r.def)
         → view v ≡ make (Named r.name) r.def (sources_to (ports_of ds) ins all edges (Some r.name) (ports_of ds r.def).ins) s a
         → map view us ++ references_from ds make ins all edges s a (drop i rs) ≡ whole
         → map view (us ++ v ∷ []) ++ references_from ds make ins all edges t b (drop (i + 1) rs) ≡ whole
     one_reference ins all edges rs i r s a t b us v whole low is sensors actuators made before =
-        pushed view us v (make (Named r.name) r.def (sources_to (ports_of ds) ins all edges (Some r.name) (ports_of ds r.def).ins) s a) (references_from ds make ins all edges t b (drop (i + 1) rs)) made
+        pushed view us v (make (Named r.name) r.def (sources_to (ports_of ds) ins all edges (Some r.name) (ports_of ds r.def).ins) s a)
+        (references_from ds make ins all edges t b (drop (i + 1) rs)) made
         ∙ ap (λ (ws : List tree.Vertex). map view us ++ ws) (sym (next_reference ins all edges rs i r s a t b low is sensors actuators))
         ∙ before
 

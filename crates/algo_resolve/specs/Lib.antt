@@ -2,5 +2,4 @@ pub mod Ready
 pub mod Parts
 pub mod Plans
 pub mod Wiring
-pub mod Sizes
-pub mod Within
+pub mod Rounds

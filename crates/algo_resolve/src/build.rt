@@ -1,21 +1,24 @@
-//! The vertices that definitions become, each with what is inside it, built from their plans.
-ghost use Rattle.std.specs.Prelude.{◌≡◌, ◌+◌, ◌<◌, ◌≤◌, ◌∷◌, ◌++◌, [], IfOk, Some, length, map, slice_get, List};
+//! The vertices that definitions become in the pruned tree, each with what is inside it, built from their plans.
+ghost use Rattle.std.specs.Prelude.{◌≡◌, ◌+◌, ◌<◌, ◌≤◌, ◌∷◌, ◌++◌, [], IfOk, Some, length, map, slice_get, suc, List};
 ghost use Rattle.algo_check.specs.Linked.{named};
 ghost use Rattle.body_lang.specs.declared.expression.Port.{Port};
 ghost use Rattle.algo_laws.specs.Placed.{ArePlaced, IsPlaced};
 ghost use Rattle.algo_laws.specs.Ports.{lens_of, ports_of};
 ghost use Rattle.algo_laws.specs.Resolved.{Making, cases_from, inner_by, kind_by, owns, references_from, vertex, vertex_within, sensor_count, actuator_count};
 ghost use Rattle.algo_laws.specs.WellRead.{IsWellRead};
-ghost use Rattle.algo_laws.specs.Tree.{graph as no_graph};
+ghost use Rattle.algo_laws.specs.Tree.{graph as plain_graph};
 ghost use Rattle.algo_laws.specs.View.{kind_view, view};
 ghost use Rattle.algo_laws.specs.declared.Ports.{Ports as PortLists};
 ghost use Rattle.algo_laws.specs.declared.Def.{Def as Definition};
 ghost use Rattle.algo_laws.specs.declared.Part.TheVariants.{Named, Numbered};
 ghost use Rattle.algo_resolve.specs.Parts.{ArePlanned, IsWired};
+ghost use Rattle.algo_resolve.specs.Rounds.{pruned_within};
 ghost use Rattle.algo_resolve.specs.Plans.{wires_by};
+ghost use Rattle.wiring_laws.specs.Pruned.{pruned};
 
 use crate::builder::{Builder, WiredGraph};
 use crate::lookup::copy_name;
+use crate::passing::Passing;
 use crate::plan::Plan;
 use algo_laws::{Body, Case, Def, Guard, Kind, Part, Reference, Source, Vertex, share_kind};
 use std::alloc::Global;
@@ -34,9 +37,10 @@ pub struct Seat {
 }
 
 /// The vertex of the definition of a name, which stands at this place, with all that is inside it, to a
-/// depth of `fuel`: a vertex of no fuel is an empty graph, so that the recursion ends.
+/// depth of `fuel`: a vertex of no fuel is an empty graph, so that the recursion ends. If it stands for no
+/// operation, it passes on what it takes, and nothing is built inside it.
 #[cycle(build)]
-pub fn build_vertex(
+fn build_vertex(
     alloc: Global,
     builder: &Builder,
     fuel: u32,
@@ -46,24 +50,44 @@ pub fn build_vertex(
 ) -> Result<Vertex, OutOfMemory>
     requires planned { ArePlanned builder.now }
     requires placed { IsPlaced builder.now.defs.now builder.now.table.now name.now place }
-    ensures { IfOk result (λ v. view v ≡ vertex_within builder.now.defs.now fuel seat.part name.now
+    requires shallow { fuel ≤ 8 }
+    ensures { IfOk result (λ v. view v ≡ pruned_within builder.now.defs.now fuel seat.part name.now
         seat.ins seat.sensor seat.actuator) }
 {
     if fuel == 0 {
         return empty_vertex(alloc, name, seat);
     }
+    let passing = &builder.rounds[fuel as usize].as_slice()[place];
+    if passing.idle {
+        passing_vertex(alloc, &builder.plans[place], passing, seat)
+    } else {
+        build_live(alloc, builder, fuel - 1, name, place, seat)
+    }
+}
+
+/// The same vertex with all that is inside it, to a depth of `fuel`, whether it stands for an operation or not.
+#[cycle(build)]
+pub fn build_live(
+    alloc: Global,
+    builder: &Builder,
+    fuel: u32,
+    name: &Name,
+    place: usize,
+    seat: Seat,
+) -> Result<Vertex, OutOfMemory>
+    requires planned { ArePlanned builder.now }
+    requires placed { IsPlaced builder.now.defs.now builder.now.table.now name.now place }
+    requires shallow { fuel ≤ 8 }
+    ensures { IfOk result (λ v. view v ≡ pruned (vertex_within builder.now.defs.now (suc fuel)
+        seat.part name.now seat.ins seat.sensor seat.actuator)) }
+{
     let body = &builder.defs[place].body;
     let plan = &builder.plans[place];
     let places = places_of(builder, place);
-    let inner = build_inner(
-        alloc,
-        builder,
-        fuel - 1,
-        places,
-        plan.wires.as_slice(),
-        body,
-    )?;
-    let label = label_of(body, plan, &seat)?;
+    let wires = plan.wires.as_slice();
+    let inner = build_inner(alloc, builder, fuel, places, wires, body)?;
+    let kind = numbered(body, &plan.kind, seat.sensor, seat.actuator)?;
+    let label = label_of(plan, kind)?;
     Ok(label.vertex(seat, inner))
 }
 
@@ -104,11 +128,12 @@ fn build_inner(
     body: &Body,
 ) -> Result<Vec<Vertex>, OutOfMemory>
     requires planned { ArePlanned builder.now }
+    requires shallow { fuel ≤ 8 }
     requires read { IsWellRead body.now }
     requires placed { ArePlaced builder.now.defs.now builder.now.table.now (named body.now) places.now }
     requires wires { wires.now ≡ wires_by builder.now.defs.now body.now }
     ensures { IfOk result (λ us. map view us.items ≡
-        inner_by builder.now.defs.now (vertex_within builder.now.defs.now fuel) body.now) }
+        inner_by builder.now.defs.now (pruned_within builder.now.defs.now fuel) body.now) }
 {
     match body {
         Body::Graph {
@@ -154,10 +179,11 @@ fn build_copy(
     name: &Name,
 ) -> Result<Vec<Vertex>, OutOfMemory>
     requires planned { ArePlanned builder.now }
+    requires shallow { fuel ≤ 8 }
     requires placed { ArePlaced builder.now.defs.now builder.now.table.now (name.now ∷ []) places.now }
     requires wires { wires.now ≡ owns 0 (length (ports_of builder.now.defs.now name.now).ins) ∷ [] }
     ensures { IfOk result (λ us. map view us.items ≡
-        vertex_within builder.now.defs.now fuel (Numbered 0) name.now
+        pruned_within builder.now.defs.now fuel (Numbered 0) name.now
         (owns 0 (length (ports_of builder.now.defs.now name.now).ins)) 0 0 ∷ []) }
 {
     let place = places[0] as usize;
@@ -201,11 +227,12 @@ fn build_cases(
     names: &Cases,
 ) -> Result<Vec<Vertex>, OutOfMemory>
     requires planned { ArePlanned builder.now }
+    requires shallow { fuel ≤ 8 }
     requires placed { ArePlaced builder.now.defs.now builder.now.table.now
         (map (λ c. c.def) names.now.cases.now ++ names.now.otherwise.now ∷ []) places.now }
     requires ins { names.now.ins.now ≡ owns 1 (length names.now.ins.now) }
     ensures { IfOk result (λ us. map view us.items ≡
-        cases_from builder.now.defs.now (vertex_within builder.now.defs.now fuel)
+        cases_from builder.now.defs.now (pruned_within builder.now.defs.now fuel)
         (length names.now.ins.now) 0
         (map (λ c. c.def) names.now.cases.now ++ names.now.otherwise.now ∷ [])) }
 {
@@ -251,10 +278,11 @@ fn build_references(
     graph: &WiredGraph,
 ) -> Result<Vec<Vertex>, OutOfMemory>
     requires planned { ArePlanned builder.now }
+    requires shallow { fuel ≤ 8 }
     requires wired { IsWired builder.now graph.now }
     requires few { length graph.now.references.now ≤ 64 }
     ensures { IfOk result (λ us. map view us.items ≡
-        references_from builder.now.defs.now (vertex_within builder.now.defs.now fuel)
+        references_from builder.now.defs.now (pruned_within builder.now.defs.now fuel)
         graph.now.ins.now graph.now.references.now graph.now.edges.now 0 0
         graph.now.references.now) }
 {
@@ -317,9 +345,25 @@ fn actuators_of(def: &Def) -> u32
     }
 }
 
+/// A vertex of a definition of this plan that passes on what it takes. It takes no memory but its own.
+fn passing_vertex(
+    alloc: Global,
+    plan: &Plan,
+    passing: &Passing,
+    seat: Seat,
+) -> Result<Vertex, OutOfMemory>
+    ensures { IfOk result (λ v. (outs : List Port) → plan.now.outs ≡ lens_of outs →
+        plan.now.names ≡ map (λ p. p.name) outs → plan.now.guards ≡ [] →
+        view v ≡ vertex seat.part plan.now.definition seat.ins outs (plain_graph passing.now.outs) []) }
+{
+    let kind = Kind::Graph(passing.outs.share()?);
+    let label = label_of(plan, kind)?;
+    Ok(label.vertex(seat, Vec::new(alloc)))
+}
+
 /// A vertex that nothing is known of.
 fn empty_vertex(alloc: Global, name: &Name, seat: Seat) -> Result<Vertex, OutOfMemory>
-    ensures { IfOk result (λ v. view v ≡ vertex seat.part name.now seat.ins [] (no_graph []) []) }
+    ensures { IfOk result (λ v. view v ≡ vertex seat.part name.now seat.ins [] (plain_graph []) []) }
 {
     let label = Label {
         definition: Shared::new(alloc, Vec::from_slice(alloc, name.as_bytes())?)?,
@@ -341,21 +385,20 @@ struct Label {
     kind: Kind,
 }
 
-/// What a vertex of a definition of this body and plan is. It takes no memory.
-fn label_of(body: &Body, plan: &Plan, seat: &Seat) -> Result<Label, OutOfMemory>
-    ensures name { IfOk result (λ l. l.definition ≡ plan.now.definition) }
-    ensures outs { IfOk result (λ l. l.outs ≡ plan.now.outs) }
-    ensures names { IfOk result (λ l. l.names ≡ plan.now.names) }
-    ensures guards { IfOk result (λ l. l.guards ≡ plan.now.guards) }
-    ensures kind { IfOk result (λ l. (ds : List Definition) (make : Making) (own : PortLists) →
-        kind_view plan.now.kind ≡ kind_by ds make own 0 0 body.now →
-        kind_view l.kind ≡ kind_by ds make own seat.now.sensor seat.now.actuator body.now) }
+/// What a vertex of a definition of this plan is, as one of this kind. It takes no memory.
+fn label_of(plan: &Plan, kind: Kind) -> Result<Label, OutOfMemory>
+    ensures { IfOk result (λ l. l ≡ record {
+      definition = plan.now.definition;
+      outs = plan.now.outs;
+      names = plan.now.names;
+      guards = plan.now.guards;
+      kind = kind;
+    }) }
 {
     let definition = plan.definition.share()?;
     let outs = plan.outs.share()?;
     let names = plan.names.share()?;
     let guards = plan.guards.share()?;
-    let kind = numbered(body, &plan.kind, seat.sensor, seat.actuator)?;
     Ok(Label {
         definition,
         outs,

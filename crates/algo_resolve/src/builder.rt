@@ -1,4 +1,5 @@
 //! The checked definitions with a plan for each, from which vertices are built.
+use crate::passing::Passing;
 use crate::plan::Plan;
 use algo_laws::{Def, Edge, Ports, Reference, Source};
 use body_lang::Port;
@@ -15,6 +16,8 @@ pub struct Builder<'a> {
     pub table: &'a [Ports],
     /// The plan of each definition, by its place.
     pub plans: &'a [Plan],
+    /// What each definition passes on, by its place, for each depth to which it is followed.
+    pub rounds: &'a [Items<Passing>],
 }
 
 /// A graph among them.

@@ -1,43 +1,33 @@
-//! The tree of the definitions of a text, or their first refusal: `resolve`, which `elaboration` calls.
+//! The pruned tree of the definitions of a text, or their first refusal: `resolve`, which `elaboration` calls.
 ghost use Rattle.std.specs.Prelude.{◌≡◌, ◌<◌, ◌≤◌, IfOk, IfSome, MatchOption, None, Some, codes, length, slice_get};
 ghost use Rattle.syn_base.specs.Limits.{most_in_text};
+ghost use Rattle.text_lines.specs.Refusals.{Gives};
 ghost use Rattle.algo_laws.specs.RuleLinks.{definition};
-ghost use Rattle.algo_laws.specs.Returned.{Gives};
 ghost use Rattle.algo_laws.specs.Resolved.{refusal, resolution_of, tree_of};
 ghost use Rattle.algo_laws.specs.WellRead.{AreWellRead};
-ghost use Rattle.algo_laws.specs.Size.{is_large, vertices_made};
 ghost use Rattle.algo_laws.specs.View.{view};
-ghost use Rattle.algo_laws.specs.Bounded.{HasBounds};
-ghost use Rattle.algo_laws.specs.Named.{HasNames};
 ghost use Rattle.algo_resolve.specs.Parts.{ArePlanned, AreReady};
-ghost use Rattle.algo_resolve.specs.Within.{Makes, of_size, within_bound};
+ghost use Rattle.algo_resolve.specs.Rounds.{pruned_result};
+ghost use Rattle.wiring_laws.specs.Pruned.{pruned};
 
-use crate::build::{Seat, build_vertex};
+use crate::build::{Seat, build_live};
 use crate::builder::Builder;
 use crate::checked::Checked;
 use crate::lookup::copy_name;
+use crate::passing::rounds;
 use crate::plan::plans;
-use crate::size::{entry, sizes};
 use algo_check::{check_definitions, links_of};
-use algo_laws::{
-    AlgoError, Def, Defs, MOST_VERTICES, Part, SizeError, Tree, Vertex, accepted_make_a_tree,
-    vertices_are_counted,
-};
+use algo_laws::{AlgoError, Def, Defs, Part, Tree, Vertex, accepted_make_a_tree};
 use std::alloc::Global;
 use syn_base::{OutOfMemory, Shared};
+use wiring_laws::pruned_is_a_tree;
 
-/// The tree of the definitions of a text, or their first refusal in the order of the checks.
-///
-/// TooLarge comes after all checks, exactly where the tree would be made of more than `MOST_VERTICES`,
-/// each copy of the body of a repetition counted, and before anything is made. OutOfMemory may come in
-/// place of any result, where memory runs out.
+/// The pruned tree of the definitions of a text, or their first refusal in the order of the checks.
+/// OutOfMemory may come in place of any result, where memory runs out.
 pub fn resolve(alloc: Global, defs: &Defs) -> Result<Tree, AlgoError>
     requires read { AreWellRead defs.now.defs }
     requires few { length defs.now.defs ≤ most_in_text }
-    ensures gives { Gives result (within_bound (resolution_of defs.now.defs)) }
-    ensures named { IfOk result (λ t. HasNames t) }
-    ensures bounded { IfOk result (λ t. HasBounds t) }
-    ensures few { IfOk result (λ t. vertices_made t ≤ 262144) }
+    ensures { Gives result (pruned_result (resolution_of defs.now.defs)) }
 {
     let table = check_definitions(alloc, defs)?;
     let Ok(links) = links_of(alloc, defs) else {
@@ -50,67 +40,44 @@ pub fn resolve(alloc: Global, defs: &Defs) -> Result<Tree, AlgoError>
     };
     match tree(alloc, &checked) {
         Ok(tree) => Ok(tree),
-        Err(error) => Err(refusal_of(error)),
+        Err(_) => Err(AlgoError::OutOfMemory),
     }
 }
 
-/// The refusal of a text whose tree is not made.
-fn refusal_of(error: SizeError) -> AlgoError
-    ensures { result ≡ of_size error }
-{
-    match error {
-        SizeError::TooLarge => AlgoError::TooLarge,
-        SizeError::OutOfMemory => AlgoError::OutOfMemory,
-    }
-}
-
-/// The tree of definitions that have passed all checks, where it is within the bound on vertices.
-fn tree(alloc: Global, checked: &Checked) -> Result<Tree, SizeError>
+/// The pruned tree of definitions that have passed all checks.
+fn tree(alloc: Global, checked: &Checked) -> Result<Tree, OutOfMemory>
     requires ready { AreReady checked.now }
     requires read { AreWellRead checked.now.defs.now }
     requires passed { refusal checked.now.defs.now ≡ None }
-    ensures { Makes (tree_of checked.now.defs.now) result }
+    ensures { IfOk result (λ t. t ≡ pruned (tree_of checked.now.defs.now)) }
 {
     let Some(place) = main_place(checked.defs) else {
         unreachable!()
     };
-    if is_too_large(alloc, checked, place)? {
-        return Err(SizeError::TooLarge);
-    }
     let main = main_vertex(alloc, checked, place)?;
     // That the vertex is a valid tree, which `Tree::new` asks for.
     accepted_make_a_tree();
+    pruned_is_a_tree();
     Ok(Tree::new(main))
 }
 
-/// Whether the tree would be made of more vertices than any tree is.
-fn is_too_large(alloc: Global, checked: &Checked, place: usize) -> Result<bool, OutOfMemory>
+/// The vertex of the main graph, whose definition stands at this place, with what is inside it pruned.
+fn main_vertex(alloc: Global, checked: &Checked, place: usize) -> Result<Vertex, OutOfMemory>
     requires ready { AreReady checked.now }
     requires read { AreWellRead checked.now.defs.now }
     requires passed { refusal checked.now.defs.now ≡ None }
     requires below { place < length checked.now.defs.now }
     requires main { definition checked.now.defs.now (codes "main") ≡ slice_get checked.now.defs.now place }
-    ensures { IfOk result (λ large. large ≡ is_large (tree_of checked.now.defs.now)) }
-{
-    let sizes = sizes(alloc, checked)?;
-    // That the counted size is that of the tree.
-    vertices_are_counted();
-    Ok(entry(&sizes, place) > MOST_VERTICES)
-}
-
-/// The vertex of the main graph, whose definition stands at this place.
-fn main_vertex(alloc: Global, checked: &Checked, place: usize) -> Result<Vertex, OutOfMemory>
-    requires ready { AreReady checked.now }
-    requires below { place < length checked.now.defs.now }
-    requires main { definition checked.now.defs.now (codes "main") ≡ slice_get checked.now.defs.now place }
-    ensures { IfOk result (λ v. view v ≡ tree_of checked.now.defs.now) }
+    ensures { IfOk result (λ v. view v ≡ pruned (tree_of checked.now.defs.now)) }
 {
     let plans = plans(alloc, checked)?;
+    let rounds = rounds(alloc, checked, &plans)?;
     let builder = Builder {
         defs: checked.defs,
         links: checked.links,
         table: checked.table,
         plans: &plans,
+        rounds: &rounds,
     };
     build_main(alloc, &builder, place)
 }
@@ -120,7 +87,7 @@ fn build_main(alloc: Global, builder: &Builder, place: usize) -> Result<Vertex, 
     requires planned { ArePlanned builder.now }
     requires below { place < length builder.now.defs.now }
     requires main { definition builder.now.defs.now (codes "main") ≡ slice_get builder.now.defs.now place }
-    ensures { IfOk result (λ v. view v ≡ tree_of builder.now.defs.now) }
+    ensures { IfOk result (λ v. view v ≡ pruned (tree_of builder.now.defs.now)) }
 {
     let name = &builder.defs[place].name;
     let seat = Seat {
@@ -129,7 +96,7 @@ fn build_main(alloc: Global, builder: &Builder, place: usize) -> Result<Vertex, 
         sensor: 0,
         actuator: 0,
     };
-    build_vertex(alloc, builder, 8, name, place, seat)
+    build_live(alloc, builder, 7, name, place, seat)
 }
 
 /// The place of the definition of `main`, if there is one.

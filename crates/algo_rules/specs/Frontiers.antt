@@ -28,17 +28,17 @@ use Rattle.algo_text.specs.declared.definition.Case.{Case}
 use Rattle.algo_text.specs.declared.definition.Frontier.{Frontier}
 use Rattle.algo_text.specs.declared.definition.Frontier.TheVariants.{Fork, Diffuse, Iterate, Join}
 use Rattle.algo_text.specs.declared.definition.FrontierLine.{FrontierLine}
-use Rattle.algo_text.specs.declared.fault.AlgoError.{AlgoError}
-use Rattle.algo_text.specs.declared.fault.AlgoError.TheVariants.{Limit}
 use Rattle.algo_text.specs.declared.fault.AlgoCause.TheVariants.{BadCase, BadRepeat}
 use Rattle.syn_base.specs.Bytes.{Bytes}
+use Rattle.text_lines.specs.Refusals.{Limit}
+use Rattle.algo_text.specs.Refusals.{AlgoRefusal}
 use Rattle.algo_text.specs.Among.{is_among}
 use Rattle.algo_rules.specs.Links.{fault, first_of}
 use Rattle.algo_rules.specs.Ports.{has_port, len_of, same_ports}
 use Rattle.algo_rules.specs.declared.ports.Ports.{Ports}
 
 -- The refusal by the limit on lengths, if this length is above it.
-abbrev pub too_long : ℕ → Option AlgoError
+abbrev pub too_long : ℕ → Option AlgoRefusal
 too_long len =
     if nat_lt 64 len
     then Some (Limit (record { which = PortLength; count = len; bound = bound_of PortLength })) else None
@@ -57,7 +57,7 @@ module _ (copies : ℕ) (inner : Ports) where
 
   -- An inner port that is not there, an inner input that is used twice, an iterate between unequal lengths; then an
   -- outer port that is too long.
-  abbrev pub frontier_fault : List Bytes → ℕ → Frontier → Option AlgoError
+  abbrev pub frontier_fault : List Bytes → ℕ → Frontier → Option AlgoRefusal
   frontier_fault used n (Fork p x) =
       if is_open used x then too_long (copies * len_of inner.ins x) else fault n BadRepeat
   frontier_fault used n (Diffuse p x) =
@@ -70,19 +70,19 @@ module _ (copies : ℕ) (inner : Ports) where
 
   -- For each of these frontier lines in order its fault, if it has one. The lines before them use
   -- the inner inputs `used`.
-  abbrev pub frontier_faults : List Bytes → List FrontierLine → List (Option AlgoError)
+  abbrev pub frontier_faults : List Bytes → List FrontierLine → List (Option AlgoRefusal)
   frontier_faults used [] = []
   frontier_faults used (l ∷ ls) =
       frontier_fault used l.line l.frontier ∷ frontier_faults (used ++ used_by l.frontier) ls
 
   -- An inner input that stands in no line.
-  abbrev pub unfed : ℕ → List FrontierLine → Option AlgoError
+  abbrev pub unfed : ℕ → List FrontierLine → Option AlgoRefusal
   unfed line ls =
       if list_all (λ p. is_among p.name (flat_map (λ l. used_by l.frontier) ls)) inner.ins then None else
       fault line BadRepeat
 
   -- A repetition at this line: its lines in order, and then its inner inputs.
-  abbrev pub repeat_fault : ℕ → List FrontierLine → Option AlgoError
+  abbrev pub repeat_fault : ℕ → List FrontierLine → Option AlgoRefusal
   repeat_fault line ls = first_of (frontier_faults [] ls ++ unfed line ls ∷ [])
 
 -- The ports of a definition are those of the switch without its conditioning input.
@@ -97,17 +97,17 @@ has_value (x ∷ xs) v = int_eq x v || has_value xs v
 module _ (of : Bytes → Ports) (ins outs : List Port) where
   -- The fault of a case, if it has one: its value is one of those of the cases before it, which are
   -- given, or its definition does not have the ports of the switch.
-  abbrev pub case_fault : List ℤ → Case → Option AlgoError
+  abbrev pub case_fault : List ℤ → Case → Option AlgoRefusal
   case_fault before c =
       if not (has_value before c.value) && fits ins outs (of c.def) then None else fault c.line BadCase
 
   -- For each of these cases in order its fault, if it has one. The cases before them have the
   -- values `before`.
-  abbrev pub case_faults : List ℤ → List Case → List (Option AlgoError)
+  abbrev pub case_faults : List ℤ → List Case → List (Option AlgoRefusal)
   case_faults before [] = []
   case_faults before (c ∷ cs) = case_fault before c ∷ case_faults (before ++ c.value ∷ []) cs
 
   -- A switch: each case has a new value and the switch's ports, and `otherwise` has them too.
-  abbrev pub switch_fault : List Case → Bytes → ℕ → Option AlgoError
+  abbrev pub switch_fault : List Case → Bytes → ℕ → Option AlgoRefusal
   switch_fault cases otherwise last = first_of
       (case_faults [] cases ++ (if fits ins outs (of otherwise) then None else fault last BadCase) ∷ [])

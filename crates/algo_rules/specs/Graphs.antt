@@ -27,7 +27,6 @@ use Rattle.algo_text.specs.declared.definition.Body.TheVariants.{Delay}
 use Rattle.algo_text.specs.declared.definition.Reference.{Reference}
 use Rattle.algo_text.specs.declared.definition.Edge.{Edge}
 use Rattle.algo_text.specs.declared.definition.End.{End}
-use Rattle.algo_text.specs.declared.fault.AlgoError.{AlgoError}
 use Rattle.algo_text.specs.declared.fault.AlgoCause.TheVariants.{
   UnknownName,
   WrongLength,
@@ -36,6 +35,7 @@ use Rattle.algo_text.specs.declared.fault.AlgoCause.TheVariants.{
   Cycle,
 }
 use Rattle.syn_base.specs.Bytes.{Bytes}
+use Rattle.algo_text.specs.Refusals.{AlgoRefusal}
 use Rattle.algo_rules.specs.Links.{fault, first_of, definition}
 use Rattle.reference_graph.specs.Links.{Links, reaches_itself}
 use Rattle.algo_rules.specs.Ports.{no_ports}
@@ -81,7 +81,7 @@ module _ (of : Bytes → Ports) (own : Ports) (references : List Reference) wher
   takers (Some r) = (ports_at of references r).ins
 
   -- The ends are there in this order, the lengths are equal, and no edge before has this target.
-  abbrev pub joins : List Edge → Edge → Option ℕ → Option ℕ → Option AlgoError
+  abbrev pub joins : List Edge → Edge → Option ℕ → Option ℕ → Option AlgoRefusal
   joins before e None to = fault e.line (UnknownName (end_word e.from))
   joins before e (Some n) None = fault e.line (UnknownName (end_word e.to))
   joins before e (Some n) (Some m) =
@@ -91,24 +91,24 @@ module _ (of : Bytes → Ports) (own : Ports) (references : List Reference) wher
 
   -- The fault of an edge, if it has one: an end that is not there, the source first; unequal
   -- lengths; or a target into which one of the edges before it leads.
-  abbrev pub edge_fault : List Edge → Edge → Option AlgoError
+  abbrev pub edge_fault : List Edge → Edge → Option AlgoRefusal
   edge_fault before e = joins before e
       (port_len (givers e.from.owner) e.from.port) (port_len (takers e.to.owner) e.to.port)
 
   -- For each of these edges in order its fault, if it has one. The edges `before` come before them.
-  abbrev pub edge_faults : List Edge → List Edge → List (Option AlgoError)
+  abbrev pub edge_faults : List Edge → List Edge → List (Option AlgoRefusal)
   edge_faults before [] = []
   edge_faults before (e ∷ es) = edge_fault before e ∷ edge_faults (before ++ e ∷ []) es
 
   -- The first of these ports into which no edge leads.
-  abbrev pub open_fault : List Edge → ℕ → Option Bytes → List Port → Option AlgoError
+  abbrev pub open_fault : List Edge → ℕ → Option Bytes → List Port → Option AlgoRefusal
   open_fault edges line owner [] = None
   open_fault edges line owner (p ∷ ps) =
       if is_connected edges (record { owner = owner; port = p.name }) then open_fault edges line owner ps else
       fault line (Unconnected (owned owner p.name))
 
   -- The faults of the references in order, each at its line, and then of the graph's outputs at its own.
-  abbrev pub open_faults : ℕ → List Edge → List (Option AlgoError)
+  abbrev pub open_faults : ℕ → List Edge → List (Option AlgoRefusal)
   open_faults line edges =
       map (λ r. open_fault edges r.line (Some r.name) (of r.def).ins) references ++
       open_fault edges line None own.outs ∷ []
@@ -156,17 +156,17 @@ module _ (ds : List Def) (references : List Reference) where
 
   -- The refusal of a graph at this line for a cycle of these references; none if there
   -- are no references.
-  abbrev pub cycle_by : ℕ → List Bytes → Option AlgoError
+  abbrev pub cycle_by : ℕ → List Bytes → Option AlgoRefusal
   cycle_by line [] = None
   cycle_by line (r ∷ rs) = fault line (Cycle (r ∷ rs))
 
   -- The refusal of a graph at this line for its cycles, if it has any: it names, in order, every
   -- reference that depends on itself.
-  abbrev pub cycle_fault : ℕ → List Edge → Option AlgoError
+  abbrev pub cycle_fault : ℕ → List Edge → Option AlgoRefusal
   cycle_fault line edges = cycle_by line (names_of (dependences edges) 0 references)
 
 -- A graph at this line: its edges in order, what is open, and cycles.
-abbrev pub graph_fault : List Def → (Bytes → Ports) → ℕ → Ports → List Reference → List Edge → Option AlgoError
+abbrev pub graph_fault : List Def → (Bytes → Ports) → ℕ → Ports → List Reference → List Edge → Option AlgoRefusal
 graph_fault ds of line own references edges = first_of
     (edge_faults of own references [] edges ++
     open_faults of own references line edges ++

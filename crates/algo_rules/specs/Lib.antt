@@ -14,6 +14,7 @@ pub use Rattle.algo_text.specs.Formulas
 pub use Rattle.algo_text.specs.Grammatical
 pub use Rattle.algo_text.specs.Outer
 pub use Rattle.algo_text.specs.Parts
+pub use Rattle.algo_text.specs.Refusals
 pub use Rattle.algo_text.specs.Returned
 pub use Rattle.algo_text.specs.Text
 pub use Rattle.algo_text.specs.Words

@@ -17,9 +17,9 @@ use Rattle.std.specs.Prelude.{
   slice_index_or,
 }
 use Rattle.algo_text.specs.declared.definition.Def.{Def}
-use Rattle.algo_text.specs.declared.fault.AlgoError.{AlgoError}
-use Rattle.algo_text.specs.declared.fault.AlgoError.TheVariants.{Refused, Limit, TooLarge, OutOfMemory}
 use Rattle.syn_base.specs.Bytes.{Bytes}
+use Rattle.algo_text.specs.Refusals.{AlgoError, AlgoRefusal}
+use Rattle.algo_text.specs.Returned.{Tells}
 use Rattle.algo_rules.specs.Links.{definition}
 use Rattle.algo_rules.specs.Ports.{no_ports, ports_of}
 use Rattle.algo_rules.specs.declared.ports.Ports.{Ports}
@@ -40,9 +40,6 @@ ArePlaced ds table (w ∷ ws) (p ∷ ps) = IsPlaced ds table w p × ArePlaced ds
 
 -- What a check answered is the fault that there is, or that there is none. Want of memory may come in place of
 -- anything.
-abbrev pub Checks : {A : Type 0} → Result A AlgoError → Option AlgoError → Type 0
+abbrev pub Checks : {A : Type 0} → Result A AlgoError → Option AlgoRefusal → Type 0
 Checks (Ok done) expected = expected ≡ None
-Checks (Err (Refused f)) expected = expected ≡ Some (Refused f)
-Checks (Err (Limit f)) expected = expected ≡ Some (Limit f)
-Checks (Err TooLarge) expected = expected ≡ Some TooLarge
-Checks (Err OutOfMemory) expected = Unit {0}
+Checks (Err e) expected = Tells e expected

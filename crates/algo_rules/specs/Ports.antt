@@ -127,7 +127,7 @@ ports_within ds (suc n) w = ports_in (ports_within ds n) (definition ds w)
 abbrev pub ports_of : List Def → Bytes → Ports
 ports_of ds w = ports_within ds most_depth w
 
--- The same names and lengths in the same order.
+-- Both lists have ports of the same names and lengths, in the same order.
 abbrev pub same_ports : List Port → List Port → Bool
 same_ports [] [] = true
 same_ports [] (q ∷ qs) = false

@@ -62,10 +62,10 @@ use Rattle.algo_text.specs.declared.definition.End.{End}
 use Rattle.algo_text.specs.declared.definition.Frontier.{Frontier}
 use Rattle.algo_text.specs.declared.definition.Frontier.TheVariants.{Fork, Diffuse, Iterate, Join}
 use Rattle.algo_text.specs.declared.definition.FrontierLine.{FrontierLine}
-use Rattle.algo_text.specs.declared.fault.AlgoError.{AlgoError}
-use Rattle.algo_text.specs.declared.fault.AlgoError.TheVariants.{Limit}
 use Rattle.algo_text.specs.declared.fault.AlgoCause.TheVariants.{NoMain}
 use Rattle.syn_base.specs.Bytes.{Bytes}
+use Rattle.text_lines.specs.Refusals.{Limit}
+use Rattle.algo_text.specs.Refusals.{AlgoRefusal}
 use Rattle.algo_rules.specs.Links.{fault, first_of, definition, links_of, unknown, misplaced, recursive, too_deep}
 use Rattle.reference_graph.specs.Links.{depths}
 use Rattle.algo_rules.specs.Ports.{ports_of, number_of, len_of, lens_of}
@@ -74,7 +74,7 @@ use Rattle.algo_rules.specs.Graphs.{graph_fault, same_end, place, ports_at}
 use Rattle.algo_rules.specs.declared.ports.Ports.{Ports}
 
 -- The checks of a definition by itself, where those below it have passed theirs.
-abbrev pub body_fault : List Def → ℕ → Body → Option AlgoError
+abbrev pub body_fault : List Def → ℕ → Body → Option AlgoRefusal
 body_fault ds line (Repeat copies def lines) = repeat_fault copies (ports_of ds def) line lines
 body_fault ds line (Switch on ins outs cases otherwise last) =
     switch_fault (ports_of ds) ins outs cases otherwise last
@@ -83,7 +83,7 @@ body_fault ds line (Graph ins outs references edges) =
 body_fault ds line _ = None
 
 -- The faults of the definitions that have this depth, in order.
-abbrev pub faults_at : List Def → ℕ → List Def → List ℕ → List (Option AlgoError)
+abbrev pub faults_at : List Def → ℕ → List Def → List ℕ → List (Option AlgoRefusal)
 faults_at ds depth [] ns = []
 faults_at ds depth (d ∷ rest) [] = []
 faults_at ds depth (d ∷ rest) (n ∷ ns) =
@@ -91,7 +91,7 @@ faults_at ds depth (d ∷ rest) (n ∷ ns) =
 
 -- The first fault that a definition has by itself, in the order of their depths and, at one depth,
 -- of the text; none if no definition has one.
-abbrev pub bodies_fault : List Def → Option AlgoError
+abbrev pub bodies_fault : List Def → Option AlgoRefusal
 bodies_fault ds =
     first_of (flat_map (λ depth. faults_at ds depth ds (depths (links_of ds))) (range_with_len 1 most_depth))
 
@@ -108,12 +108,12 @@ is_main_graph _ = false
 
 -- The refusal for want of a main graph, unless there is a definition and it is a
 -- graph without ports.
-abbrev pub no_main_by : Option Def → Option AlgoError
+abbrev pub no_main_by : Option Def → Option AlgoRefusal
 no_main_by None = fault 0 NoMain
 no_main_by (Some d) = if is_main_graph d.body then None else fault 0 NoMain
 
 -- The refusal of definitions among which no graph without ports is called `main`. It is at line 0.
-abbrev pub no_main : List Def → Option AlgoError
+abbrev pub no_main : List Def → Option AlgoRefusal
 no_main ds = no_main_by (definition ds (codes "main"))
 
 -- How many vertices a frontier line adds to the copies: 1 for `fork` (an explode) and for `join`
@@ -155,13 +155,13 @@ abbrev pub operations : List Def → ℕ
 operations ds = count_within ds most_depth (codes "main")
 
 -- The refusal by the limit on operations, if the main graph has more than 2,048.
-abbrev pub too_many : List Def → Option AlgoError
+abbrev pub too_many : List Def → Option AlgoRefusal
 too_many ds =
     if nat_lt 2048 (operations ds)
     then Some (Limit (record { which = Operations; count = operations ds; bound = bound_of Operations })) else None
 
 -- The first refusal of the definitions of a text, in the order of the checks.
-abbrev pub refusal : List Def → Option AlgoError
+abbrev pub refusal : List Def → Option AlgoRefusal
 refusal ds = first_of
     (unknown ds ∷ misplaced ds ∷ recursive ds ∷ too_deep ds ∷ bodies_fault ds ∷ no_main ds ∷ too_many ds ∷ [])
 
@@ -322,10 +322,10 @@ abbrev pub tree_of : List Def → tree.Vertex
 tree_of ds = vertex_within ds most_depth (Named (codes "main")) (codes "main") [] 0 0
 
 -- The tree of the definitions, or this refusal of them, if there is one.
-abbrev pub resolved_by : List Def → Option AlgoError → Result tree.Vertex AlgoError
+abbrev pub resolved_by : List Def → Option AlgoRefusal → Result tree.Vertex AlgoRefusal
 resolved_by ds None = Ok (tree_of ds)
 resolved_by ds (Some e) = Err e
 
 -- What the definitions of a text resolve to.
-abbrev pub resolution_of : List Def → Result tree.Vertex AlgoError
+abbrev pub resolution_of : List Def → Result tree.Vertex AlgoRefusal
 resolution_of ds = resolved_by ds (refusal ds)

@@ -13,7 +13,5 @@ pub use algo_text::{
     AlgoCause, AlgoError, AlgoFault, Body, Case, Def, Defs, Edge, End, Expr, Frontier,
     FrontierLine, Output, Part, Port, Reference,
 };
-pub use algo_tree::{
-    Kind, MOST_VERTICES, SizeError, Tree, Vertex, copy_numbers, is_large, share_kind,
-};
+pub use algo_tree::{Kind, Tree, Vertex, copy_numbers, share_kind};
 pub use reference_graph::{Depths, are_inside, depths_of, reaching};

@@ -15,10 +15,10 @@ use Rattle.body_text.proofs.Failures.{parse_fails}
 use Rattle.body_text.proofs.Judged.{is_written, fails_at, one_place, fails_is_none}
 use Rattle.algo_text.specs.declared.fault.AlgoCause.TheVariants.{BadExpression}
 use Rattle.syn_base.specs.Bytes.{Bytes}
-use Rattle.algo_text.specs.Blocks.{refused}
 use Rattle.algo_text.specs.Formulas.{known_by, read_by, formula_of}
 use Rattle.syn_base.specs.Limits.{bound_of}
 use Rattle.syn_base.specs.declared.limits.LimitKind.TheVariants.{Tokens}
+use Rattle.text_lines.specs.Refusals.{refused}
 
 few_shape : {A : Type 0} (m n : ℕ) (x y : A) → m ≤ n → cond (nat_le m n) x y ≡ x
 few_shape m n x y h = let e : nat_le m n ≡ true = grind arith in rw e refl
@@ -27,7 +27,8 @@ pub few_formula : (n : ℕ) (names : List Bytes) (text : Bytes) → AreFew text 
 few_formula n names text few = few_shape (length (tokens text)) (bound_of Tokens) _ _ few
 
 -- The tokens of an expression are read as it.
-pub written_formula : (n : ℕ) (names : List Bytes) (text : Bytes) (w : Written) → AreFew text → AreWritten (tokens text) w → formula_of n names text ≡ known_by n names text (unknown names w) (resolved names w)
+pub written_formula : (n : ℕ) (names : List Bytes) (text : Bytes) (w : Written) → AreFew text → AreWritten (tokens text) w
+    → formula_of n names text ≡ known_by n names text (unknown names w) (resolved names w)
 written_formula n names text w few grammar =
     few_formula n names text few
     ∙ ap (λ (p : Parse). read_by n names text (alone p)) (complete_alone (suc (length (tokens text))) (tokens text) w grammar (omega arith))
@@ -59,15 +60,19 @@ stopped_there n ts rest h short =
     fails_at n ts rest (length ts - length rest) h short (omega arith)
     (ap (λ xs. drop (length ts - length rest) xs) s.is ∙ drop_at s.pre rest (length ts - length rest) (sym size))
 
-bad_by : (n : ℕ) (names : List Bytes) (text : Bytes) (place : ℕ) (p : Parse) → alone (parse (suc (length (tokens text))) (tokens text)) ≡ p → IsBad text place → read_by n names text p ≡ refused n (BadExpression place)
+bad_by : (n : ℕ) (names : List Bytes) (text : Bytes) (place : ℕ) (p : Parse) → alone (parse (suc (length (tokens text))) (tokens text)) ≡ p
+    → IsBad text place → read_by n names text p ≡ refused n (BadExpression place)
 bad_by n names text place (good w rest) e h =
     absurd (fails_is_none (tokens text) h.token h.fails (w, is_written (suc (length (tokens text))) (tokens text) w rest e))
 bad_by n names text place (stops rest) e h =
-    let same : length (tokens text) - length rest ≡ h.token = one_place (tokens text) (length (tokens text) - length rest) h.token (stopped_there (suc (length (tokens text))) (tokens text) rest e (omega arith)) h.fails in
+    let same : length (tokens text) - length rest
+    ≡ h.token = one_place (tokens text) (length (tokens text) - length rest) h.token
+    (stopped_there (suc (length (tokens text))) (tokens text) rest e (omega arith)) h.fails in
     ap (λ (i : ℕ). refused n (BadExpression (place_of text i))) same ∙ ap (λ (k : ℕ). refused n (BadExpression k)) h.there
 
 pub bad_formula : (n : ℕ) (names : List Bytes) (text : Bytes) (place : ℕ) → IsBad text place → formula_of n names text ≡ refused n (BadExpression place)
 bad_formula n names text place h = few_formula n names text h.few ∙ bad_by n names text place (alone (parse (suc (length (tokens text))) (tokens text))) refl h
 
-pub bad_read : (n : ℕ) (names : List Bytes) (text : Bytes) (f : BodyFault) (place : ℕ) → f ≡ faults.BadExpression place → Reads names text (Err f) → formula_of n names text ≡ refused n (BadExpression place)
+pub bad_read : (n : ℕ) (names : List Bytes) (text : Bytes) (f : BodyFault) (place : ℕ) → f ≡ faults.BadExpression place
+    → Reads names text (Err f) → formula_of n names text ≡ refused n (BadExpression place)
 bad_read n names text f place is h = bad_formula n names text place (subst (λ (g : BodyFault). Reads names text (Err g)) is h)

@@ -10,11 +10,29 @@ use Rattle.body_text.specs.Parse.{Parse, good, stops, parse, alone}
 use Rattle.body_text.specs.Reads.{AreFew, place_of, IsUnknown}
 use Rattle.body_text.proofs.Judged.{is_written}
 use Rattle.algo_text.specs.declared.fault.AlgoCause.{AlgoCause}
-use Rattle.algo_text.specs.declared.fault.AlgoCause.TheVariants.{NotText, BadLine, BadName, BadNumber, BadExpression, DuplicateName, UnknownName, WrongLength, Unconnected, TwiceConnected, Recursive, Cycle, NoMain, BadCase, Misplaced, BadRepeat, BadDelay, BadEvery}
-use Rattle.algo_text.specs.declared.fault.AlgoError.{AlgoError}
-use Rattle.algo_text.specs.declared.fault.AlgoError.TheVariants.{Refused, Limit, TooLarge, OutOfMemory}
+use Rattle.algo_text.specs.declared.fault.AlgoCause.TheVariants.{
+  NotText,
+  BadLine,
+  BadName,
+  BadNumber,
+  BadExpression,
+  DuplicateName,
+  UnknownName,
+  WrongLength,
+  Unconnected,
+  TwiceConnected,
+  Recursive,
+  Cycle,
+  NoMain,
+  BadCase,
+  Misplaced,
+  BadRepeat,
+  BadDelay,
+  BadEvery,
+}
 use Rattle.syn_base.specs.Bytes.{Bytes}
-use Rattle.algo_text.specs.Blocks.{refused}
+use Rattle.text_lines.specs.Refusals.{Refused, Limit, refused}
+use Rattle.algo_text.specs.Refusals.{AlgoRefusal}
 use Rattle.algo_text.specs.Formulas.{name_in, known_by, read_by, formula_of}
 use Rattle.algo_text.specs.Grammatical.{NamesNoPort, IsCause, IsFormula}
 use Rattle.algo_text.proofs.Grammars.{written_formula, body_formula, bad_formula, stopped_there}
@@ -42,7 +60,8 @@ module _ (line : ℕ) (ports : List Bytes) (text : Bytes) where
   )
 
   by_count : (b : Bool) → nat_le (length (tokens text)) (bound_of Tokens) ≡ b
-      → IsFormula ports text line (cond b (read_by line ports text (alone (parse (suc (length (tokens text))) (tokens text)))) (Err (Limit (record { which = Tokens; count = length (tokens text); bound = bound_of Tokens }))))
+      → IsFormula ports text line (cond b (read_by line ports text (alone (parse (suc (length (tokens text))) (tokens text))))
+      (Err (Limit (record { which = Tokens; count = length (tokens text); bound = bound_of Tokens }))))
   by_count true e = by_parse (alone (parse (suc (length (tokens text))) (tokens text))) (grind arith) refl
   by_count false e = (grind arith, refl)
 
@@ -83,12 +102,10 @@ module _ (line : ℕ) (ports : List Bytes) (text : Bytes) where
   refusal n (BadEvery w) e h = absurd h
 
   -- the grammar says one thing of a text
-  pub one_formula : (r : Result Expr AlgoError) → IsFormula ports text line r → formula_of line ports text ≡ r
+  pub one_formula : (r : Result Expr AlgoRefusal) → IsFormula ports text line r → formula_of line ports text ≡ r
   one_formula (Ok e) h = body_formula line ports text e h
   one_formula (Err (Limit f)) h = many_shape (length (tokens text)) (bound_of Tokens) _ _ h.0 ∙ ap (λ (g : _). Err (Limit g)) (sym h.1)
   one_formula (Err (Refused r)) h = refusal r.line r.cause h.0 h.1
-  one_formula (Err TooLarge) h = absurd h
-  one_formula (Err OutOfMemory) h = absurd h
 
-  pub formula_law : (r : Result Expr AlgoError) → (formula_of line ports text ≡ r) ↔ IsFormula ports text line r
-  formula_law r = (λ e. subst (λ (x : Result Expr AlgoError). IsFormula ports text line x) e formula_is, one_formula r)
+  pub formula_law : (r : Result Expr AlgoRefusal) → (formula_of line ports text ≡ r) ↔ IsFormula ports text line r
+  formula_law r = (λ e. subst (λ (x : Result Expr AlgoRefusal). IsFormula ports text line x) e formula_is, one_formula r)

@@ -59,7 +59,8 @@ are_named (literal v) at pre post ts size is = tt
 are_named index at pre post ts size is = tt
 are_named (element p e) at pre post ts size is = (
   get_at pre (name p) _ ts at size is,
-  are_named e (at + 2) (pre ++ name p ∷ open_square ∷ []) (close_square ∷ post) ts (two_more pre (name p) open_square at size) (is ∙ inside pre (name p) open_square (written e) (close_square ∷ []) post),
+  are_named e (at + 2) (pre ++ name p ∷ open_square ∷ []) (close_square ∷ post) ts (two_more pre (name p) open_square at size)
+      (is ∙ inside pre (name p) open_square (written e) (close_square ∷ []) post),
 )
 are_named (sum_over p) at pre post ts size is = (
   get_at (pre ++ name (codes "sum") ∷ open_round ∷ []) (name p) (close_round ∷ post) ts (at + 2) (two_more pre (name (codes "sum")) open_round at size)
@@ -71,7 +72,8 @@ are_named (negation a) at pre post ts size is =
     (is ∙ inside pre (name (word_of Neg)) open_round (written a) (close_round ∷ []) post)
 are_named (apply op a b) at pre post ts size is =
     let one : List Token = pre ++ name (word_of op) ∷ open_round ∷ [] in
-    let first : ts ≡ one ++ (written a ++ ((comma ∷ (written b ++ close_round ∷ [])) ++ post)) = is ∙ inside pre (name (word_of op)) open_round (written a) (comma ∷ (written b ++ close_round ∷ [])) post in
+    let first : ts ≡ one ++ (written a ++ ((comma ∷ (written b ++ close_round ∷ [])) ++ post)) = is
+    ∙ inside pre (name (word_of op)) open_round (written a) (comma ∷ (written b ++ close_round ∷ [])) post in
     let begun : length one ≡ at + 2 = two_more pre (name (word_of op)) open_round at size in
     both ts (namings (at + 2) a) (namings (at + 3 + length (written a)) b)
     (are_named a (at + 2) one ((comma ∷ (written b ++ close_round ∷ [])) ++ post) ts begun first)

@@ -11,25 +11,24 @@ use Rattle.algo_text.specs.declared.definition.Reference.{Reference}
 use Rattle.algo_text.specs.declared.definition.Defs.{Defs}
 use Rattle.algo_text.specs.declared.definition.Body.TheVariants.{Sensor, Actuator, Constant, Delay, Function, Graph, Switch, Repeat}
 use Rattle.algo_text.specs.declared.definition.Frontier.TheVariants.{Fork, Diffuse, Iterate, Join}
-use Rattle.algo_text.specs.declared.fault.AlgoError.{AlgoError}
-use Rattle.algo_text.specs.declared.fault.AlgoError.TheVariants.{Limit}
 use Rattle.algo_text.specs.declared.fault.AlgoCause.TheVariants.{NotText, BadLine, BadName, BadNumber, BadExpression, DuplicateName, UnknownName, BadDelay}
 use Rattle.syn_base.specs.Bytes.{Bytes}
-use Rattle.algo_text.specs.Blocks.{refused}
+use Rattle.text_lines.specs.Refusals.{Limit, refused}
+use Rattle.algo_text.specs.Refusals.{AlgoRefusal}
 use Rattle.algo_text.specs.Text.{definitions_of}
 
 abbrev text : List Bytes → Bytes
 text [] = []
 text (l ∷ ls) = l ++ 10 ∷ text ls
 
-abbrev read : List Bytes → Result Defs AlgoError
+abbrev read : List Bytes → Result Defs AlgoRefusal
 read ls = definitions_of (text ls)
 
 -- the definitions of a text of version 1, and of one of version 2
-abbrev in_first : List Def → Result Defs AlgoError
+abbrev in_first : List Def → Result Defs AlgoRefusal
 in_first defs = Ok (record { version = 1; defs = defs })
 
-abbrev in_second : List Def → Result Defs AlgoError
+abbrev in_second : List Def → Result Defs AlgoRefusal
 in_second defs = Ok (record { version = 2; defs = defs })
 
 -- a sensor into an actuator
@@ -113,7 +112,9 @@ same_port = refl
 no_output : read (codes "algorithm 1" ∷ codes "function F" ∷ codes "end" ∷ []) ≡ refused 3 BadLine
 no_output = refl
 
-values : read (codes "algorithm 1" ∷ codes "delay M = 7 -07" ∷ codes "constant C = 2" ∷ []) ≡ in_first (record { name = codes "M"; line = 2; body = Delay 1 (pos 7 ∷ negsuc 6 ∷ []) } ∷ record { name = codes "C"; line = 3; body = Constant (pos 2 ∷ []) } ∷ [])
+values : read (codes "algorithm 1" ∷ codes "delay M = 7 -07" ∷ codes "constant C = 2" ∷ [])
+    ≡ in_first (record { name = codes "M"; line = 2; body = Delay 1 (pos 7 ∷ negsuc 6 ∷ []) }
+    ∷ record { name = codes "C"; line = 3; body = Constant (pos 2 ∷ []) } ∷ [])
 values = refl
 
 no_value : read (codes "algorithm 1" ∷ codes "delay M =" ∷ []) ≡ refused 2 BadLine
@@ -166,7 +167,7 @@ outer_again : read (chain (codes "repeat Chain 4 Cell") (codes "iterate v acc r 
 outer_again = refl
 
 -- lines stand in the order of the parts of a block
-abbrev block : Bytes → List Bytes → Result Defs AlgoError
+abbrev block : Bytes → List Bytes → Result Defs AlgoRefusal
 block first ls = read (codes "algorithm 1" ∷ first ∷ ls)
 
 in_after_result : block (codes "function F") (codes "out y 1 = 1" ∷ codes "in x 1" ∷ []) ≡ refused 4 BadLine
@@ -204,7 +205,7 @@ otherwise_twice : block (codes "switch S") (codes "on c" ∷ codes "otherwise F"
 otherwise_twice = refl
 
 -- version 2: a delay has a depth, and its values are as many groups
-abbrev deep : Bytes → Result Defs AlgoError
+abbrev deep : Bytes → Result Defs AlgoRefusal
 deep line = read (codes "algorithm 2" ∷ codes "sensor D 1" ∷ codes "" ∷ line ∷ [])
 
 groups_of_two : read (codes "algorithm 2" ∷ codes "delay D 2 = 1 2 3 4" ∷ codes "constant C = 2" ∷ []) ≡ in_second (
@@ -277,17 +278,17 @@ name_last : deep (delay_of_zeros (codes "delay D 2 =") 128) ≡ refused 4 (Dupli
 name_last = refl
 
 -- version 3: a reference may have a mark, and all else is as in version 2
-abbrev in_third : List Def → Result Defs AlgoError
+abbrev in_third : List Def → Result Defs AlgoRefusal
 in_third defs = Ok (record { version = 3; defs = defs })
 
 -- a graph without ports and edges, in line 2
 abbrev graph_of : List Reference → Def
 graph_of references = record { name = codes "G"; line = 2; body = Graph [] [] references [] }
 
-abbrev graph_in : Bytes → List Bytes → Result Defs AlgoError
+abbrev graph_in : Bytes → List Bytes → Result Defs AlgoRefusal
 graph_in version ls = read (version ∷ codes "graph G" ∷ ls)
 
-abbrev third : List Bytes → Result Defs AlgoError
+abbrev third : List Bytes → Result Defs AlgoRefusal
 third = graph_in (codes "algorithm 3")
 
 marked : third (codes "ref f F every 2" ∷ codes "ref g G" ∷ codes "ref h F every 16" ∷ codes "ref k F every 1" ∷ codes "end" ∷ []) ≡ in_third (graph_of (
@@ -361,7 +362,7 @@ abbrev references_to : List ℕ → List Bytes
 references_to [] = []
 references_to (n ∷ ns) = (codes "ref r" ++ (48 + n / 10) ∷ (48 + n % 10) ∷ codes " F") ∷ references_to ns
 
-abbrev after_64 : Bytes → Result Defs AlgoError
+abbrev after_64 : Bytes → Result Defs AlgoRefusal
 after_64 line = third (references_to (range_with_len 0 64) ++ line ∷ [])
 
 period_before_limit : after_64 (codes "ref r F every 17") ≡ refused 67 (BadNumber (codes "17"))

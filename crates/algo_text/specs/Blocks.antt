@@ -28,10 +28,8 @@ use Rattle.std.specs.Prelude.{
 }
 use Rattle.std.specs.Str.{bytes_eq}
 use Rattle.text_lines.specs.Text.{words_of, word}
-use Rattle.text_lines.specs.Refusals.{and_then, if_all_pass, is_above, with_some}
+use Rattle.text_lines.specs.Refusals.{above, and_then, if_all_pass, is_above, refused, with_some}
 use Rattle.syn_base.specs.Name.{is_name}
-use Rattle.syn_base.specs.Limits.{bound_of}
-use Rattle.syn_base.specs.declared.limits.LimitKind.{LimitKind}
 use Rattle.syn_base.specs.declared.limits.LimitKind.TheVariants.{PortLength, Ports, Cases, References}
 use Rattle.body_lang.specs.declared.expression.Port.{Port}
 use Rattle.body_lang.specs.Expr.{Expr}
@@ -42,11 +40,9 @@ use Rattle.algo_text.specs.declared.definition.Case.{Case}
 use Rattle.algo_text.specs.declared.definition.Frontier.{Frontier}
 use Rattle.algo_text.specs.declared.definition.Frontier.TheVariants.{Fork, Diffuse, Iterate, Join}
 use Rattle.algo_text.specs.declared.definition.FrontierLine.{FrontierLine}
-use Rattle.algo_text.specs.declared.fault.AlgoError.{AlgoError}
-use Rattle.algo_text.specs.declared.fault.AlgoError.TheVariants.{Refused, Limit}
-use Rattle.algo_text.specs.declared.fault.AlgoCause.{AlgoCause}
 use Rattle.algo_text.specs.declared.fault.AlgoCause.TheVariants.{BadLine, BadName, BadNumber, DuplicateName}
 use Rattle.syn_base.specs.Bytes.{Bytes}
+use Rattle.algo_text.specs.Refusals.{AlgoRefusal}
 use Rattle.algo_text.specs.Among.{is_among}
 use Rattle.algo_text.specs.Outer.{outer_names, all_outer}
 use Rattle.algo_text.specs.declared.part.Part.{Part}
@@ -96,14 +92,6 @@ new_block first name line = record {
   frontier = [];
 }
 
--- The refusal of the text at this line for this cause.
-abbrev pub refused : {A : Type 0} → ℕ → AlgoCause → Result A AlgoError
-refused line cause = Err (Refused (record { line = line; cause = cause }))
-
--- The refusal of this count, which is above the bound of its quantity.
-abbrev pub above : {A : Type 0} → LimitKind → ℕ → Result A AlgoError
-above which count = Err (Limit (record { which = which; count = count; bound = bound_of which }))
-
 -- The names that ports of the block have: `on`, inputs, outputs and outer names together.
 abbrev pub port_names : Block → List Bytes
 port_names block = block.on ∷
@@ -116,11 +104,11 @@ abbrev pub is_taken : Block → Bytes → Bool
 is_taken block w = is_among w (port_names block)
 
 -- What follows, or the refusal of the first of these words that is no name.
-abbrev pub all_names : {A : Type 0} → ℕ → List Bytes → Result A AlgoError → Result A AlgoError
+abbrev pub all_names : {A : Type 0} → ℕ → List Bytes → Result A AlgoRefusal → Result A AlgoRefusal
 all_names line words go = if_all_pass is_name (λ w. refused line (BadName w)) words go
 
 -- P LEN after `in` or `out`, where this many such lines stand before.
-abbrev pub port_line : ℕ → ℕ → List Bytes → (Port → Result Block AlgoError) → Result Block AlgoError
+abbrev pub port_line : ℕ → ℕ → List Bytes → (Port → Result Block AlgoRefusal) → Result Block AlgoRefusal
 port_line line before words go = all_names line (word words 1 ∷ [])
     (with_some (count_of (word words 2)) (refused line (BadNumber (word words 2))) (λ len.
     if is_above Ports (before + 1) then above Ports (before + 1) else
@@ -129,33 +117,33 @@ port_line line before words go = all_names line (word words 1 ∷ [])
 
 -- The block with this port after its other inputs, or the refusal of the line if a port of the
 -- block has this name already.
-abbrev pub with_in : Block → ℕ → Port → Result Block AlgoError
+abbrev pub with_in : Block → ℕ → Port → Result Block AlgoRefusal
 with_in block line port =
     if is_taken block port.name then refused line (DuplicateName port.name) else
     Ok (record block { ins = block.ins ++ port ∷ [] })
 
 -- A line `in P LEN`.
-abbrev pub in_line : Block → ℕ → List Bytes → Result Block AlgoError
+abbrev pub in_line : Block → ℕ → List Bytes → Result Block AlgoRefusal
 in_line block line words =
     if not (length words == 3) || not (admits block.part parts.Inputs) then refused line BadLine else
     port_line line (length block.ins) words (with_in block line)
 
 -- The block of a graph or a switch with this port after its other outputs, or the refusal of the
 -- line if a port of the block has this name already.
-abbrev pub with_out : Block → ℕ → Port → Result Block AlgoError
+abbrev pub with_out : Block → ℕ → Port → Result Block AlgoRefusal
 with_out block line port =
     if is_taken block port.name then refused line (DuplicateName port.name) else
     Ok (record block { part = parts.Outputs; outs = block.outs ++ port ∷ [] })
 
 -- A line `out P LEN` of a graph or a switch.
-abbrev pub out_line : Block → ℕ → List Bytes → Result Block AlgoError
+abbrev pub out_line : Block → ℕ → List Bytes → Result Block AlgoRefusal
 out_line block line words =
     if not (length words == 3) || not (admits block.part parts.Outputs) then refused line BadLine else
     port_line line (length block.outs) words (with_out block line)
 
 -- The block of a function with this port and its expression after the other outputs, or the refusal
 -- of the line if a port of the block has this name already.
-abbrev pub with_result : Block → ℕ → Port → Expr → Result Block AlgoError
+abbrev pub with_result : Block → ℕ → Port → Expr → Result Block AlgoRefusal
 with_result block line port formula =
     if is_taken block port.name then refused line (DuplicateName port.name) else
     Ok (record block {
@@ -164,7 +152,7 @@ with_result block line port formula =
     })
 
 -- A line `out P LEN = EXPRESSION` of a function: the words before the first `=`, and the bytes after it.
-abbrev pub result_words : Block → ℕ → List Bytes → Bytes → Result Block AlgoError
+abbrev pub result_words : Block → ℕ → List Bytes → Bytes → Result Block AlgoRefusal
 result_words block line words text =
     if not (length words == 3) || not (admits block.part parts.Outputs) then refused line BadLine else
     port_line line (length block.results) words (λ port.
@@ -175,21 +163,21 @@ abbrev pub is_equals : ℕ → Bool
 is_equals b = b == 61
 
 -- A line `out` of a function, given the place of its first `=`. A line without one is refused.
-abbrev pub result_at : Block → ℕ → Bytes → Option ℕ → Result Block AlgoError
+abbrev pub result_at : Block → ℕ → Bytes → Option ℕ → Result Block AlgoRefusal
 result_at block line code None = refused line BadLine
 result_at block line code (Some at) = result_words block line (words_of (take at code)) (drop (at + 1) code)
 
 -- A line `out P LEN = EXPRESSION` of a function, given without its comment.
-abbrev pub result_line : Block → ℕ → Bytes → Result Block AlgoError
+abbrev pub result_line : Block → ℕ → Bytes → Result Block AlgoRefusal
 result_line block line code = result_at block line code (position is_equals code)
 
 -- The reference that R DEF after `ref` gives.
-abbrev pub reference_of : ℕ → List Bytes → Result Reference AlgoError
+abbrev pub reference_of : ℕ → List Bytes → Result Reference AlgoRefusal
 reference_of line words = all_names line (word words 1 ∷ word words 2 ∷ [])
     (Ok (record { name = word words 1; def = word words 2; every = None; line = line }))
 
 -- The block with one reference more, of a name that none has.
-abbrev pub with_reference : Block → Reference → Result Block AlgoError
+abbrev pub with_reference : Block → Reference → Result Block AlgoRefusal
 with_reference block reference =
     if is_above References (length block.references + 1) then above References (length block.references + 1) else
     if is_among reference.name (map (λ r. r.name) block.references)
@@ -197,13 +185,13 @@ with_reference block reference =
     Ok (record block { part = parts.References; references = block.references ++ reference ∷ [] })
 
 -- A line `ref R DEF`.
-abbrev pub plain_line : Block → ℕ → List Bytes → Result Block AlgoError
+abbrev pub plain_line : Block → ℕ → List Bytes → Result Block AlgoRefusal
 plain_line block line words =
     if not (length words == 3) || not (admits block.part parts.References) then refused line BadLine else
     and_then (reference_of line words) (with_reference block)
 
 -- A line `ref R DEF every N`, of five words.
-abbrev pub marked_line : Block → ℕ → List Bytes → Result Block AlgoError
+abbrev pub marked_line : Block → ℕ → List Bytes → Result Block AlgoRefusal
 marked_line block line words =
     if not (bytes_eq (word words 3) (codes "every")) || not (admits block.part parts.References)
     then refused line BadLine else
@@ -212,12 +200,12 @@ marked_line block line words =
     with_reference block (record reference { every = Some every })))
 
 -- A line `ref`, whose reference may have a mark in version 3.
-abbrev pub reference_line : ℕ → Block → ℕ → List Bytes → Result Block AlgoError
+abbrev pub reference_line : ℕ → Block → ℕ → List Bytes → Result Block AlgoRefusal
 reference_line version block line words =
     if version == 3 && length words == 5 then marked_line block line words else plain_line block line words
 
 -- A line `edge FROM TO`.
-abbrev pub edge_line : Block → ℕ → List Bytes → Result Block AlgoError
+abbrev pub edge_line : Block → ℕ → List Bytes → Result Block AlgoRefusal
 edge_line block line words =
     if not (length words == 3) then refused line BadLine else
     with_some (end_of (word words 1)) (refused line (BadName (word words 1))) (λ from.
@@ -228,13 +216,13 @@ edge_line block line words =
     })))
 
 -- A line `on P`, the first of a switch.
-abbrev pub on_line : Block → ℕ → List Bytes → Result Block AlgoError
+abbrev pub on_line : Block → ℕ → List Bytes → Result Block AlgoRefusal
 on_line block line words =
     if not (length words == 2) || not (is_conditioning block.part) then refused line BadLine else
     all_names line (word words 1 ∷ []) (Ok (record block { part = parts.Inputs; on = word words 1 }))
 
 -- A line `case VALUE DEF`.
-abbrev pub case_line : Block → ℕ → List Bytes → Result Block AlgoError
+abbrev pub case_line : Block → ℕ → List Bytes → Result Block AlgoRefusal
 case_line block line words =
     if not (length words == 3) || not (admits block.part parts.Cases) then refused line BadLine else
     all_names line (word words 2 ∷ [])
@@ -246,20 +234,20 @@ case_line block line words =
     })))
 
 -- A line `otherwise DEF`, the last of a switch, which stands where a case may stand.
-abbrev pub otherwise_line : Block → ℕ → List Bytes → Result Block AlgoError
+abbrev pub otherwise_line : Block → ℕ → List Bytes → Result Block AlgoRefusal
 otherwise_line block line words =
     if not (length words == 2) || not (admits block.part parts.Cases) then refused line BadLine else
     all_names line (word words 1 ∷ [])
     (Ok (record block { part = parts.Whole; otherwise = word words 1; otherwise_line = line }))
 
 -- The block with one frontier line more, whose outer ports no line has.
-abbrev pub with_frontier : Block → ℕ → Frontier → Result Block AlgoError
+abbrev pub with_frontier : Block → ℕ → Frontier → Result Block AlgoRefusal
 with_frontier block line frontier =
     if is_above Ports (length block.frontier + 1) then above Ports (length block.frontier + 1) else
     first_taken (outer_names frontier) block.frontier
   where
     -- The names are given in order, each beside those before it.
-    first_taken : List Bytes → List FrontierLine → Result Block AlgoError
+    first_taken : List Bytes → List FrontierLine → Result Block AlgoRefusal
     first_taken [] lines =
         Ok (record block { frontier = block.frontier ++ record { frontier = frontier; line = line } ∷ [] })
     first_taken (w ∷ words) lines =
@@ -267,26 +255,26 @@ with_frontier block line frontier =
         first_taken words (record { frontier = Join [] w; line = line } ∷ lines)
 
 -- A line `fork P X`.
-abbrev pub fork_line : Block → ℕ → List Bytes → Result Block AlgoError
+abbrev pub fork_line : Block → ℕ → List Bytes → Result Block AlgoRefusal
 fork_line block line words =
     if not (length words == 3) then refused line BadLine else
     all_names line (drop 1 words) (with_frontier block line (Fork (word words 1) (word words 2)))
 
 -- A line `diffuse P X`.
-abbrev pub diffuse_line : Block → ℕ → List Bytes → Result Block AlgoError
+abbrev pub diffuse_line : Block → ℕ → List Bytes → Result Block AlgoRefusal
 diffuse_line block line words =
     if not (length words == 3) then refused line BadLine else
     all_names line (drop 1 words) (with_frontier block line (Diffuse (word words 1) (word words 2)))
 
 -- A line `iterate P X Y Q`.
-abbrev pub iterate_line : Block → ℕ → List Bytes → Result Block AlgoError
+abbrev pub iterate_line : Block → ℕ → List Bytes → Result Block AlgoRefusal
 iterate_line block line words =
     if not (length words == 5) then refused line BadLine else
     all_names line (drop 1 words)
     (with_frontier block line (Iterate (word words 1) (word words 2) (word words 3) (word words 4)))
 
 -- A line `join Y Q`.
-abbrev pub join_line : Block → ℕ → List Bytes → Result Block AlgoError
+abbrev pub join_line : Block → ℕ → List Bytes → Result Block AlgoRefusal
 join_line block line words =
     if not (length words == 3) then refused line BadLine else
     all_names line (drop 1 words) (with_frontier block line (Join (word words 1) (word words 2)))

@@ -27,9 +27,9 @@ use Rattle.algo_text.specs.declared.fault.AlgoCause.TheVariants.{
   BadDelay,
   BadEvery,
 }
-use Rattle.algo_text.specs.declared.fault.AlgoError.{AlgoError}
-use Rattle.algo_text.specs.declared.fault.AlgoError.TheVariants.{Refused, Limit, TooLarge, OutOfMemory}
 use Rattle.syn_base.specs.Bytes.{Bytes}
+use Rattle.text_lines.specs.Refusals.{Refused, Limit}
+use Rattle.algo_text.specs.Refusals.{AlgoRefusal}
 
 -- The first port that the text names and that is none of these has this name.
 pub record NamesNoPort (ports : List Bytes) (text w : Bytes) : Type 0 where
@@ -61,11 +61,9 @@ module _ (ports : List Bytes) (text : Bytes) where
   IsCause (BadEvery w) = ⊥
 
   -- Too many tokens, then the grammar, then the ports; a refusal is at the line of the text.
-  abbrev pub IsFormula : ℕ → Result Expr AlgoError → Type 0
+  abbrev pub IsFormula : ℕ → Result Expr AlgoRefusal → Type 0
   IsFormula line (Ok e) = IsBody ports text e
   IsFormula line (Err (Limit f)) =
       (bound_of Tokens < length (tokens text)) ×
       (f ≡ record { which = Tokens; count = length (tokens text); bound = bound_of Tokens })
   IsFormula line (Err (Refused r)) = (r.line ≡ line) × IsCause r.cause
-  IsFormula line (Err TooLarge) = ⊥
-  IsFormula line (Err OutOfMemory) = ⊥

@@ -1,5 +1,6 @@
 pub mod Among
 pub mod Outer
+pub mod Refusals
 pub mod Returned
 pub mod Words
 pub mod Parts

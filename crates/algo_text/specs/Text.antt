@@ -44,7 +44,6 @@ use Rattle.algo_text.specs.declared.definition.Body.TheVariants.{
   Switch,
   Repeat,
 }
-use Rattle.algo_text.specs.declared.fault.AlgoError.{AlgoError}
 use Rattle.algo_text.specs.declared.fault.AlgoCause.TheVariants.{NotText, BadLine, BadNumber, DuplicateName, BadDelay}
 use Rattle.syn_base.specs.Bytes.{Bytes}
 use Rattle.algo_text.specs.Among.{is_among}
@@ -55,8 +54,6 @@ use Rattle.algo_text.specs.Parts.{is_whole}
 use Rattle.algo_text.specs.Blocks.{
   Block,
   new_block,
-  refused,
-  above,
   all_names,
   in_line,
   out_line,
@@ -71,7 +68,8 @@ use Rattle.algo_text.specs.Blocks.{
   iterate_line,
   join_line,
 }
-use Rattle.text_lines.specs.Refusals.{is_above, with_some, and_then}
+use Rattle.text_lines.specs.Refusals.{is_above, with_some, and_then, refused, above}
+use Rattle.algo_text.specs.Refusals.{AlgoRefusal}
 
 -- Where a line stands.
 pub data Stage : Type 0 where
@@ -99,14 +97,14 @@ version_of w =
     None
 
 -- The first line, `algorithm VERSION`.
-abbrev pub version_line : Reading → ℕ → List Bytes → Result Reading AlgoError
+abbrev pub version_line : Reading → ℕ → List Bytes → Result Reading AlgoRefusal
 version_line reading number words =
     if not (length words == 2) || not (begins words (codes "algorithm")) then refused number BadLine else
     with_some (version_of (word words 1)) (refused number BadLine) (λ version.
     Ok (record reading { stage = between; version = version }))
 
 -- What was read with one definition more, if its name is new.
-abbrev pub defined : Reading → ℕ → Bytes → Body → Result Reading AlgoError
+abbrev pub defined : Reading → ℕ → Bytes → Body → Result Reading AlgoRefusal
 defined reading number name body =
     if is_among name reading.names then refused number (DuplicateName name) else
     Ok (record reading {
@@ -115,7 +113,7 @@ defined reading number name body =
     })
 
 -- A line `sensor NAME LEN` or `actuator NAME LEN`.
-abbrev pub end_line : (ℕ → Body) → Reading → ℕ → List Bytes → Result Reading AlgoError
+abbrev pub end_line : (ℕ → Body) → Reading → ℕ → List Bytes → Result Reading AlgoRefusal
 end_line body reading number words =
     if not (length words == 3) then refused number BadLine else
     all_names number (word words 1 ∷ [])
@@ -124,13 +122,13 @@ end_line body reading number words =
     defined reading number (word words 1) (body len)))
 
 -- The numbers that words are, or the first word that is none.
-abbrev pub numbers_of : ℕ → List Bytes → Result (List ℤ) AlgoError
+abbrev pub numbers_of : ℕ → List Bytes → Result (List ℤ) AlgoRefusal
 numbers_of number [] = Ok []
 numbers_of number (w ∷ words) = with_some (number_of w) (refused number (BadNumber w)) (λ value.
     and_then (numbers_of number words) (λ values. Ok (value ∷ values)))
 
 -- A line `constant NAME = V0 V1 ..`, and likewise `delay` in version 1.
-abbrev pub values_line : (List ℤ → Body) → Reading → ℕ → List Bytes → Result Reading AlgoError
+abbrev pub values_line : (List ℤ → Body) → Reading → ℕ → List Bytes → Result Reading AlgoRefusal
 values_line body reading number words =
     if nat_lt (length words) 4 || not (bytes_eq (word words 2) (codes "=")) then refused number BadLine else
     all_names number (word words 1 ∷ [])
@@ -139,7 +137,7 @@ values_line body reading number words =
     defined reading number (word words 1) (body values)))
 
 -- A delay of this depth: its values are as many groups of equal length.
-abbrev pub deep_delay : ℕ → ℕ → List ℤ → Result Body AlgoError
+abbrev pub deep_delay : ℕ → ℕ → List ℤ → Result Body AlgoRefusal
 deep_delay number depth values =
     if is_above limits.Delay depth then above limits.Delay depth else
     if not (length values % depth == 0) then refused number BadDelay else
@@ -147,7 +145,7 @@ deep_delay number depth values =
     Ok (Delay depth values)
 
 -- A line `delay NAME DEPTH = V0 V1 ..`, from version 2 on.
-abbrev pub deep_line : Reading → ℕ → List Bytes → Result Reading AlgoError
+abbrev pub deep_line : Reading → ℕ → List Bytes → Result Reading AlgoRefusal
 deep_line reading number words =
     if nat_lt (length words) 5 || not (bytes_eq (word words 3) (codes "=")) then refused number BadLine else
     all_names number (word words 1 ∷ [])
@@ -156,12 +154,12 @@ deep_line reading number words =
     and_then (deep_delay number depth values) (defined reading number (word words 1)))))
 
 -- A line `delay`, of depth 1 in version 1.
-abbrev pub delay_line : Reading → ℕ → List Bytes → Result Reading AlgoError
+abbrev pub delay_line : Reading → ℕ → List Bytes → Result Reading AlgoRefusal
 delay_line reading number words =
     if reading.version == 1 then values_line (Delay 1) reading number words else deep_line reading number words
 
 -- What was read once this block is open, if its name is new.
-abbrev pub opened : Stage → Reading → ℕ → Block → Result Reading AlgoError
+abbrev pub opened : Stage → Reading → ℕ → Block → Result Reading AlgoRefusal
 opened stage reading number block =
     if is_among block.name reading.names then refused number (DuplicateName block.name) else
     Ok (record reading { stage = stage; names = reading.names ++ block.name ∷ []; block = block })
@@ -172,14 +170,14 @@ first_part in_switch = Conditioning
 first_part _ = Inputs
 
 -- A line `function NAME`, `graph NAME` or `switch NAME`.
-abbrev pub opening_line : Stage → Reading → ℕ → List Bytes → Result Reading AlgoError
+abbrev pub opening_line : Stage → Reading → ℕ → List Bytes → Result Reading AlgoRefusal
 opening_line stage reading number words =
     if not (length words == 2) then refused number BadLine else
     all_names number (word words 1 ∷ [])
     (opened stage reading number (new_block (first_part stage) (word words 1) number))
 
 -- A line `repeat NAME COUNT DEF`.
-abbrev pub repeat_line : Reading → ℕ → List Bytes → Result Reading AlgoError
+abbrev pub repeat_line : Reading → ℕ → List Bytes → Result Reading AlgoRefusal
 repeat_line reading number words =
     if not (length words == 4) then refused number BadLine else
     all_names number (word words 1 ∷ word words 3 ∷ [])
@@ -189,7 +187,7 @@ repeat_line reading number words =
     (record (new_block Inputs (word words 1) number) { copies = copies; def = word words 3 })))
 
 -- A line between definitions.
-abbrev pub between_line : Reading → ℕ → List Bytes → Result Reading AlgoError
+abbrev pub between_line : Reading → ℕ → List Bytes → Result Reading AlgoRefusal
 between_line reading number words =
     if begins words (codes "sensor") then end_line Sensor reading number words else
     if begins words (codes "actuator") then end_line Actuator reading number words else
@@ -202,12 +200,12 @@ between_line reading number words =
     refused number BadLine
 
 -- What was read, with the open block as a line leaves it.
-abbrev pub in_block : Reading → Result Block AlgoError → Result Reading AlgoError
+abbrev pub in_block : Reading → Result Block AlgoRefusal → Result Reading AlgoRefusal
 in_block reading (Ok block) = Ok (record reading { block = block })
 in_block reading (Err e) = Err e
 
 -- A line `end`, where the block is whole: it becomes a definition.
-abbrev pub block_end : Bool → Body → Reading → ℕ → List Bytes → Result Reading AlgoError
+abbrev pub block_end : Bool → Body → Reading → ℕ → List Bytes → Result Reading AlgoRefusal
 block_end whole body reading number words =
     if not (length words == 1) || not whole then refused number BadLine else
     Ok (record reading {
@@ -216,7 +214,7 @@ block_end whole body reading number words =
     })
 
 -- A line of a function. Its block is whole once it has an output, and a switch's once it has its `otherwise`.
-abbrev pub function_line : Reading → ℕ → List Bytes → Bytes → Result Reading AlgoError
+abbrev pub function_line : Reading → ℕ → List Bytes → Bytes → Result Reading AlgoRefusal
 function_line reading number words code =
     if begins words (codes "in") then in_block reading (in_line reading.block number words) else
     if begins words (codes "out") then in_block reading (result_line reading.block number code) else
@@ -226,7 +224,7 @@ function_line reading number words code =
 
 -- A line of a graph: an input, an output, a reference, an edge, or `end`. Any other
 -- line is refused.
-abbrev pub graph_line : Reading → ℕ → List Bytes → Result Reading AlgoError
+abbrev pub graph_line : Reading → ℕ → List Bytes → Result Reading AlgoRefusal
 graph_line reading number words =
     if begins words (codes "in") then in_block reading (in_line reading.block number words) else
     if begins words (codes "out") then in_block reading (out_line reading.block number words) else
@@ -239,7 +237,7 @@ graph_line reading number words =
 
 -- A line of a switch: its conditioning input, an input, an output, a case, `otherwise`, or `end`.
 -- Any other line is refused.
-abbrev pub switch_line : Reading → ℕ → List Bytes → Result Reading AlgoError
+abbrev pub switch_line : Reading → ℕ → List Bytes → Result Reading AlgoRefusal
 switch_line reading number words =
     if begins words (codes "on") then in_block reading (on_line reading.block number words) else
     if begins words (codes "in") then in_block reading (in_line reading.block number words) else
@@ -253,7 +251,7 @@ switch_line reading number words =
     refused number BadLine
 
 -- A line of a repetition: a frontier line, or `end`. Any other line is refused.
-abbrev pub frontier_line : Reading → ℕ → List Bytes → Result Reading AlgoError
+abbrev pub frontier_line : Reading → ℕ → List Bytes → Result Reading AlgoRefusal
 frontier_line reading number words =
     if begins words (codes "fork") then in_block reading (fork_line reading.block number words) else
     if begins words (codes "diffuse") then in_block reading (diffuse_line reading.block number words) else
@@ -264,7 +262,7 @@ frontier_line reading number words =
     refused number BadLine
 
 -- A line with words, by where it stands.
-abbrev pub by_stage : Stage → Reading → ℕ → List Bytes → Bytes → Result Reading AlgoError
+abbrev pub by_stage : Stage → Reading → ℕ → List Bytes → Bytes → Result Reading AlgoRefusal
 by_stage before_version reading number words code = version_line reading number words
 by_stage between reading number words code = between_line reading number words
 by_stage in_function reading number words code = function_line reading number words code
@@ -274,14 +272,14 @@ by_stage in_repeat reading number words code = frontier_line reading number word
 
 -- What has been read after a line, given the place of its first foreign byte, if it has one. Such a
 -- byte refuses the line before anything else, and a line without words changes nothing.
-abbrev pub line_by : Reading → ℕ → Bytes → Option ℕ → Result Reading AlgoError
+abbrev pub line_by : Reading → ℕ → Bytes → Option ℕ → Result Reading AlgoRefusal
 line_by reading number line (Some place) = refused number (NotText place)
 line_by reading number line None =
     if length (words_of (code_of line)) == 0 then Ok reading else
     by_stage reading.stage reading number (words_of (code_of line)) (code_of line)
 
 -- The next line; one without words says nothing.
-abbrev pub next_line : Reading → ℕ → Bytes → Result Reading AlgoError
+abbrev pub next_line : Reading → ℕ → Bytes → Result Reading AlgoRefusal
 next_line reading number line = line_by reading number line (foreign_place line)
 
 -- The version and the definitions that were read.
@@ -289,7 +287,7 @@ abbrev pub defs_in : Reading → Defs
 defs_in reading = record { version = reading.version; defs = reading.defs }
 
 -- The end of the text, whose lines are numbered below this.
-abbrev pub at_end : Stage → Defs → ℕ → Result Defs AlgoError
+abbrev pub at_end : Stage → Defs → ℕ → Result Defs AlgoRefusal
 at_end between defs number = Ok defs
 at_end before_version defs number = refused number BadLine
 at_end in_function defs number = refused number BadLine
@@ -298,11 +296,11 @@ at_end in_switch defs number = refused number BadLine
 at_end in_repeat defs number = refused number BadLine
 
 -- The lines from the one with this number on.
-abbrev pub rest_of : Reading → ℕ → List Bytes → Result Defs AlgoError
+abbrev pub rest_of : Reading → ℕ → List Bytes → Result Defs AlgoRefusal
 rest_of reading number [] = at_end reading.stage (defs_in reading) number
 rest_of reading number (line ∷ lines) =
     and_then (next_line reading number line) (λ after. rest_of after (number + 1) lines)
 
 -- What the bytes of a text say.
-abbrev pub definitions_of : Bytes → Result Defs AlgoError
+abbrev pub definitions_of : Bytes → Result Defs AlgoRefusal
 definitions_of text = rest_of start 1 (lines_of text)

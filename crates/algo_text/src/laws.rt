@@ -1,8 +1,8 @@
 //! The law of what the grammar of expressions says of the texts of formulas.
 ghost use Rattle.std.specs.Prelude.{◌≡◌, ◌↔◌, ℕ, List, Result};
 ghost use Rattle.body_lang.specs.Expr.{Expr};
-ghost use Rattle.algo_text.specs.declared.fault.AlgoError.{AlgoError};
 ghost use Rattle.syn_base.specs.Bytes.{Bytes};
+ghost use Rattle.algo_text.specs.Refusals.{AlgoRefusal};
 ghost use Rattle.algo_text.specs.Formulas.{formula_of};
 ghost use Rattle.algo_text.specs.Grammatical.{IsFormula};
 
@@ -12,6 +12,6 @@ ghost use Rattle.algo_text.specs.Grammatical.{IsFormula};
 /// that is no port; and Limit exactly where there are more than 512 tokens, with their number.
 #[tactic(auto, using(crate::proofs::Judged::formula_law))]
 pub fn formulas_are_grammatical()
-    ensures { (line : ℕ) (ports : List Bytes) (text : Bytes) (r : Result Expr AlgoError) →
+    ensures { (line : ℕ) (ports : List Bytes) (text : Bytes) (r : Result Expr AlgoRefusal) →
         (formula_of line ports text ≡ r) ↔ IsFormula ports text line r }
 {}

@@ -2,7 +2,8 @@
 //! an algorithm text say: its definitions, or its first refusal with its line and cause.
 //!
 //! The reader of texts makes the types, the printer writes them, and every check and the resolver read them.
-//! `specs/Returned` says how what a call returned stands to what is defined, in all crates above.
+//! `specs/Returned` says how the error that a check returned stands to the first fault that is defined, in all
+//! crates above.
 //!
 //! What a text says is `definitions_of` in `specs/`, with a definition for each form of line below it; texts
 //! worked by hand are computed in `proofs/`. `formulas_are_grammatical` ties the expressions in such a text to

@@ -31,7 +31,8 @@ lengths-append [] ys h k = k
 lengths-append (x ∷ xs) ys h k = (h.0, lengths-append xs ys h.1 k)
 
 -- a delay asks for no input, and its outputs tell nothing of one
-pub blind : (k : Kind) (outs : List ℕ) (cs : List Node) (row : Values) (st : State) (f : Source → Vector) (ss : List Source) → kind_outputs k outs cs row st (map f (asked_by k ss)) ≡ kind_outputs k outs cs row st (map f ss)
+pub blind : (k : Kind) (outs : List ℕ) (cs : List Node) (row : Values) (st : State) (f : Source → Vector) (ss : List Source)
+    → kind_outputs k outs cs row st (map f (asked_by k ss)) ≡ kind_outputs k outs cs row st (map f ss)
 blind (sensor m) outs cs row st f ss = refl
 blind (actuator m) outs cs row st f ss = refl
 blind (constant v) outs cs row st f ss = refl

@@ -1,5 +1,36 @@
 -- A text of a path tells the path: a name and a number end where one of `/`, `.` and `:` stands.
-use Rattle.std.proofs.Common.{◌≡◌, ℕ, ◌+◌, ◌*◌, ◌%◌, ◌^◌, ◌<◌, ◌&&◌, ◌||◌, ◌==◌, true, false, nat_le, List, [], ◌∷◌, ◌++◌, drop, length, slice_index_or, decimal, refl, sym, ap, ap₂, ◌∙◌, subst, arith, le-leb, mod-lt}
+use Rattle.std.proofs.Common.{
+  ◌≡◌,
+  ℕ,
+  ◌+◌,
+  ◌*◌,
+  ◌%◌,
+  ◌^◌,
+  ◌<◌,
+  ◌&&◌,
+  ◌||◌,
+  ◌==◌,
+  true,
+  false,
+  nat_le,
+  List,
+  [],
+  ◌∷◌,
+  ◌++◌,
+  drop,
+  length,
+  slice_index_or,
+  decimal,
+  refl,
+  sym,
+  ap,
+  ap₂,
+  ◌∙◌,
+  subst,
+  arith,
+  le-leb,
+  mod-lt,
+}
 use Rattle.std.specs.List.{list_all}
 use Rattle.std.specs.Fmt.{digits}
 use Rattle.std.proofs.lemmas.Bool.{false≢true, and_parts, and_from, or_left, or_right}
@@ -33,7 +64,8 @@ pub number_bytes : (n : ℕ) → n < 2 ^ 32 → AreNameBytes (decimal n)
 number_bytes n lt =
     decimal_by_steps (λ m ds. AreNameBytes ds)
     (λ m small. and_from (is_name_byte (48 + m)) true (digit_byte m small) refl)
-    (λ m ds big front. list_all-append is_name_byte ds ((48 + m % 10) ∷ []) ∙ and_from (list_all is_name_byte ds) _ front (and_from (is_name_byte (48 + m % 10)) true (digit_byte (m % 10) (mod-lt m (omega arith))) refl))
+    (λ m ds big front. list_all-append is_name_byte ds ((48 + m % 10) ∷ [])
+    ∙ and_from (list_all is_name_byte ds) _ front (and_from (is_name_byte (48 + m % 10)) true (digit_byte (m % 10) (mod-lt m (omega arith))) refl))
     n (omega arith)
 
 -- without a bound two numbers may have one text

@@ -27,7 +27,8 @@ outs_past (x ∷ us) zero h = absurd (omega arith)
 outs_past (x ∷ us) (suc i) h = outs_past us i (omega arith)
 
 -- the lengths of the sensors, and of the actuators, vertex by vertex
-pub sensors-cons : (u : Vertex) (us : List Vertex) → sensor_lengths_in (vertices_view (u ∷ us)) ≡ sensor_length (kind_view (out-Vertex u).kind) (out-Vertex u).outs ++ sensor_lengths_in (vertices_view us)
+pub sensors-cons : (u : Vertex) (us : List Vertex) → sensor_lengths_in (vertices_view (u ∷ us))
+    ≡ sensor_length (kind_view (out-Vertex u).kind) (out-Vertex u).outs ++ sensor_lengths_in (vertices_view us)
 sensors-cons u us = ap (λ v. sensor_lengths_in (and_vertex v (vertices_view us))) (view_out u)
 
 pub actuators-cons : (len : Source → ℕ) (u : Vertex) (us : List Vertex)

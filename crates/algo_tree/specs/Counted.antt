@@ -18,7 +18,7 @@ abbrev mutual
   pub operations : Vertex → ℕ
   operations (vertex l us) = operations_by l.kind (operations_in us)
 
-  -- The same for several vertices together.
+  -- How many operations several vertices stand for, all together.
   pub operations_in : Vertices → ℕ
   operations_in no_vertices = 0
   operations_in (and_vertex u us) = operations u + operations_in us

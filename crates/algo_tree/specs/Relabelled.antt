@@ -1,7 +1,7 @@
 -- Labels of vertices of which the kind alone is changed.
 use Rattle.algo_tree.specs.Tree.{Label, Kind}
 
--- The same label with another kind.
+-- A label with another kind, and all else as it is.
 abbrev pub with_kind : Label → Kind → Label
 with_kind l k = record {
   part = l.part;

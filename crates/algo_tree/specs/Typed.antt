@@ -95,6 +95,10 @@ abbrev pub AreGroups : List ℕ → List (List ℤ) → Type 0
 AreGroups outs [] = Unit {0}
 AreGroups outs (v ∷ vs) = (outs ≡ length v ∷ []) × AreGroups outs vs
 
+-- All of these lengths are the same.
+abbrev pub AreEqual : List ℕ → Type 0
+AreEqual ns = ns ≡ replicate (length ns) (slice_index_or ns 0 0)
+
 -- What a kind asks of the lengths of its inputs, of its outputs and of those of the vertices inside;
 -- of a level with such own inputs and outputs, and of a body with such inputs.
 abbrev pub IsKindTyped : Kind → List ℕ → List ℕ → List (List ℕ) →
@@ -104,8 +108,8 @@ IsKindTyped (actuator n) lens outs inner level body = (length lens ≡ 1) × (ou
 IsKindTyped (constant v) lens outs inner level body = (lens ≡ []) × (outs ≡ length v ∷ [])
 IsKindTyped (delay vs) lens outs inner level body = (lens ≡ outs) × ((1 ≤ length vs) × AreGroups outs vs)
 IsKindTyped (function es) lens outs inner level body = (length es ≡ length outs) × AllPortsBelow (length lens) es
-IsKindTyped explode lens outs inner level body = lens ≡ sum outs ∷ []
-IsKindTyped implode lens outs inner level body = outs ≡ sum lens ∷ []
+IsKindTyped explode lens outs inner level body = (lens ≡ sum outs ∷ []) × AreEqual outs
+IsKindTyped implode lens outs inner level body = (outs ≡ sum lens ∷ []) × AreEqual lens
 IsKindTyped (merge values) lens outs inner level body =
     (length outs ≡ 1) × (lens ≡ 1 ∷ replicate (suc (length values)) (slice_index_or outs 0 0))
 IsKindTyped (graph sources) lens outs inner level body =

@@ -6,6 +6,8 @@ use Rattle.algo_tree.specs.Well.{IsWell}
 use Rattle.algo_tree.specs.Typed.{IsTyped, label_of}
 use Rattle.algo_tree.specs.Ends.{NoneInside, AreEndsNumbered}
 use Rattle.algo_tree.specs.Counted.{operations}
+use Rattle.algo_tree.specs.Named.{HasNames}
+use Rattle.algo_tree.specs.Bounded.{HasBounds}
 
 -- The main graph has no ports.
 pub record HasNoPorts (l : Label) : Type 0 where
@@ -20,3 +22,5 @@ pub record IsTree (main : Vertex) : Type 0 where
   pub inside : NoneInside (vertices_in main)
   pub numbered : AreEndsNumbered (vertices_in main)
   pub few : operations main ≤ 2048
+  pub named : HasNames main
+  pub bounded : HasBounds main

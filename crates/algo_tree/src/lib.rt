@@ -2,10 +2,10 @@
 //! pass of flattening keeps of it.
 //!
 //! `Vertex` and `Kind` are its parts, built by `algo_resolve` and by the passes of flattening; `Tree` is a
-//! whole one, kept with its validity. `count_operations` and `count_vertices` say how large a vertex becomes,
-//! before it is made; resolving, elaborating, simulating and unrolling stop at `MOST_VERTICES`. What the uses
-//! of a definition have in common, its name, its ports and its kind, stands in memory once: resolving and the
-//! passes of flattening make vertices that share it (`syn_base` `Shared`, `share_vertex`).
+//! whole one, kept with its validity. `count_operations` says how many flat operations a vertex becomes, before
+//! they are made. What the uses of a definition have in common, its name, its ports and its kind, stands in
+//! memory once: resolving and the passes of flattening make vertices that share it (`syn_base` `Shared`,
+//! `share_vertex`).
 //!
 //! The path of an operation is written as a text (`path_text`). Words stand where names are asked for
 //! (`Named`), and numbers have 32 bits (`Bounded`): under these no two paths have one text, `texts_tell_paths`.
@@ -22,7 +22,6 @@ mod lens;
 mod pass_laws;
 mod path_laws;
 mod shares;
-mod size;
 mod tree;
 mod vertex;
 
@@ -32,7 +31,6 @@ pub use lens::{fed_lens, source_len, source_lens};
 pub use pass_laws::{same_nodes_keep_the_meaning, steps_keep_the_meaning};
 pub use path_laws::texts_tell_paths;
 pub use shares::{rebuild, share_each, share_kind, share_vertex, with_inside};
-pub use size::{MOST_VERTICES, SizeError, count_vertices, is_large};
 pub use tree::Tree;
 pub use vertex::{Kind, Vertex};
 

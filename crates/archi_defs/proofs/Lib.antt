@@ -1,3 +1,4 @@
+pub mod Placed
 pub mod Texts
 -- Lemmas from below, which proofs above cite with those of this crate.
 pub use Rattle.archi_graph.proofs.Bounds

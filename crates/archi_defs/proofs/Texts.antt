@@ -1,5 +1,6 @@
 -- What worked texts say.
 use Rattle.std.proofs.Common.{◌≡◌, ℕ, refl, true, false, List, [], ◌∷◌, ◌++◌, Result, Ok, Err, codes}
+use Rattle.archi_graph.specs.declared.medium.MediumKind.TheVariants.{PointToPoint, Multipoint}
 use Rattle.syn_base.specs.declared.limits.LimitKind.TheVariants.{Operators}
 use Rattle.archi_defs.specs.Refusals.{ArchiRefusal}
 use Rattle.text_lines.specs.Refusals.{Limit, refused}
@@ -31,7 +32,7 @@ two medium = codes "operator P" ∷ codes "operator Q" ∷ medium ∷ codes "con
 
 bus : read (two (codes "medium bus p2p 1 2")) ≡ Ok (record {
   version = 1;
-  archi = record { operators = codes "P" ∷ codes "Q" ∷ []; media = record { name = codes "bus"; multi = false; fixed = 1; per = 2; stands = 0 ∷ 1 ∷ [] } ∷ []; depth = 1 };
+  archi = record { operators = codes "P" ∷ codes "Q" ∷ []; media = record { name = codes "bus"; kind = PointToPoint; fixed = 1; per = 2; stands = 0 ∷ 1 ∷ [] } ∷ []; depth = 1 };
   durations = [];
 })
 bus = refl
@@ -57,7 +58,7 @@ three_stand = refl
 
 three_may_stand : read (three (codes "medium bus multi 0 0")) ≡ Ok (record {
   version = 1;
-  archi = record { operators = codes "P" ∷ codes "Q" ∷ codes "R" ∷ []; media = record { name = codes "bus"; multi = true; fixed = 0; per = 0; stands = 0 ∷ 1 ∷ 2 ∷ [] } ∷ []; depth = 1 };
+  archi = record { operators = codes "P" ∷ codes "Q" ∷ codes "R" ∷ []; media = record { name = codes "bus"; kind = Multipoint; fixed = 0; per = 0; stands = 0 ∷ 1 ∷ 2 ∷ [] } ∷ []; depth = 1 };
   durations = [];
 })
 three_may_stand = refl
@@ -101,7 +102,8 @@ foreign : read ((codes "operator P" ++ 200 ∷ []) ∷ []) ≡ refused 2 (NotTex
 foreign = refl
 
 abbrev operators : List Bytes
-operators = codes "A" ∷ codes "B" ∷ codes "C" ∷ codes "D" ∷ codes "E" ∷ codes "F" ∷ codes "G" ∷ codes "H" ∷ codes "I" ∷ codes "J" ∷ codes "K" ∷ codes "L" ∷ codes "M" ∷ codes "N" ∷ codes "O" ∷ codes "P" ∷ []
+operators = codes "A" ∷ codes "B" ∷ codes "C" ∷ codes "D" ∷ codes "E" ∷ codes "F" ∷ codes "G" ∷ codes "H" ∷ codes "I" ∷ codes "J"
+    ∷ codes "K" ∷ codes "L" ∷ codes "M" ∷ codes "N" ∷ codes "O" ∷ codes "P" ∷ []
 
 abbrev lines : List Bytes → List Bytes → List Bytes
 lines [] more = more

@@ -4,7 +4,6 @@ use Rattle.std.specs.Prelude.{
   ℕ,
   ◌+◌,
   Bool,
-  false,
   not,
   ◌&&◌,
   ◌||◌,
@@ -43,7 +42,9 @@ use Rattle.syn_base.specs.Integer.{integer_of}
 use Rattle.syn_base.specs.declared.integer.NumFault.{NumFault}
 use Rattle.syn_base.specs.declared.limits.LimitKind.TheVariants.{Operators, Media, Connections}
 use Rattle.archi_graph.specs.declared.medium.Medium.{Medium}
-use Rattle.archi_graph.specs.Archi.{Architecture, is_depth, reached_within}
+use Rattle.archi_graph.specs.declared.medium.MediumKind.{MediumKind}
+use Rattle.archi_graph.specs.declared.medium.MediumKind.TheVariants.{PointToPoint, Multipoint}
+use Rattle.archi_graph.specs.Archi.{Architecture, is_depth, may_stand, reached_within}
 use Rattle.archi_defs.specs.declared.text.DurationLine.{DurationLine}
 use Rattle.archi_defs.specs.declared.text.ArchiText.{ArchiText}
 use Rattle.archi_defs.specs.Refusals.{ArchiRefusal}
@@ -59,7 +60,7 @@ use Rattle.archi_defs.specs.declared.fault.ArchiCause.TheVariants.{
   Disconnected,
 }
 
--- what a text gives
+-- What a text describes: its version, its architecture, and the durations that it gives.
 pub record Described : Type 0 where
   pub version : ℕ
   pub archi : Architecture
@@ -138,7 +139,7 @@ depth_line r n version ws =
     with_some (depth_of (integer_of (word ws 1))) (refused n (BadNumber (word ws 1)))
     (λ depth. Ok (record r { depth = Some depth }))
 
--- operator NAME
+-- What has been read after line n, which has the form `operator NAME`, or its refusal.
 abbrev pub operator_line : Reading → ℕ → List Bytes → Result Reading ArchiRefusal
 operator_line r n ws =
     if not (length ws == 2) then refused n BadLine else
@@ -147,10 +148,18 @@ operator_line r n ws =
     if is_above Operators (length r.operators + 1) then above Operators (length r.operators + 1) else
     Ok (record r { operators = r.operators ++ word ws 1 ∷ [] }))
 
+-- The word names a kind of media.
+abbrev pub is_kind : Bytes → Bool
+is_kind w = bytes_eq w (codes "p2p") || bytes_eq w (codes "multi")
+
+-- The kind of media that a word names, if it names one.
+abbrev pub kind_of : Bytes → MediumKind
+kind_of w = if bytes_eq w (codes "multi") then Multipoint else PointToPoint
+
 -- medium NAME p2p FIXED PER and medium NAME multi FIXED PER
 abbrev pub medium_line : Reading → ℕ → List Bytes → Result Reading ArchiRefusal
 medium_line r n ws =
-    if not (length ws == 5) || not (bytes_eq (word ws 2) (codes "p2p") || bytes_eq (word ws 2) (codes "multi"))
+    if not (length ws == 5) || not (is_kind (word ws 2))
     then refused n BadLine else
     all_names n (word ws 1 ∷ [])
     (with_number n 1000000 (word ws 3) (λ fixed. with_number n 1000000 (word ws 4) (λ per.
@@ -159,7 +168,7 @@ medium_line r n ws =
     Ok (record r {
       media = r.media ++ record {
         name = word ws 1;
-        multi = bytes_eq (word ws 2) (codes "multi");
+        kind = kind_of (word ws 2);
         fixed = fixed;
         per = per;
         stands = [];
@@ -174,7 +183,7 @@ with_stand o (p ∷ ps) = if nat_lt o p then o ∷ p ∷ ps else p ∷ with_stan
 
 -- A medium without a name and without operators, in place of one that is not there.
 abbrev pub no_medium : Medium
-no_medium = record { name = []; multi = false; fixed = 0; per = 0; stands = [] }
+no_medium = record { name = []; kind = PointToPoint; fixed = 0; per = 0; stands = [] }
 
 -- What has been read once operator o is connected to medium m. Line n is refused if they are
 -- connected already, for the name w of the operator, or if there are too many connections.
@@ -235,7 +244,7 @@ next_line r n line = line_by r n line (foreign_place line)
 -- As many operators stand at the medium as it has to have: two or more if it is multipoint, and
 -- exactly two if it is point to point.
 abbrev pub has_stands : Medium → Bool
-has_stands m = if m.multi then nat_le 2 (length m.stands) else length m.stands == 2
+has_stands m = may_stand m.kind (length m.stands)
 
 -- the first medium with a wrong number of operators, at its line
 abbrev pub media_are_right : {A : Type 0} → List Medium → List ℕ → Result A ArchiRefusal → Result A ArchiRefusal

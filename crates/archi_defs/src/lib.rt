@@ -6,10 +6,12 @@
 #![tactic(auto)]
 
 mod fault;
+mod stands;
 mod text;
 
 pub use fault::{ArchiCause, ArchiError, ArchiFault};
+pub use stands::{has_stand, with_stand};
 pub use text::{ArchiText, DurationLine};
 
 // What the clauses here speak of: operators, media and routes.
-pub use archi_graph::{Archi, Hop, Medium, Seq, is_archi, reached};
+pub use archi_graph::{Archi, Hop, Medium, MediumKind, Seq, is_archi, reached};

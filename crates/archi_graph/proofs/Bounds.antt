@@ -12,7 +12,7 @@ pub stands_below : (n : ℕ) (m : Medium) → is_medium n m ≡ true → list_al
 stands_below n m e =
     let ticks = and_parts _ (nat_le m.per 1000000) e in
     let fixed = and_parts _ (nat_le m.fixed 1000000) ticks.0 in
-    (and_parts (may_stand m.multi (length m.stands) && ascends_from 0 m.stands) (list_all (λ o. nat_lt o n) m.stands) fixed.0).1
+    (and_parts (may_stand m.kind (length m.stands) && ascends_from 0 m.stands) (list_all (λ o. nat_lt o n) m.stands) fixed.0).1
 
 pub operators_below : (n bound : ℕ) (media : List Medium) → n ≤ bound → list_all (is_medium n) media ≡ true → AreOperators bound media
 operators_below n bound media h e k m l j o l' =

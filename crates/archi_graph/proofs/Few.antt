@@ -15,7 +15,8 @@ communicators_few : (o n : ℕ) (media : List Medium) → length (communicators 
 communicators_few o n [] = omega arith
 communicators_few o n (m ∷ media) = by (stands_at m o) (communicators_few o (n + 1) media)
   where
-    by : (b : Bool) → length (communicators o (n + 1) media) ≤ length media → length (if b then communicator o n ∷ communicators o (n + 1) media else communicators o (n + 1) media) ≤ length (m ∷ media)
+    by : (b : Bool) → length (communicators o (n + 1) media) ≤ length media
+        → length (if b then communicator o n ∷ communicators o (n + 1) media else communicators o (n + 1) media) ≤ length (m ∷ media)
     by true e = omega arith
     by false e = omega arith
 

@@ -1,5 +1,42 @@
 -- As many hops as there are operators reach all that any route reaches.
-use Rattle.std.proofs.Common.{◌≡◌, ℕ, zero, suc, ◌+◌, ◌-◌, ◌<◌, ◌≤◌, Bool, true, false, cond, ◌&&◌, ◌||◌, List, [], ◌∷◌, ◌++◌, length, Option, Some, None, refl, sym, ap, subst, arith, ◌∙◌, ◌⊎◌, inl, inr, add-zero, add-suc, suc-add, add_comm, below_more}
+use Rattle.std.proofs.Common.{
+  ◌≡◌,
+  ℕ,
+  zero,
+  suc,
+  ◌+◌,
+  ◌-◌,
+  ◌<◌,
+  ◌≤◌,
+  Bool,
+  true,
+  false,
+  cond,
+  ◌&&◌,
+  ◌||◌,
+  List,
+  [],
+  ◌∷◌,
+  ◌++◌,
+  length,
+  Option,
+  Some,
+  None,
+  refl,
+  sym,
+  ap,
+  subst,
+  arith,
+  ◌∙◌,
+  ◌⊎◌,
+  inl,
+  inr,
+  add-zero,
+  add-suc,
+  suc-add,
+  add_comm,
+  below_more,
+}
 use Rattle.std.specs.Prelude.{Contains, IsSomeAnd, slice_get, slice_index_or, nat_eq}
 use Rattle.std.specs.List.{list_any}
 use Rattle.archi_graph.proofs.Flags.{further_same}
@@ -78,8 +115,12 @@ module _ (media : List Medium) where
           let both = and_parts (stands_at m.1 o) (list_any (reached_within media hops) m.1.stands) m.3 in
           let p = list_any_place (reached_within media hops) m.1.stands both.1 in
           let r = before p.1 p.3 in
-          let h : Hop = record { medium = m.0; to = o } in
-          (r.0 ++ h ∷ [], one_hop_more media 0 p.1 r.0 h r.1 (some_with (slice_get media m.0) (λ x. Contains x.stands p.1 × Contains x.stands o) m.1 m.2 (contains_at m.1.stands p.0 p.1 p.2, contains_of o m.1.stands both.0)))
+          let h : Hop = record { medium = m.0; to = o } in (
+            r.0 ++ h ∷ [],
+            one_hop_more media 0 p.1 r.0 h r.1
+                (some_with (slice_get media m.0) (λ x. Contains x.stands p.1 × Contains x.stands o) m.1 m.2
+                (contains_at m.1.stands p.0 p.1 p.2, contains_of o m.1.stands both.0)),
+          )
 
   at_hop : (hops from : ℕ) (h : Hop) → reached_within media hops from ≡ true → IsHop media from h → reached_within media (suc hops) h.to ≡ true
   at_hop hops from h e hop =
@@ -157,7 +198,9 @@ module _ (n : ℕ) (media : List Medium) (known : AreOperators n media) where
   -- each round finds an operator, or some round before found none
   still_or_more : 0 < n → (hops : ℕ) → IsStillBy hops ⊎ (hops < size (reached_within media hops) n)
   still_or_more h zero = inr (size_pos (reached_within media 0) n refl h)
-  still_or_more h (suc hops) = by (still_or_more h hops) (size_grows (reached_within media hops) (reached_within media (suc hops)) (λ o e. or_left _ (list_any (λ m. stands_at m o && list_any (reached_within media hops) m.stands) media) e) n)
+  still_or_more h (suc hops) = by (still_or_more h hops)
+      (size_grows (reached_within media hops) (reached_within media (suc hops))
+      (λ o e. or_left _ (list_any (λ m. stands_at m o && list_any (reached_within media hops) m.stands) media) e) n)
     where
       by : IsStillBy hops ⊎ (hops < size (reached_within media hops) n)
           → Agree n (reached_within media hops) (reached_within media (suc hops)) ⊎ (size (reached_within media hops) n < size (reached_within media (suc hops)) n)

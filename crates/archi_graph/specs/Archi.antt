@@ -28,6 +28,8 @@ use Rattle.std.specs.Prelude.{
 use Rattle.std.specs.List.{list_all, list_any, count_by, sum_by, range_with_len}
 use Rattle.std.specs.Str.{bytes_eq}
 use Rattle.archi_graph.specs.declared.medium.Medium.{Medium}
+use Rattle.archi_graph.specs.declared.medium.MediumKind.{MediumKind}
+use Rattle.archi_graph.specs.declared.medium.MediumKind.TheVariants.{PointToPoint, Multipoint}
 
 -- the operators' names, the media, and how many places a buffer between sequences has
 pub record Architecture : Type 0 where
@@ -44,16 +46,22 @@ abbrev pub ascends_from : ℕ → List ℕ → Bool
 ascends_from least [] = true
 ascends_from least (x ∷ xs) = nat_le least x && ascends_from (x + 1) xs
 
--- This many operators may stand at a medium: two or more if it is multipoint, and exactly two if
--- it is point to point.
-abbrev pub may_stand : Bool → ℕ → Bool
-may_stand true n = nat_le 2 n
-may_stand false n = n == 2
+-- This many operators may stand at a medium of this kind: exactly two if it is point to point, and
+-- two or more if it is multipoint.
+abbrev pub may_stand : MediumKind → ℕ → Bool
+may_stand PointToPoint n = n == 2
+may_stand Multipoint n = nat_le 2 n
+
+-- Both are the same kind of medium.
+abbrev pub same_kind : MediumKind → MediumKind → Bool
+same_kind PointToPoint PointToPoint = true
+same_kind Multipoint Multipoint = true
+same_kind _ _ = false
 
 -- a valid medium, where there are this many operators
 abbrev pub is_medium : ℕ → Medium → Bool
 is_medium operators m =
-    may_stand m.multi (length m.stands) && ascends_from 0 m.stands && list_all (λ o. nat_lt o operators) m.stands &&
+    may_stand m.kind (length m.stands) && ascends_from 0 m.stands && list_all (λ o. nat_lt o operators) m.stands &&
     nat_le m.fixed 1000000 && nat_le m.per 1000000
 
 -- Exactly one of the names is this one.

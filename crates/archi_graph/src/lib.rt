@@ -17,5 +17,5 @@ mod valid;
 pub use archi::Archi;
 pub use joined::reached;
 pub use laws::routes_are_found;
-pub use medium::{Hop, Medium, Seq};
+pub use medium::{Hop, Medium, MediumKind, Seq};
 pub use valid::is_archi;

@@ -3,7 +3,7 @@
 ghost use Rattle.std.specs.Prelude.{◌≡◌, nat_le, nat_lt};
 ghost use Rattle.std.specs.List.{count_by, list_all};
 ghost use Rattle.std.specs.Str.{bytes_eq};
-ghost use Rattle.archi_graph.specs.Archi.{are_bounded, are_distinct, ascends_from, is_archi, is_medium, may_stand, names_of, occurs_once, connections_in};
+ghost use Rattle.archi_graph.specs.Archi.{are_bounded, are_distinct, ascends_from, is_archi, is_medium, names_of, occurs_once, connections_in};
 
 use crate::joined::are_joined;
 use crate::medium::Medium;
@@ -69,18 +69,11 @@ fn is_sound(operators: usize, medium: &Medium) -> bool
     ensures { result ≡ is_medium operators medium.now }
 {
     let stands = medium.stands.as_slice();
-    has_enough(medium.multi, stands.len())
+    medium.kind.may_have(stands.len())
         && ascends(stands)
         && are_below(stands, operators)
         && medium.fixed <= MOST_TICKS
         && medium.per <= MOST_TICKS
-}
-
-/// Whether this many operators may stand at a medium of this kind.
-fn has_enough(multi: bool, stands: usize) -> bool
-    ensures { result ≡ may_stand multi stands }
-{
-    if multi { stands >= 2 } else { stands == 2 }
 }
 
 /// Whether each number is above the one before it.

@@ -32,7 +32,8 @@ joined_none r version (Some o) d h = cc
 whole_is : (r : Reading) (version : ℕ) (d : Described) → IsSound r → whole_of r version ≡ Ok d → IsArchitecture d
 whole_is r version d sound h =
     let some = passed (length r.operators == 0) _ _ d h in
-    let right = told_none (position (λ m. not (has_stands m)) r.media) r.media r.lines (all_joined r version (apart r)) d (sym (media_told r.media r.lines (all_joined r version (apart r))) ∙ some.1) in
+    let right = told_none (position (λ m. not (has_stands m)) r.media) r.media r.lines (all_joined r version (apart r)) d
+    (sym (media_told r.media r.lines (all_joined r version (apart r))) ∙ some.1) in
     let joined = joined_none r version (apart r) d right.1 in
     subst IsArchitecture joined.1 (valid r sound some.0 right.0 joined.0, sound.depth)
 

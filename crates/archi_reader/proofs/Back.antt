@@ -1,5 +1,37 @@
 -- The lines of operators and media are read as they were printed.
-use Rattle.std.proofs.Common.{◌≡◌, ℕ, ◌+◌, ◌≤◌, ◌<◌, Bool, true, false, ◌&&◌, ◌||◌, if◌then◌else◌, List, [], ◌∷◌, ◌++◌, length, map, Option, Some, Result, Ok, nat_le, refl, sym, ap, subst, ◌∙◌, arith, append_assoc, append-nil, cond}
+use Rattle.std.proofs.Common.{
+  ◌≡◌,
+  ℕ,
+  ◌+◌,
+  ◌≤◌,
+  ◌<◌,
+  Bool,
+  true,
+  false,
+  ◌&&◌,
+  ◌||◌,
+  if◌then◌else◌,
+  List,
+  [],
+  ◌∷◌,
+  ◌++◌,
+  length,
+  map,
+  Option,
+  Some,
+  Result,
+  Ok,
+  nat_le,
+  refl,
+  sym,
+  ap,
+  subst,
+  ◌∙◌,
+  arith,
+  append_assoc,
+  append-nil,
+  cond,
+}
 use Rattle.std.specs.Prelude.{codes}
 use Rattle.std.specs.List.{list_any, list_all, count_by}
 use Rattle.std.specs.Str.{bytes_eq}
@@ -12,6 +44,8 @@ use Rattle.syn_base.specs.Integer.{integer_of}
 use Rattle.syn_base.specs.Limits.{bound_of}
 use Rattle.syn_base.specs.declared.limits.LimitKind.TheVariants.{Operators, Media}
 use Rattle.archi_defs.specs.declared.Medium.{Medium}
+use Rattle.archi_defs.specs.declared.MediumKind.{MediumKind}
+use Rattle.archi_defs.specs.declared.MediumKind.TheVariants.{Multipoint, PointToPoint}
 use Rattle.archi_defs.specs.Archi.{are_distinct, occurs_once}
 use Rattle.archi_defs.specs.Refusals.{ArchiRefusal}
 use Rattle.syn_base.specs.Bytes.{Bytes}
@@ -73,23 +107,26 @@ pub medium_plain : (name kind : Bytes) (fixed per : ℕ) → is_word name ≡ tr
 medium_plain name kind fixed per a b c d =
     and_from (is_word name) _ a (and_from (is_word kind) _ b (and_from (is_word (count_text fixed)) _ c (and_from (is_word (count_text per)) true d refl)))
 
-medium_read : (multi : Bool) (r : Reading) (n version : ℕ) (name : Bytes) (fixed per : ℕ) → r.version ≡ Some version → is_name name ≡ true → nat_le fixed 1000000 ≡ true → nat_le per 1000000 ≡ true
+medium_read : (kind : MediumKind) (r : Reading) (n version : ℕ) (name : Bytes) (fixed per : ℕ) → r.version ≡ Some version → is_name name
+    ≡ true → nat_le fixed 1000000 ≡ true → nat_le per 1000000 ≡ true
     → is_taken r name ≡ false → length r.media < 16
-    → next_line r n (joined (codes "medium" ∷ name ∷ kind_word multi ∷ count_text fixed ∷ count_text per ∷ []))
-    ≡ Ok (record r { media = r.media ++ record { name = name; multi = multi; fixed = fixed; per = per; stands = [] } ∷ []; lines = r.lines ++ n ∷ [] })
-medium_read true r n version name fixed per versioned named f p new few =
+    → next_line r n (joined (codes "medium" ∷ name ∷ kind_word kind ∷ count_text fixed ∷ count_text per ∷ []))
+    ≡ Ok (record r { media = r.media ++ record { name = name; kind = kind; fixed = fixed; per = per; stands = [] } ∷ []; lines = r.lines ++ n ∷ [] })
+medium_read Multipoint r n version name fixed per versioned named f p new few =
     let low = leb-true fixed 1000000 f in
     let low_per = leb-true per 1000000 p in
-    described_back r n version (codes "medium") (name ∷ kind_word true ∷ count_text fixed ∷ count_text per ∷ [])
-    (medium_plain name (kind_word true) fixed per (name_word name named) refl (number_word fixed (omega (arith, low))) (number_word per (omega (arith, low_per)))) versioned
-    ∙ medium_steps (is_name name) (up_to 1000000 (integer_of (count_text fixed))) (up_to 1000000 (integer_of (count_text per))) fixed per (is_taken r name) (is_above Media (length r.media + 1)) _ _ _ _ _ _
+    described_back r n version (codes "medium") (name ∷ kind_word Multipoint ∷ count_text fixed ∷ count_text per ∷ [])
+    (medium_plain name (kind_word Multipoint) fixed per (name_word name named) refl (number_word fixed (omega (arith, low))) (number_word per (omega (arith, low_per)))) versioned
+    ∙ medium_steps (is_name name) (up_to 1000000 (integer_of (count_text fixed))) (up_to 1000000 (integer_of (count_text per))) fixed per
+    (is_taken r name) (is_above Media (length r.media + 1)) _ _ _ _ _ _
     named (number_back 1000000 fixed f (omega (arith, low))) (number_back 1000000 per p (omega (arith, low_per))) new (le-ltb (bound_of Media) (length r.media + 1) (omega (arith, few)))
-medium_read false r n version name fixed per versioned named f p new few =
+medium_read PointToPoint r n version name fixed per versioned named f p new few =
     let low = leb-true fixed 1000000 f in
     let low_per = leb-true per 1000000 p in
-    described_back r n version (codes "medium") (name ∷ kind_word false ∷ count_text fixed ∷ count_text per ∷ [])
-    (medium_plain name (kind_word false) fixed per (name_word name named) refl (number_word fixed (omega (arith, low))) (number_word per (omega (arith, low_per)))) versioned
-    ∙ medium_steps (is_name name) (up_to 1000000 (integer_of (count_text fixed))) (up_to 1000000 (integer_of (count_text per))) fixed per (is_taken r name) (is_above Media (length r.media + 1)) _ _ _ _ _ _
+    described_back r n version (codes "medium") (name ∷ kind_word PointToPoint ∷ count_text fixed ∷ count_text per ∷ [])
+    (medium_plain name (kind_word PointToPoint) fixed per (name_word name named) refl (number_word fixed (omega (arith, low))) (number_word per (omega (arith, low_per)))) versioned
+    ∙ medium_steps (is_name name) (up_to 1000000 (integer_of (count_text fixed))) (up_to 1000000 (integer_of (count_text per))) fixed per
+    (is_taken r name) (is_above Media (length r.media + 1)) _ _ _ _ _ _
     named (number_back 1000000 fixed f (omega (arith, low))) (number_back 1000000 per p (omega (arith, low_per))) new (le-ltb (bound_of Media) (length r.media + 1) (omega (arith, few)))
 
 -- what the first lines say: the version, and the depth where there is one
@@ -101,13 +138,15 @@ pub record Opening : Type 0 where
 abbrev pub at_operators : Opening → List Bytes → Reading
 at_operators opening operators = record start { version = Some opening.version; depth = opening.depth; operators = operators }
 
-pub operators_back : (opening : Opening) (operators done more : List Bytes) (n : ℕ) → are_distinct (done ++ (operators ++ more)) ≡ true → list_all is_name operators ≡ true → length done + length operators ≤ 16
+pub operators_back : (opening : Opening) (operators done more : List Bytes) (n : ℕ) → are_distinct (done ++ (operators ++ more)) ≡ true
+    → list_all is_name operators ≡ true → length done + length operators ≤ 16
     → after (at_operators opening done) n (map operator_words operators) ≡ Ok (at_operators opening (done ++ operators))
 operators_back opening [] done more n distinct named few = ap (λ (l : List Bytes). Ok (at_operators opening l)) (sym (append-nil done))
 operators_back opening (w ∷ operators) done more n distinct named few =
     let both = and_parts (is_name w) (list_all is_name operators) named in
     let new : is_taken (at_operators opening done) w ≡ false = ap (list_any (bytes_eq w)) (append-nil done) ∙ fresh_at done (operators ++ more) w distinct in
-    then_line (operator_words w) (map operator_words operators) (at_operators opening done) (at_operators opening (done ++ w ∷ [])) n (operator_read (at_operators opening done) n opening.version w refl both.0 new (omega (arith, few)))
+    then_line (operator_words w) (map operator_words operators) (at_operators opening done) (at_operators opening (done ++ w ∷ [])) n
+    (operator_read (at_operators opening done) n opening.version w refl both.0 new (omega (arith, few)))
     ∙ operators_back opening operators (done ++ w ∷ []) more (n + 1) (subst (λ (l : List Bytes). are_distinct l ≡ true) (sym (append_assoc done (w ∷ []) (operators ++ more))) distinct) both.1
     (let long = length_push done w in omega (arith, few, long))
     ∙ ap (λ (l : List Bytes). Ok (at_operators opening l)) (append_assoc done (w ∷ []) operators)
@@ -130,11 +169,14 @@ media_back opening (m ∷ media) done operators lines n distinct named ticks few
     let new : is_taken (at_media opening operators done lines) m.name ≡ false = fresh_at (operators ++ media_names done) (media_names media) m.name distinct in
     let same : (operators ++ media_names done) ++ m.name ∷ media_names media ≡ (operators ++ media_names (done ++ bare m ∷ [])) ++ media_names media =
     sym (append_assoc (operators ++ media_names done) (m.name ∷ []) (media_names media))
-    ∙ ap (λ (l : List Bytes). l ++ media_names media) (append_assoc operators (media_names done) (m.name ∷ []) ∙ ap (λ (l : List Bytes). operators ++ l) (sym (map-append (λ (x : Medium). x.name) done (bare m ∷ [])))) in
+    ∙ ap (λ (l : List Bytes). l ++ media_names media)
+    (append_assoc operators (media_names done) (m.name ∷ [])
+    ∙ ap (λ (l : List Bytes). operators ++ l) (sym (map-append (λ (x : Medium). x.name) done (bare m ∷ [])))) in
     let long = length_push done (bare m) in
-    let more = media_back opening media (done ++ bare m ∷ []) operators (lines ++ n ∷ []) (n + 1) (subst (λ (l : List Bytes). are_distinct l ≡ true) same distinct) names.1 low.1 (omega (arith, few, long)) in (
+    let more = media_back opening media (done ++ bare m ∷ []) operators (lines ++ n ∷ []) (n + 1)
+    (subst (λ (l : List Bytes). are_distinct l ≡ true) same distinct) names.1 low.1 (omega (arith, few, long)) in (
       more.0,
       then_line (medium_words m) (map medium_words media) (at_media opening operators done lines) (at_media opening operators (done ++ bare m ∷ []) (lines ++ n ∷ [])) n
-          (medium_read m.multi (at_media opening operators done lines) n opening.version m.name m.fixed m.per refl names.0 each.0 each.1 new (omega (arith, few)))
+          (medium_read m.kind (at_media opening operators done lines) n opening.version m.name m.fixed m.per refl names.0 each.0 each.1 new (omega (arith, few)))
           ∙ more.1 ∙ ap (λ (l : List Medium). Ok (at_media opening operators l more.0)) (append_assoc done (bare m ∷ []) (map bare media)),
     )

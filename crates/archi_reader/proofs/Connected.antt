@@ -85,13 +85,16 @@ module _ (r : Reading) (h : IsSound r) where
           let a = and_parts _ (nat_le before.per 1000000) it in
           let b = and_parts _ (nat_le before.fixed 1000000) a.0 in
           let c = and_parts (ascends_from 0 before.stands) (list_all (λ p. nat_lt p (length r.operators)) before.stands) b.0 in
-          and_from _ _ (and_from _ _ (and_from _ _ (ascends_stand 0 o before.stands (omega arith) new c.0) (all_stand (λ p. nat_lt p (length r.operators)) o before.stands (lt-ltb o (length r.operators) known) c.1)) b.1) a.1
+          and_from _ _ (and_from _ _ (and_from _ _ (ascends_stand 0 o before.stands (omega arith) new c.0)
+          (all_stand (λ p. nat_lt p (length r.operators)) o before.stands (lt-ltb o (length r.operators) known) c.1)) b.1) a.1
 
-      sound : list_any (λ p. p == o) before.stands ≡ false → is_above Connections (r.connections + 1) ≡ false → IsSound (record r { media = slice_set r.media m after; connections = r.connections + 1 })
+      sound : list_any (λ p. p == o) before.stands ≡ false → is_above Connections (r.connections + 1) ≡ false
+          → IsSound (record r { media = slice_set r.media m after; connections = r.connections + 1 })
       sound new few =
           let room = ltb-false (bound_of Connections) (r.connections + 1) few in
           let one : length after.stands ≡ length before.stands + 1 = with_one_more o before.stands in
-          let all : connections_in (slice_set r.media m after) + length before.stands ≡ connections_in r.media + length after.stands = sum_by-set (λ x. length x.stands) r.media m after no_medium below in
+          let all : connections_in (slice_set r.media m after) + length before.stands
+          ≡ connections_in r.media + length after.stands = sum_by-set (λ x. length x.stands) r.media m after no_medium below in
           let kept : length (slice_set r.media m after) ≡ length r.media = length-set r.media m after in
           record {
             operators = h.operators;

@@ -1,5 +1,44 @@
 -- The lines of connections are read as they were printed.
-use Rattle.std.proofs.Common.{◌≡◌, ℕ, suc, ◌+◌, ◌≤◌, ◌<◌, Bool, true, false, ◌&&◌, ◌||◌, ◌==◌, if◌then◌else◌, List, [], ◌∷◌, ◌++◌, length, map, take, drop, Option, Some, position, Result, Ok, nat_le, nat_lt, refl, sym, ap, ap₂, subst, ◌∙◌, arith, append_assoc, append-nil, drop-cons}
+use Rattle.std.proofs.Common.{
+  ◌≡◌,
+  ℕ,
+  suc,
+  ◌+◌,
+  ◌≤◌,
+  ◌<◌,
+  Bool,
+  true,
+  false,
+  ◌&&◌,
+  ◌||◌,
+  ◌==◌,
+  if◌then◌else◌,
+  List,
+  [],
+  ◌∷◌,
+  ◌++◌,
+  length,
+  map,
+  take,
+  drop,
+  Option,
+  Some,
+  position,
+  Result,
+  Ok,
+  nat_le,
+  nat_lt,
+  refl,
+  sym,
+  ap,
+  ap₂,
+  subst,
+  ◌∙◌,
+  arith,
+  append_assoc,
+  append-nil,
+  drop-cons,
+}
 use Rattle.std.specs.Prelude.{codes, slice_index_or, slice_set}
 use Rattle.std.specs.List.{list_any, list_all, flat_map}
 use Rattle.std.specs.Str.{bytes_eq}
@@ -102,7 +141,8 @@ connected_steps twice many a b x e f = rw (e, f) refl
 -- one connection, at the medium after these
 one_connection : (opening : Opening) (operators : List Bytes) (done rest : List Medium) (m : Medium) (lines : List ℕ) (c n o : ℕ) (w : Bytes)
     → with_stand o m.stands ≡ m.stands ++ o ∷ [] → list_any (λ p. p == o) m.stands ≡ false → c < 64
-    → connected (at_connections opening operators (done ++ m ∷ rest) lines c) n w (length done) o ≡ Ok (at_connections opening operators (done ++ record m { stands = m.stands ++ o ∷ [] } ∷ rest) lines (c + 1))
+    → connected (at_connections opening operators (done ++ m ∷ rest) lines c) n w (length done) o
+    ≡ Ok (at_connections opening operators (done ++ record m { stands = m.stands ++ o ∷ [] } ∷ rest) lines (c + 1))
 one_connection opening operators done rest m lines c n o w last new few =
     let seam = read_seam done rest m in
     connected_steps (list_any (λ p. p == o) (slice_index_or (done ++ m ∷ rest) (length done) no_medium).stands) (is_above Connections (c + 1)) _ _ _
@@ -135,7 +175,8 @@ module _ (opening : Opening) (operators : List Bytes) (lines : List ℕ) (found 
       let x : Medium = record m { stands = front } in
       let y : Medium = record m { stands = front ++ o ∷ [] } in
       let count : c + 1 + length os ≡ c + suc (length os) = omega arith in
-      then_line (connect_words operators m.name o) (map (connect_words operators m.name) os) (at_connections opening operators (done ++ x ∷ rest) lines c) (at_connections opening operators (done ++ y ∷ rest) lines (c + 1)) n
+      then_line (connect_words operators m.name o) (map (connect_words operators m.name) os)
+      (at_connections opening operators (done ++ x ∷ rest) lines c) (at_connections opening operators (done ++ y ∷ rest) lines (c + 1)) n
       (connect_read (at_connections opening operators (done ++ x ∷ rest) lines c) _ n opening.version (length done) o m.name (operator_name operators o) refl named (found.named o below)
       (medium_found done rest x new) (found.place o below) (one_connection opening operators done rest x lines c n o (operator_name operators o) last.0 last.1 (omega (arith, few))))
       ∙ stands_back os (front ++ o ∷ []) done rest m (c + 1) (n + 1) new named both.1 (subst (λ l. ascends_from 0 l ≡ true) (sym (append_assoc front (o ∷ []) os)) ascends) (omega (arith, few))
@@ -147,7 +188,8 @@ module _ (opening : Opening) (operators : List Bytes) (lines : List ℕ) (found 
 
   pub connections_back : (media done : List Medium) (c n : ℕ)
       → are_distinct ((operators ++ media_names done) ++ media_names media) ≡ true → list_all is_name (media_names media) ≡ true → list_all stands_right media ≡ true → c + connections_in media ≤ 64
-      → after (at_connections opening operators (done ++ map bare media) lines c) n (flat_map (connections_of operators) media) ≡ Ok (at_connections opening operators (done ++ media) lines (c + connections_in media))
+      → after (at_connections opening operators (done ++ map bare media) lines c) n (flat_map (connections_of operators) media)
+      ≡ Ok (at_connections opening operators (done ++ media) lines (c + connections_in media))
   connections_back [] done c n distinct named right few = ap (λ (k : ℕ). Ok (at_connections opening operators (done ++ []) lines k)) (let e : c ≡ c + 0 = omega arith in e)
   connections_back (m ∷ media) done c n distinct named right few =
       let names = and_parts (is_name m.name) (list_all is_name (media_names media)) named in
@@ -158,13 +200,17 @@ module _ (opening : Opening) (operators : List Bytes) (lines : List ℕ) (found 
       let all : connections_in (m ∷ media) ≡ length m.stands + connections_in media = sum_by-cons (λ x. length x.stands) m media in
       let same : (operators ++ media_names done) ++ m.name ∷ media_names media ≡ (operators ++ media_names (done ++ m ∷ [])) ++ media_names media =
       sym (append_assoc (operators ++ media_names done) (m.name ∷ []) (media_names media))
-      ∙ ap (λ (l : List Bytes). l ++ media_names media) (append_assoc operators (media_names done) (m.name ∷ []) ∙ ap (λ (l : List Bytes). operators ++ l) (sym (map-append (λ (x : Medium). x.name) done (m ∷ [])))) in
+      ∙ ap (λ (l : List Bytes). l ++ media_names media)
+      (append_assoc operators (media_names done) (m.name ∷ [])
+      ∙ ap (λ (l : List Bytes). operators ++ l) (sym (map-append (λ (x : Medium). x.name) done (m ∷ [])))) in
       let count : c + length m.stands + connections_in media ≡ c + connections_in (m ∷ media) = omega (arith, all) in
       let r = at_connections opening operators (done ++ bare m ∷ map bare media) lines c in
       let s = at_connections opening operators (done ++ m ∷ map bare media) lines (c + length m.stands) in
       ap (after r n) (flat_map-cons (connections_of operators) m media)
       ∙ then_lines (connections_of operators m) (flat_map (connections_of operators) media) r s n
       (stands_back m.stands [] done (map bare media) m c n new.1 names.0 own.1 own.0 (omega (arith, few, all)))
-      ∙ ap (λ (l : List Medium). after (at_connections opening operators l lines (c + length m.stands)) (n + length (connections_of operators m)) (flat_map (connections_of operators) media)) (sym (append_assoc done (m ∷ []) (map bare media)))
-      ∙ connections_back media (done ++ m ∷ []) (c + length m.stands) (n + length (connections_of operators m)) (subst (λ (l : List Bytes). are_distinct l ≡ true) same distinct) names.1 rights.1 (omega (arith, few, all))
+      ∙ ap (λ (l : List Medium). after (at_connections opening operators l lines (c + length m.stands))
+      (n + length (connections_of operators m)) (flat_map (connections_of operators) media)) (sym (append_assoc done (m ∷ []) (map bare media)))
+      ∙ connections_back media (done ++ m ∷ []) (c + length m.stands) (n + length (connections_of operators m))
+      (subst (λ (l : List Bytes). are_distinct l ≡ true) same distinct) names.1 rights.1 (omega (arith, few, all))
       ∙ ap₂ (λ (l : List Medium) (k : ℕ). Ok (at_connections opening operators l lines k)) (append_assoc done (m ∷ []) media) count

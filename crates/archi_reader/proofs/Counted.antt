@@ -1,5 +1,40 @@
 -- What was read was spelled, and each line adds one thing at most.
-use Rattle.std.proofs.Common.{◌≡◌, ℕ, ◌+◌, ◌≤◌, ◌<◌, Bool, not, true, false, ◌||◌, ◌&&◌, ◌==◌, if◌then◌else◌, List, [], ◌∷◌, ◌++◌, length, Option, Some, None, Ok, nat_le, nat_lt, refl, sym, ap, subst, ◌∙◌, arith, append_assoc, append-nil, inl, inr}
+use Rattle.std.proofs.Common.{
+  ◌≡◌,
+  ℕ,
+  ◌+◌,
+  ◌≤◌,
+  ◌<◌,
+  Bool,
+  not,
+  true,
+  false,
+  ◌||◌,
+  ◌&&◌,
+  ◌==◌,
+  if◌then◌else◌,
+  List,
+  [],
+  ◌∷◌,
+  ◌++◌,
+  length,
+  Option,
+  Some,
+  None,
+  Ok,
+  nat_le,
+  nat_lt,
+  refl,
+  sym,
+  ap,
+  subst,
+  ◌∙◌,
+  arith,
+  append_assoc,
+  append-nil,
+  inl,
+  inr,
+}
 use Rattle.std.specs.Prelude.{codes, is_some, slice_index_or, slice_set, ◌⊎◌}
 use Rattle.std.specs.List.{list_any, list_all}
 use Rattle.std.specs.Str.{bytes_eq}
@@ -15,7 +50,27 @@ use Rattle.archi_defs.specs.declared.Medium.{Medium}
 use Rattle.archi_defs.specs.Archi.{names_of}
 use Rattle.archi_defs.specs.declared.text.DurationLine.{DurationLine}
 use Rattle.syn_base.specs.Bytes.{Bytes}
-use Rattle.archi_defs.specs.Text.{Reading, up_to, depth_of, version_of, place_of, medium_names, is_taken, no_medium, with_stand, version_line, operator_line, medium_line, connect_line, duration_line, depth_line, described_line, line_by, next_line}
+use Rattle.archi_defs.specs.Text.{
+  Reading,
+  kind_of,
+  up_to,
+  depth_of,
+  version_of,
+  place_of,
+  medium_names,
+  is_taken,
+  no_medium,
+  with_stand,
+  version_line,
+  operator_line,
+  medium_line,
+  connect_line,
+  duration_line,
+  depth_line,
+  described_line,
+  line_by,
+  next_line,
+}
 use Rattle.text_lines.specs.Refusals.{with_some, is_above}
 use Rattle.archi_reader.specs.Durations.{is_given}
 use Rattle.archi_reader.proofs.Sound.{Holds, Keeps, keeps_if, keeps_names, keeps_some, within, all_with}
@@ -108,7 +163,10 @@ module _ (r : Reading) (h : IsSpelled r) where
 
   follows_operator : (n : ℕ) (ws : List Bytes) → Keeps (Follows r) (operator_line r n ws)
   follows_operator n ws =
-      keeps_if (not (length ws == 2)) _ _ (λ a. keeps_names n (word ws 1) [] _ (λ named. keeps_if (is_taken r (word ws 1)) _ _ (λ fresh. keeps_if (is_above Operators (length r.operators + 1)) _ _ (λ few. record { holds = it named }))))
+      keeps_if (not (length ws == 2)) _ _
+      (λ a. keeps_names n (word ws 1) [] _
+      (λ named. keeps_if (is_taken r (word ws 1)) _ _
+      (λ fresh. keeps_if (is_above Operators (length r.operators + 1)) _ _ (λ few. record { holds = it named }))))
     where
       it : is_name (word ws 1) ≡ true → Follows r (record r { operators = r.operators ++ word ws 1 ∷ [] })
       it named =
@@ -131,9 +189,9 @@ module _ (r : Reading) (h : IsSpelled r) where
       keeps_if (is_taken r (word ws 1)) _ _ (λ fresh. keeps_if (is_above Media (length r.media + 1)) _ _ (λ few. record { holds = it fixed per named }))))))
     where
       it : (fixed per : ℕ) → is_name (word ws 1) ≡ true
-          → Follows r (record r { media = r.media ++ record { name = word ws 1; multi = bytes_eq (word ws 2) (codes "multi"); fixed = fixed; per = per; stands = [] } ∷ []; lines = r.lines ++ n ∷ [] })
+          → Follows r (record r { media = r.media ++ record { name = word ws 1; kind = kind_of (word ws 2); fixed = fixed; per = per; stands = [] } ∷ []; lines = r.lines ++ n ∷ [] })
       it fixed per named =
-          let m : Medium = record { name = word ws 1; multi = bytes_eq (word ws 2) (codes "multi"); fixed = fixed; per = per; stands = [] } in
+          let m : Medium = record { name = word ws 1; kind = kind_of (word ws 2); fixed = fixed; per = per; stands = [] } in
           let more = length_push r.media m in
           let all : list_all is_name ((r.operators ++ medium_names r) ++ []) ≡ true = rw append-nil h.names in
           record {

@@ -6,7 +6,7 @@ use Rattle.std.proofs.lemmas.Bool.{and_parts, and_from, ltb-true, eqb-false, le-
 use Rattle.std.proofs.lemmas.List.{get_or_default}
 use Rattle.std.proofs.lemmas.List.Sums.{AllPass-from_list_all}
 use Rattle.archi_defs.specs.declared.Medium.{Medium}
-use Rattle.archi_defs.specs.Archi.{is_archi, is_medium, are_bounded, may_stand, ascends_from, reached_within, connections_in}
+use Rattle.archi_defs.specs.Archi.{is_archi, is_medium, are_bounded, ascends_from, reached_within, connections_in}
 use Rattle.archi_defs.specs.Routes.{AreOperators}
 use Rattle.archi_defs.specs.Refusals.{ArchiRefusal}
 use Rattle.archi_defs.specs.declared.fault.ArchiCause.TheVariants.{BadMedium, Disconnected}
@@ -33,7 +33,8 @@ told_without (Some k) m media go = refl
 pub media_told : {A : Type 0} (media : List Medium) (lines : List ℕ) (go : Result A ArchiRefusal)
     → media_are_right media lines go ≡ told (position (λ m. not (has_stands m)) media) media lines go
 media_told [] lines go = refl
-media_told {A} (m ∷ media) lines go = by lines (has_stands m) refl (λ ls. media_told media ls go) ∙ ap (λ (o : Option ℕ). told o (m ∷ media) lines go) (sym (position_cons (λ x. not (has_stands x)) m media))
+media_told {A} (m ∷ media) lines go = by lines (has_stands m) refl (λ ls. media_told media ls go)
+    ∙ ap (λ (o : Option ℕ). told o (m ∷ media) lines go) (sym (position_cons (λ x. not (has_stands x)) m media))
   where
     rest : Option ℕ
     rest = position (λ x. not (has_stands x)) media
@@ -55,17 +56,12 @@ known r s k m e j o l =
     let low = ltb-true _ (length r.operators) (AllPass-from_list_all (λ p. nat_lt p (length r.operators)) (slice_index_or r.media k m).stands below.1 j o l) in
     omega (arith, low, s.operators)
 
-stands_same : (multi : Bool) (m : Medium) → m.multi ≡ multi → has_stands m ≡ may_stand m.multi (length m.stands)
-stands_same true m h = rw h refl
-stands_same false m h = rw h refl
-
 medium_of : (n : ℕ) (m : Medium) → has_stands m ≡ true → is_begun n m ≡ true → is_medium n m ≡ true
 medium_of n m stands begun =
     let a = and_parts _ (nat_le m.per 1000000) begun in
     let b = and_parts _ (nat_le m.fixed 1000000) a.0 in
     let c = and_parts (ascends_from 0 m.stands) (list_all (λ o. nat_lt o n) m.stands) b.0 in
-    let enough : may_stand m.multi (length m.stands) ≡ true = sym (stands_same m.multi m refl) ∙ stands in
-    and_from _ _ (and_from _ _ (and_from _ _ (and_from _ _ enough c.0) c.1) b.1) a.1
+    and_from _ _ (and_from _ _ (and_from _ _ (and_from _ _ stands c.0) c.1) b.1) a.1
 
 media_of : (n : ℕ) (media : List Medium) → list_all has_stands media ≡ true → list_all (is_begun n) media ≡ true → list_all (is_medium n) media ≡ true
 media_of n [] stands begun = refl
@@ -78,7 +74,8 @@ bounded : (r : Reading) → IsSound r → (length r.operators == 0) ≡ false �
 bounded r s some =
     let more = eqb-false (length r.operators) 0 some in
     let stands : connections_in r.media ≤ 64 = omega (arith, s.stands, s.connections) in
-    and_from _ _ (and_from _ _ (and_from _ _ (le-leb 1 (length r.operators) (omega (arith, more))) (le-leb (length r.operators) 16 s.operators)) (le-leb (length r.media) 16 s.media)) (le-leb (connections_in r.media) 64 stands)
+    and_from _ _ (and_from _ _ (and_from _ _ (le-leb 1 (length r.operators) (omega (arith, more)))
+    (le-leb (length r.operators) 16 s.operators)) (le-leb (length r.media) 16 s.media)) (le-leb (connections_in r.media) 64 stands)
 
 -- the architecture of a text that is not refused is valid
 pub valid : (r : Reading) → IsSound r → (length r.operators == 0) ≡ false → position (λ m. not (has_stands m)) r.media ≡ None → apart r ≡ None

@@ -9,7 +9,6 @@ pub mod Endings
 pub mod Following
 pub mod Listed
 pub mod Named
-pub mod Placed
 pub mod Places
 pub mod ReadBack
 pub mod Sound

@@ -1,5 +1,33 @@
 -- The lines of durations are read as they were printed.
-use Rattle.std.proofs.Common.{◌≡◌, ℕ, ◌+◌, Bool, true, false, ◌&&◌, if◌then◌else◌, List, [], ◌∷◌, ◌++◌, length, map, Some, Result, Ok, nat_le, nat_lt, refl, sym, ap, subst, ◌∙◌, arith, append_assoc, append-nil}
+use Rattle.std.proofs.Common.{
+  ◌≡◌,
+  ℕ,
+  ◌+◌,
+  Bool,
+  true,
+  false,
+  ◌&&◌,
+  if◌then◌else◌,
+  List,
+  [],
+  ◌∷◌,
+  ◌++◌,
+  length,
+  map,
+  Some,
+  Result,
+  Ok,
+  nat_le,
+  nat_lt,
+  refl,
+  sym,
+  ap,
+  subst,
+  ◌∙◌,
+  arith,
+  append_assoc,
+  append-nil,
+}
 use Rattle.std.specs.Prelude.{codes}
 use Rattle.std.specs.List.{list_all}
 use Rattle.std.proofs.lemmas.Bool.{and_parts, and_from, leb-true, ltb-true}
@@ -38,7 +66,9 @@ duration_read : (r : Reading) (n version ticks o : ℕ) (def operator : Bytes) �
 duration_read r n version ticks o def operator versioned a b low found new =
     let small = leb-true ticks 1000000000 low in
     described_back r n version (codes "duration") (def ∷ operator ∷ count_text ticks ∷ [])
-    (and_from (is_word def) _ (name_word def a) (and_from (is_word operator) _ (name_word operator b) (and_from (is_word (count_text ticks)) true (number_word ticks (omega (arith, small))) refl))) versioned
+    (and_from (is_word def) _ (name_word def a)
+    (and_from (is_word operator) _ (name_word operator b)
+    (and_from (is_word (count_text ticks)) true (number_word ticks (omega (arith, small))) refl))) versioned
     ∙ connect_steps (is_name def) (is_name operator) (up_to 1000000000 (integer_of (count_text ticks))) (place_of operator r.operators) ticks o _ _ _ _ _ _ a b
     (number_back 1000000000 ticks low (omega (arith, small))) found
     (once (is_given r.durations def o) _ _ new)
@@ -57,8 +87,10 @@ durations_back opening operators media lines c found (d ∷ durations) done n ne
     let ticks = and_parts (is_name d.def && nat_lt d.operator (length operators)) (nat_le d.ticks 1000000000) both.0 in
     let parts = and_parts (is_name d.def) (nat_lt d.operator (length operators)) ticks.0 in
     let below = ltb-true d.operator (length operators) parts.1 in
-    then_line (duration_words operators d) (map (duration_words operators) durations) (at_durations opening operators media lines c done) (at_durations opening operators media lines c (done ++ d ∷ [])) n
-    (duration_read (at_durations opening operators media lines c done) n opening.version d.ticks d.operator d.def (operator_name operators d.operator) refl parts.0 (found.named d.operator below) ticks.1 (found.place d.operator below) new.0)
+    then_line (duration_words operators d) (map (duration_words operators) durations) (at_durations opening operators media lines c done)
+    (at_durations opening operators media lines c (done ++ d ∷ [])) n
+    (duration_read (at_durations opening operators media lines c done) n opening.version d.ticks d.operator d.def
+    (operator_name operators d.operator) refl parts.0 (found.named d.operator below) ticks.1 (found.place d.operator below) new.0)
     ∙ durations_back opening operators media lines c found durations (done ++ d ∷ []) (n + 1) new.1 both.1
     ∙ ap (λ (l : List DurationLine). Ok (at_durations opening operators media lines c l)) (append_assoc done (d ∷ []) durations)
 

@@ -1,5 +1,44 @@
 -- The canonical text of what was read is read as the same.
-use Rattle.std.proofs.Common.{◌≡◌, ℕ, suc, ◌+◌, ◌≤◌, Bool, not, true, false, ◌&&◌, ◌==◌, if◌then◌else◌, List, [], ◌∷◌, ◌++◌, length, map, Option, Some, None, position, Result, Ok, Err, nat_le, nat_lt, refl, sym, ap, ap₂, subst, ◌∙◌, arith, append-nil, length-append, inl, inr}
+use Rattle.std.proofs.Common.{
+  ◌≡◌,
+  ℕ,
+  suc,
+  ◌+◌,
+  ◌≤◌,
+  Bool,
+  not,
+  true,
+  false,
+  ◌&&◌,
+  ◌==◌,
+  if◌then◌else◌,
+  List,
+  [],
+  ◌∷◌,
+  ◌++◌,
+  length,
+  map,
+  Option,
+  Some,
+  None,
+  position,
+  Result,
+  Ok,
+  Err,
+  nat_le,
+  nat_lt,
+  refl,
+  sym,
+  ap,
+  ap₂,
+  subst,
+  ◌∙◌,
+  arith,
+  append-nil,
+  length-append,
+  inl,
+  inr,
+}
 use Rattle.std.specs.Prelude.{codes}
 use Rattle.std.specs.List.{list_all, flat_map}
 use Rattle.std.proofs.lemmas.Bool.{and_parts, and_from, ltb-true, leb-true}
@@ -10,6 +49,8 @@ use Rattle.std.proofs.lemmas.List.Concat.{flat_map-cons}
 use Rattle.text_lines.specs.Text.{lines_of, count_text}
 use Rattle.syn_base.specs.Name.{is_name}
 use Rattle.archi_defs.specs.declared.Medium.{Medium}
+use Rattle.archi_defs.specs.declared.MediumKind.{MediumKind}
+use Rattle.archi_defs.specs.declared.MediumKind.TheVariants.{Multipoint, PointToPoint}
 use Rattle.archi_defs.specs.Archi.{ascends_from, is_depth, connections_in, operator_name}
 use Rattle.archi_defs.specs.declared.text.DurationLine.{DurationLine}
 use Rattle.archi_defs.specs.Refusals.{ArchiRefusal}
@@ -18,7 +59,23 @@ use Rattle.syn_base.specs.Bytes.{Bytes}
 use Rattle.archi_defs.specs.Text.{Described, Reading, start, next_line, rest_of, description_of, whole_of, whole, has_stands, all_joined, apart, medium_names, described, depth_or_one}
 use Rattle.text_lines.specs.Refusals.{and_then, refused, with_some}
 use Rattle.archi_reader.specs.Views.{IsSound, is_begun}
-use Rattle.archi_reader.specs.Canonical.{Words, joined, text_of, kind_word, version_words, depth_words, depth_lines, opening_lines, operator_words, medium_words, connect_words, connections_of, duration_words, canonical_lines, canonical_text}
+use Rattle.archi_reader.specs.Canonical.{
+  Words,
+  joined,
+  text_of,
+  kind_word,
+  version_words,
+  depth_words,
+  depth_lines,
+  opening_lines,
+  operator_words,
+  medium_words,
+  connect_words,
+  connections_of,
+  duration_words,
+  canonical_lines,
+  canonical_text,
+}
 use Rattle.archi_reader.proofs.Endings.{told, media_told, whole_fine}
 use Rattle.archi_reader.proofs.Following.{sound_next}
 use Rattle.archi_reader.proofs.Splits.{is_word, are_words, text_back}
@@ -105,9 +162,9 @@ operators_plain (w ∷ operators) h =
     let both = and_parts (is_name w) (list_all is_name operators) h in
     and_from (are_words (operator_words w)) _ (and_from (is_word w) true (name_word w both.0) refl) (operators_plain operators both.1)
 
-kind_plain : (multi : Bool) → is_word (kind_word multi) ≡ true
-kind_plain true = refl
-kind_plain false = refl
+kind_plain : (kind : MediumKind) → is_word (kind_word kind) ≡ true
+kind_plain PointToPoint = refl
+kind_plain Multipoint = refl
 
 media_plain : (media : List Medium) → list_all is_name (media_names media) ≡ true → list_all has_ticks media ≡ true → list_all are_words (map medium_words media) ≡ true
 media_plain [] h t = refl
@@ -118,7 +175,7 @@ media_plain (m ∷ media) h t =
     let low = leb-true m.fixed 1000000 each.0 in
     let low_per = leb-true m.per 1000000 each.1 in
     and_from (are_words (medium_words m)) _
-    (medium_plain m.name (kind_word m.multi) m.fixed m.per (name_word m.name both.0) (kind_plain m.multi) (number_word m.fixed (omega (arith, low))) (number_word m.per (omega (arith, low_per))))
+    (medium_plain m.name (kind_word m.kind) m.fixed m.per (name_word m.name both.0) (kind_plain m.kind) (number_word m.fixed (omega (arith, low))) (number_word m.per (omega (arith, low_per))))
     (media_plain media both.1 ticks.1)
 
 module _ (operators : List Bytes) (found : AreFound operators) where
@@ -127,7 +184,8 @@ module _ (operators : List Bytes) (found : AreFound operators) where
   stands_plain name (o ∷ os) named h =
       let both = and_parts (nat_lt o (length operators)) (list_all (λ p. nat_lt p (length operators)) os) h in
       let own = name_word (operator_name operators o) (found.named o (ltb-true o (length operators) both.0)) in
-      and_from (are_words (connect_words operators name o)) _ (and_from (is_word name) _ (name_word name named) (and_from (is_word (operator_name operators o)) true own refl)) (stands_plain name os named both.1)
+      and_from (are_words (connect_words operators name o)) _
+      (and_from (is_word name) _ (name_word name named) (and_from (is_word (operator_name operators o)) true own refl)) (stands_plain name os named both.1)
 
   connections_plain : (media : List Medium) → list_all is_name (media_names media) ≡ true → list_all (λ m. ascends_from 0 m.stands && list_all (λ o. nat_lt o (length operators)) m.stands) media ≡ true
       → list_all are_words (flat_map (connections_of operators) media) ≡ true
@@ -148,7 +206,9 @@ module _ (operators : List Bytes) (found : AreFound operators) where
       let low = leb-true d.ticks 1000000000 ticks.1 in
       let own = name_word (operator_name operators d.operator) (found.named d.operator (ltb-true d.operator (length operators) parts.1)) in
       and_from (are_words (duration_words operators d)) _
-      (and_from (is_word d.def) _ (name_word d.def parts.0) (and_from (is_word (operator_name operators d.operator)) _ own (and_from (is_word (count_text d.ticks)) true (number_word d.ticks (omega (arith, low))) refl)))
+      (and_from (is_word d.def) _ (name_word d.def parts.0)
+      (and_from (is_word (operator_name operators d.operator)) _ own
+      (and_from (is_word (count_text d.ticks)) true (number_word d.ticks (omega (arith, low))) refl)))
       (durations_plain durations both.1)
 
 -- the two parts of what begun media are
@@ -178,10 +238,12 @@ opening_back : (version depth : ℕ) (o : Option ℕ) → IsVersion (Some versio
     × (list_all are_words (opening_lines version depth) ≡ true)
     × (depth_or_one (one_or version depth) ≡ depth)
 opening_back version depth o (inl e) is deep =
-    subst (λ (v : ℕ). (after start 1 (opening_lines v depth) ≡ Ok (at_operators (record { version = v; depth = one_or v depth }) [])) × (list_all are_words (opening_lines v depth) ≡ true) × (depth_or_one (one_or v depth) ≡ depth))
+    subst (λ (v : ℕ). (after start 1 (opening_lines v depth) ≡ Ok (at_operators (record { version = v; depth = one_or v depth }) []))
+    × (list_all are_words (opening_lines v depth) ≡ true) × (depth_or_one (one_or v depth) ≡ depth))
     (sym e.0) (refl, refl, ap depth_or_one (sym e.1) ∙ is)
 opening_back version depth o (inr e) is deep =
-    subst (λ (v : ℕ). (after start 1 (opening_lines v depth) ≡ Ok (at_operators (record { version = v; depth = one_or v depth }) [])) × (list_all are_words (opening_lines v depth) ≡ true) × (depth_or_one (one_or v depth) ≡ depth))
+    subst (λ (v : ℕ). (after start 1 (opening_lines v depth) ≡ Ok (at_operators (record { version = v; depth = one_or v depth }) []))
+    × (list_all are_words (opening_lines v depth) ≡ true) × (depth_or_one (one_or v depth) ≡ depth))
     (sym e) (read, plain, refl)
   where
     small : depth ≤ 4
@@ -202,7 +264,8 @@ opening_back version depth o (inr e) is deep =
     both : next_line first 2 (joined (depth_words depth)) ≡ Ok (at_operators (record { version = 2; depth = Some depth }) [])
     both =
         described_back first 2 2 (codes "depth") (count_text depth ∷ []) words refl
-        ∙ ap (λ (x : Option ℕ). with_some x (refused 2 (BadNumber (count_text depth))) (λ (k : ℕ). Ok (at_operators (record { version = 2; depth = Some k }) []))) (depth_back depth deep (omega (arith, small)))
+        ∙ ap (λ (x : Option ℕ). with_some x (refused 2 (BadNumber (count_text depth)))
+        (λ (k : ℕ). Ok (at_operators (record { version = 2; depth = Some k }) []))) (depth_back depth deep (omega (arith, small)))
 
     read : after start 1 (opening_lines 2 depth) ≡ Ok (at_operators (record { version = 2; depth = Some depth }) [])
     read =
@@ -253,7 +316,8 @@ module _ (version : ℕ) (t : Reading) (sound : IsSound t) (spelled : IsSpelled 
         chained to_connections (map (duration_words t.operators) t.durations) start (at_connections opening t.operators t.media m.0 (0 + connections_in t.media)) _ 1
             (chained to_media (flat_map (connections_of t.operators) t.media) start (at_media opening t.operators (map bare t.media) m.0) _ 1
             (chained to_operators (map medium_words t.media) start (at_operators opening t.operators) _ 1 operator_lines m.1)
-            (connections_back opening t.operators m.0 found t.media [] 0 _ (rw append-nil sound.distinct) names.1 (begun_stands (length t.operators) t.media sound.begun) (omega (arith, sound.stands, sound.connections))))
+            (connections_back opening t.operators m.0 found t.media [] 0 _ (rw append-nil sound.distinct) names.1
+            (begun_stands (length t.operators) t.media sound.begun) (omega (arith, sound.stands, sound.connections))))
             (durations_back opening t.operators t.media m.0 (0 + connections_in t.media) found t.durations [] _ spelled.new spelled.durations),
       )
 
@@ -299,7 +363,19 @@ canonical_count version t versioned stands =
     let second : length b ≡ length t.media = search length-map in
     let fourth : length d ≡ length t.durations = search length-map in
     let one : said t.version ≡ 1 = ap said versioned in
-    omega (arith, length-append (((o ++ a) ++ b) ++ c) d, length-append ((o ++ a) ++ b) c, length-append (o ++ a) b, length-append o a, first, second, connections_count t.operators t.media, fourth, one, stands)
+    omega (
+      arith,
+      length-append (((o ++ a) ++ b) ++ c) d,
+      length-append ((o ++ a) ++ b) c,
+      length-append (o ++ a) b,
+      length-append o a,
+      first,
+      second,
+      connections_count t.operators t.media,
+      fourth,
+      one,
+      stands,
+    )
 
 start_sound : IsSound start
 start_sound = record { operators = omega arith; media = omega arith; lines = refl; stands = refl; connections = omega arith; begun = refl; depth = refl; distinct = refl }

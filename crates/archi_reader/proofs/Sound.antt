@@ -1,5 +1,42 @@
 -- What each line keeps.
-use Rattle.std.proofs.Common.{◌≡◌, ℕ, ◌+◌, Bool, not, true, false, cond, ◌||◌, ◌==◌, if◌then◌else◌, List, [], ◌∷◌, ◌++◌, length, Option, Some, None, Result, Ok, Err, ℤ, pos, negsuc, nat_le, nat_lt, refl, sym, ap, ap₂, subst, ◌∙◌, arith, append_assoc, append-nil}
+use Rattle.std.proofs.Common.{
+  ◌≡◌,
+  ℕ,
+  ◌+◌,
+  Bool,
+  not,
+  true,
+  false,
+  cond,
+  ◌||◌,
+  ◌==◌,
+  if◌then◌else◌,
+  List,
+  [],
+  ◌∷◌,
+  ◌++◌,
+  length,
+  Option,
+  Some,
+  None,
+  Result,
+  Ok,
+  Err,
+  ℤ,
+  pos,
+  negsuc,
+  nat_le,
+  nat_lt,
+  refl,
+  sym,
+  ap,
+  ap₂,
+  subst,
+  ◌∙◌,
+  arith,
+  append_assoc,
+  append-nil,
+}
 use Rattle.std.specs.Prelude.{codes, is_some}
 use Rattle.std.specs.List.{list_any, list_all, count_by}
 use Rattle.std.specs.Str.{bytes_eq}
@@ -17,7 +54,7 @@ use Rattle.archi_defs.specs.Archi.{ascends_from, are_distinct, is_depth, occurs_
 use Rattle.archi_defs.specs.Refusals.{ArchiRefusal}
 use Rattle.archi_defs.specs.declared.fault.ArchiCause.TheVariants.{BadName}
 use Rattle.syn_base.specs.Bytes.{Bytes}
-use Rattle.archi_defs.specs.Text.{Reading, up_to, all_names, medium_names, is_taken, depth_of, version_of, operator_line, medium_line, version_line, depth_line}
+use Rattle.archi_defs.specs.Text.{Reading, kind_of, up_to, all_names, medium_names, is_taken, depth_of, version_of, operator_line, medium_line, version_line, depth_line}
 use Rattle.text_lines.specs.Refusals.{refused, with_some, is_above}
 use Rattle.archi_reader.specs.Views.{IsSound, is_begun}
 use Rattle.archi_reader.proofs.Tables.{bytes_eq_sym, bytes_eq_self}
@@ -42,7 +79,8 @@ keeps_names {P} n w ws go h = by (is_name w) h
     by true k = k refl
     by false k = record { holds = tt }
 
-pub keeps_some : {P : Reading → Type 0} {A : Type 0} (o : Option A) (e : ArchiRefusal) (go : A → Result Reading ArchiRefusal) → ((x : A) → o ≡ Some x → Keeps P (go x)) → Keeps P (with_some o (Err e) go)
+pub keeps_some : {P : Reading → Type 0} {A : Type 0} (o : Option A) (e : ArchiRefusal) (go : A → Result Reading ArchiRefusal)
+    → ((x : A) → o ≡ Some x → Keeps P (go x)) → Keeps P (with_some o (Err e) go)
 keeps_some None e go h = record { holds = tt }
 keeps_some (Some x) e go h = h x refl
 
@@ -155,7 +193,10 @@ all_begun_more n (m ∷ media) h =
 
 pub sound_operator : (r : Reading) (n : ℕ) (ws : List Bytes) → IsSound r → Keeps IsSound (operator_line r n ws)
 sound_operator r n ws h =
-    keeps_if (not (length ws == 2)) _ _ (λ a. keeps_names n (word ws 1) [] _ (λ b. keeps_if (is_taken r (word ws 1)) _ _ (λ fresh. keeps_if (is_above Operators (length r.operators + 1)) _ _ (λ few. record { holds = sound fresh few }))))
+    keeps_if (not (length ws == 2)) _ _
+    (λ a. keeps_names n (word ws 1) [] _
+    (λ b. keeps_if (is_taken r (word ws 1)) _ _
+    (λ fresh. keeps_if (is_above Operators (length r.operators + 1)) _ _ (λ few. record { holds = sound fresh few }))))
   where
     sound : is_taken r (word ws 1) ≡ false → is_above Operators (length r.operators + 1) ≡ false → IsSound (record r { operators = r.operators ++ word ws 1 ∷ [] })
     sound fresh few =
@@ -175,11 +216,13 @@ sound_operator r n ws h =
 
 -- this many fixed ticks and ticks for each element
 abbrev medium_of : List Bytes → ℕ → ℕ → Medium
-medium_of ws fixed per = record { name = word ws 1; multi = bytes_eq (word ws 2) (codes "multi"); fixed = fixed; per = per; stands = [] }
+medium_of ws fixed per = record { name = word ws 1; kind = kind_of (word ws 2); fixed = fixed; per = per; stands = [] }
 
 pub sound_medium : (r : Reading) (n : ℕ) (ws : List Bytes) → IsSound r → Keeps IsSound (medium_line r n ws)
 sound_medium r n ws h =
-    keeps_if (not (length ws == 5) || not (bytes_eq (word ws 2) (codes "p2p") || bytes_eq (word ws 2) (codes "multi"))) _ _ (λ a. keeps_names n (word ws 1) [] _ (λ b. keeps_some (up_to 1000000 (integer_of (word ws 3))) _ _ (λ fixed f. keeps_some (up_to 1000000 (integer_of (word ws 4))) _ _ (λ per p.
+    keeps_if (not (length ws == 5) || not (bytes_eq (word ws 2) (codes "p2p") || bytes_eq (word ws 2) (codes "multi"))) _ _
+    (λ a. keeps_names n (word ws 1) [] _
+    (λ b. keeps_some (up_to 1000000 (integer_of (word ws 3))) _ _ (λ fixed f. keeps_some (up_to 1000000 (integer_of (word ws 4))) _ _ (λ per p.
     keeps_if (is_taken r (word ws 1)) _ _ (λ fresh. keeps_if (is_above Media (length r.media + 1)) _ _ (λ few. record {
       holds = sound fixed per (within 1000000 (integer_of (word ws 3)) fixed f) (within 1000000 (integer_of (word ws 4)) per p) fresh few;
     }))))))

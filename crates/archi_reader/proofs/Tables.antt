@@ -77,7 +77,8 @@ given_more tables lines w d new table given low same is after = record {
         ∙ ap₂ ◌||◌ before (sym (ap₂ ◌&&◌ (ap (λ (v : Bytes). bytes_eq v def) same) e ∙ and_true (bytes_eq w def)))
         ∙ sym (list_any-append (λ x. bytes_eq x.def def && (x.operator == o)) lines (d ∷ []) ∙ ap (λ (b : Bool). is_given lines def o || b) (or_false _))
     found_at def o false e =
-        let other : slice_index_or (slice_set tables d.operator table) o [] ≡ slice_index_or tables o [] = get_or-set_other tables d.operator o table [] (λ at. true_is_not_false (sym (eq-eqb d.operator o (sym at)) ∙ e)) in
+        let other : slice_index_or (slice_set tables d.operator table) o []
+        ≡ slice_index_or tables o [] = get_or-set_other tables d.operator o table [] (λ at. true_is_not_false (sym (eq-eqb d.operator o (sym at)) ∙ e)) in
         ap (list_any (bytes_eq def)) other ∙ given.found def o
         ∙ sym (list_any-append (λ x. bytes_eq x.def def && (x.operator == o)) lines (d ∷ [])
         ∙ ap (λ (b : Bool). is_given lines def o || (b || false)) (ap (λ (b : Bool). bytes_eq d.def def && b) e ∙ and_false (bytes_eq d.def def))

@@ -1,7 +1,9 @@
 -- The canonical text of an architecture and its durations, of a version.
-use Rattle.std.specs.Prelude.{ℕ, Bool, true, false, ◌==◌, if◌then◌else◌, List, [], ◌∷◌, ◌++◌, map, codes}
+use Rattle.std.specs.Prelude.{ℕ, ◌==◌, if◌then◌else◌, List, [], ◌∷◌, ◌++◌, map, codes}
 use Rattle.std.specs.List.{flat_map}
 use Rattle.archi_defs.specs.declared.Medium.{Medium}
+use Rattle.archi_defs.specs.declared.MediumKind.{MediumKind}
+use Rattle.archi_defs.specs.declared.MediumKind.TheVariants.{Multipoint, PointToPoint}
 use Rattle.archi_defs.specs.Archi.{Architecture, operator_name}
 use Rattle.archi_defs.specs.declared.text.DurationLine.{DurationLine}
 use Rattle.syn_base.specs.Bytes.{Bytes}
@@ -47,14 +49,14 @@ opening_lines version depth = version_words version ∷ depth_lines version dept
 abbrev pub operator_words : Bytes → Words
 operator_words name = codes "operator" ∷ name ∷ []
 
--- The word of the kind of a medium: `multi` if it may have more than two operators, else `p2p`.
-abbrev pub kind_word : Bool → Bytes
-kind_word true = codes "multi"
-kind_word false = codes "p2p"
+-- The word of a kind of media.
+abbrev pub kind_word : MediumKind → Bytes
+kind_word PointToPoint = codes "p2p"
+kind_word Multipoint = codes "multi"
 
 -- The words of the line of a medium.
 abbrev pub medium_words : Medium → Words
-medium_words m = codes "medium" ∷ m.name ∷ kind_word m.multi ∷ count_text m.fixed ∷ count_text m.per ∷ []
+medium_words m = codes "medium" ∷ m.name ∷ kind_word m.kind ∷ count_text m.fixed ∷ count_text m.per ∷ []
 
 -- The words of the line that connects operator o to the medium of this name.
 abbrev pub connect_words : List Bytes → Bytes → ℕ → Words

@@ -13,7 +13,6 @@ mod laws;
 mod names;
 mod print;
 mod reader;
-mod stands;
 mod whole;
 mod word;
 

@@ -6,7 +6,7 @@ ghost use Rattle.archi_defs.specs.Text.{described_by};
 ghost use Rattle.archi_reader.specs.Canonical.{canonical_text, joined, text_of, depth_lines, opening_lines, operator_words, version_word, kind_word, medium_words, connect_words, connections_of, duration_words};
 ghost use Rattle.text_lines.specs.Text.{count_text};
 
-use archi_defs::{ArchiText, DurationLine, Medium};
+use archi_defs::{ArchiText, DurationLine, Medium, MediumKind};
 use std::alloc::Global;
 use syn_base::{Name, OutOfMemory, print_int};
 
@@ -98,10 +98,13 @@ fn print_media(media: &[Medium], text: &mut Vec<u8>) -> Result<(), OutOfMemory>
 }
 
 /// The word for the kind of a medium.
-fn kind_word(multi: bool) -> &'static [u8]
-    ensures { result.now ≡ kind_word multi }
+fn kind_word(kind: MediumKind) -> &'static [u8]
+    ensures { result.now ≡ kind_word kind }
 {
-    if multi { b"multi" } else { b"p2p" }
+    match kind {
+        MediumKind::PointToPoint => b"p2p",
+        MediumKind::Multipoint => b"multi",
+    }
 }
 
 /// Appends the line of a medium.
@@ -111,7 +114,7 @@ fn print_medium(medium: &Medium, text: &mut Vec<u8>) -> Result<(), OutOfMemory>
     put(b"medium ", text)?;
     put(medium.name.as_bytes(), text)?;
     put(b" ", text)?;
-    put(kind_word(medium.multi), text)?;
+    put(kind_word(medium.kind), text)?;
     put(b" ", text)?;
     put_ticks(medium.fixed, medium.per, text)?;
     put(b"\n", text)

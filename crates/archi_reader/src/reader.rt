@@ -10,9 +10,8 @@ ghost use Rattle.archi_reader.specs.Views.{reading, IsSound};
 use crate::durations::Durations;
 use crate::fault::{bad_line, bad_name, bad_number, duplicate, not_text, unknown};
 use crate::names::{is_taken, medium_at, operator_at};
-use crate::stands::{has_stand, with_stand};
-use crate::word::{read_depth, read_up_to, read_version};
-use archi_defs::{ArchiError, ArchiText, Medium};
+use crate::word::{is_kind, kind_of, read_depth, read_up_to, read_version};
+use archi_defs::{ArchiError, ArchiText, Medium, has_stand, with_stand};
 use std::alloc::Global;
 use syn_base::{Items, LimitKind, Name};
 use text_lines::{TableKey, Words, check_limit, read_name};
@@ -98,8 +97,7 @@ impl<'a> Reader<'a> {
         if words.len() != 5 {
             return Err(bad_line(number));
         }
-        let multi = words.get(2) == b"multi".as_slice();
-        if !multi && words.get(2) != b"p2p".as_slice() {
+        if !is_kind(words.get(2)) {
             return Err(bad_line(number));
         }
         let word = words.get(1);
@@ -119,7 +117,7 @@ impl<'a> Reader<'a> {
         check_limit(LimitKind::Media, count)?;
         let medium = Medium {
             name,
-            multi,
+            kind: kind_of(words.get(2)),
             fixed,
             per,
             stands: Items::new(Vec::new(alloc)),

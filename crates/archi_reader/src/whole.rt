@@ -19,12 +19,7 @@ use text_lines::refused_at;
 fn has_stands(medium: &Medium) -> bool
     ensures { result ≡ has_stands medium.now }
 {
-    let stands = medium.stands.as_slice().len();
-    if medium.multi {
-        stands >= 2
-    } else {
-        stands == 2
-    }
+    medium.kind.may_have(medium.stands.as_slice().len())
 }
 
 /// The refusal of a medium at which too few operators stand, or too many, at its line.

@@ -66,7 +66,9 @@ module _ (ds : List Def) (rs : List Reference) where
   names_are links i (r ∷ us) = by (names_are links (i + 1) us) (reaches_itself links i)
     where
       by : flagged (map (reaches_itself links) (range_with_len (i + 1) (length us))) us ≡ names_of ds rs links (i + 1) us
-          → (b : Bool) → (if b then r.name ∷ flagged (map (reaches_itself links) (range_with_len (i + 1) (length us))) us else flagged (map (reaches_itself links) (range_with_len (i + 1) (length us))) us)
+          → (b : Bool) → (if b then r.name
+          ∷ flagged (map (reaches_itself links) (range_with_len (i + 1) (length us))) us else flagged
+          (map (reaches_itself links) (range_with_len (i + 1) (length us))) us)
           ≡ (if b then r.name ∷ names_of ds rs links (suc i) us else names_of ds rs links (suc i) us)
       by ih b =
           let Q : ℕ → Type 0 = λ k. flagged (map (reaches_itself links) (range_with_len (i + 1) (length us))) us ≡ names_of ds rs links k us in

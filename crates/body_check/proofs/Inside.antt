@@ -7,7 +7,6 @@ use Rattle.std.proofs.lemmas.List.{length-map}
 use Rattle.std.proofs.lemmas.List.Elements.{All-append}
 use Rattle.syn_base.specs.Bytes.{Bytes}
 use Rattle.algo_rules.specs.declared.Edge.{Edge}
-use Rattle.algo_rules.specs.declared.AlgoError.{AlgoError}
 use Rattle.algo_rules.specs.Answer.{AreInside}
 use Rattle.algo_rules.specs.declared.ports.Ports.{Ports}
 use Rattle.algo_rules.specs.Links.{first_of}
@@ -16,6 +15,7 @@ use Rattle.body_check.specs.Parts.{of, own, named, givers}
 use Rattle.body_check.specs.declared.parts.GraphParts.{GraphParts}
 use Rattle.body_check.proofs.NamesFound.{no_reference}
 use Rattle.body_check.proofs.Depends.{is_delayed}
+use Rattle.algo_rules.specs.Refusals.{AlgoRefusal}
 
 all_none : (P : ℕ → Type 0) → All P []
 all_none P k d lt = absurd (omega arith)
@@ -30,7 +30,7 @@ all_map P f h (x ∷ xs) zero d lt = h x
 all_map P f h (x ∷ xs) (suc k) d lt = all_map P f h xs k d (omega arith)
 
 -- none of a list is none at its head and none after
-head_none : (x : Option AlgoError) (xs : List (Option AlgoError)) → first_of (x ∷ xs) ≡ None → (x ≡ None) × (first_of xs ≡ None)
+head_none : (x : Option AlgoRefusal) (xs : List (Option AlgoRefusal)) → first_of (x ∷ xs) ≡ None → (x ≡ None) × (first_of xs ≡ None)
 head_none None xs h = (refl, h)
 head_none (Some e) xs h = absurd (cc)
 
@@ -74,6 +74,8 @@ module _ (g : GraphParts) where
 
   pub are_inside : first_of (edge_faults (of g) (own g) g.references.now [] g.edges.now) ≡ None → AreInside (dependences g.defs.now g.references.now g.edges.now)
   are_inside h =
-      let n : length g.references.now ≡ length (dependences g.defs.now g.references.now g.edges.now) = sym (length-map g.references.now (λ r. sources g.defs.now g.references.now g.edges.now r.name)) in
+      let n : length g.references.now
+      ≡ length (dependences g.defs.now g.references.now g.edges.now) =
+      sym (length-map g.references.now (λ r. sources g.defs.now g.references.now g.edges.now r.name)) in
       subst (λ (n : ℕ). All (All (λ b. b < n)) (dependences g.defs.now g.references.now g.edges.now)) n
       (all_map (λ ks. All (λ b. b < length g.references.now) ks) (λ r. sources g.defs.now g.references.now g.edges.now r.name) (λ r. sources_inside [] g.edges.now h r.name) g.references.now)

@@ -6,7 +6,6 @@ use Rattle.algo_rules.specs.declared.Port.{Port}
 use Rattle.algo_rules.specs.declared.Def.{Def}
 use Rattle.algo_rules.specs.declared.Edge.{Edge}
 use Rattle.algo_rules.specs.declared.Reference.{Reference}
-use Rattle.algo_rules.specs.declared.AlgoError.{AlgoError}
 use Rattle.algo_rules.specs.declared.ports.Ports.{Ports}
 use Rattle.algo_rules.specs.Links.{definition, first_of}
 use Rattle.algo_rules.specs.Ports.{no_ports, ports_of}
@@ -15,6 +14,7 @@ use Rattle.algo_rules.specs.Placed.{ArePlaced, Checks}
 use Rattle.body_check.specs.Parts.{of, own}
 use Rattle.body_check.specs.declared.parts.GraphParts.{GraphParts}
 use Rattle.body_check.proofs.Steps.{first_stops, first_passes}
+use Rattle.algo_rules.specs.Refusals.{AlgoError, AlgoRefusal}
 
 -- what the k-th reference names stands at the k-th place
 pub record IsThere (ds : List Def) (table : List Ports) (rs : List Reference) (places : List ℕ) (k : ℕ) : Type 0 where
@@ -46,10 +46,10 @@ are_there ds table (r ∷ rs) (p ∷ ps) h (suc k) lt =
     }
 
 -- the faults of these references, and then of the outputs
-abbrev pub open_at : GraphParts → List Edge → Reference → Option AlgoError
+abbrev pub open_at : GraphParts → List Edge → Reference → Option AlgoRefusal
 open_at g edges r = open_fault (of g) (own g) g.references.now edges r.line (Some r.name) (of g r.def).ins
 
-abbrev pub left_open : GraphParts → List Edge → List Reference → List (Option AlgoError)
+abbrev pub left_open : GraphParts → List Edge → List Reference → List (Option AlgoRefusal)
 left_open g edges rs = map (open_at g edges) rs ++ open_fault (of g) (own g) g.references.now edges g.line None (own g).outs ∷ []
 
 first_open : (g : GraphParts) (edges : List Edge) (rs : List Reference) (k : ℕ) (d : Reference) → k < length rs
@@ -65,10 +65,10 @@ pub open_passes : (g : GraphParts) (edges : List Edge) (rs : List Reference) (k 
 open_passes g edges rs k r ins at is lt none =
     sym (first_open g edges rs k r lt ∙ first_passes (open_at g edges (get_or rs k r)) (left_open g edges (drop (k + 1) rs)) (sym (open_is g edges rs k r ins at is) ∙ none))
 
-pub open_stops : (g : GraphParts) (edges : List Edge) (rs : List Reference) (k : ℕ) (r : Reference) (ins : List Port) (e : AlgoError) (all : Option AlgoError)
+pub open_stops : (g : GraphParts) (edges : List Edge) (rs : List Reference) (k : ℕ) (r : Reference) (ins : List Port) (e : AlgoError) (all : Option AlgoRefusal)
     → r ≡ get_or rs k r → ins ≡ (of g r.def).ins → k < length rs → first_of (left_open g edges (drop k rs)) ≡ all
     → Checks {A = Unit {0}} (Err e) (open_fault (of g) (own g) g.references.now edges r.line (Some r.name) ins) → Checks {A = Unit {0}} (Err e) all
 open_stops g edges rs k r ins e all at is lt rest stops =
-    subst (λ (x : Option AlgoError). Checks {A = Unit {0}} (Err e) x) (sym (first_open g edges rs k r lt) ∙ rest)
+    subst (λ (x : Option AlgoRefusal). Checks {A = Unit {0}} (Err e) x) (sym (first_open g edges rs k r lt) ∙ rest)
     (first_stops e (open_at g edges (get_or rs k r)) (left_open g edges (drop (k + 1) rs))
-    (subst (λ (x : Option AlgoError). Checks {A = Unit {0}} (Err e) x) (open_is g edges rs k r ins at is) stops))
+    (subst (λ (x : Option AlgoRefusal). Checks {A = Unit {0}} (Err e) x) (open_is g edges rs k r ins at is) stops))

@@ -6,8 +6,6 @@ use Rattle.std.proofs.lemmas.List.{take_more}
 use Rattle.syn_base.specs.Bytes.{Bytes}
 use Rattle.algo_rules.specs.declared.Port.{Port}
 use Rattle.algo_rules.specs.declared.Edge.{Edge}
-use Rattle.algo_rules.specs.declared.AlgoError.{AlgoError}
-use Rattle.algo_rules.specs.declared.AlgoError.TheVariants.{Refused, Limit, TooLarge, OutOfMemory}
 use Rattle.algo_rules.specs.Links.{first_of}
 use Rattle.algo_rules.specs.Ports.{number_of}
 use Rattle.algo_rules.specs.Graphs.{place, port_len, is_connected, edge_fault, edge_faults, joins}
@@ -17,25 +15,27 @@ use Rattle.body_check.specs.Marks.{AreMarked, HasRows, edge_by, mark_at, marked,
 use Rattle.body_check.specs.declared.parts.GraphParts.{GraphParts}
 use Rattle.body_check.proofs.NamesFound.{port_found}
 use Rattle.body_check.proofs.Marked.{more_marked, spot_below}
+use Rattle.text_lines.specs.declared.fault.TextError.TheVariants as error
+use Rattle.text_lines.specs.Refusals.{Refused, Limit}
+use Rattle.algo_rules.specs.Refusals.{AlgoError, AlgoRefusal}
 
 -- what is refused first is refused in the whole
-pub first_stops : (r : AlgoError) (x : Option AlgoError) (xs : List (Option AlgoError)) → Checks {A = Unit {0}} (Err r) x → Checks {A = Unit {0}} (Err r) (first_of (x ∷ xs))
-first_stops (Refused f) x xs h = subst (λ (x : Option AlgoError). first_of (x ∷ xs) ≡ Some (Refused f)) (sym h) refl
-first_stops (Limit f) x xs h = subst (λ (x : Option AlgoError). first_of (x ∷ xs) ≡ Some (Limit f)) (sym h) refl
-first_stops TooLarge x xs h = subst (λ (x : Option AlgoError). first_of (x ∷ xs) ≡ Some TooLarge) (sym h) refl
-first_stops OutOfMemory x xs h = h
+pub first_stops : (r : AlgoError) (x : Option AlgoRefusal) (xs : List (Option AlgoRefusal)) → Checks {A = Unit {0}} (Err r) x → Checks {A = Unit {0}} (Err r) (first_of (x ∷ xs))
+first_stops (error.Refused f) x xs h = subst (λ (x : Option AlgoRefusal). first_of (x ∷ xs) ≡ Some (Refused f)) (sym h) refl
+first_stops (error.Limit f) x xs h = subst (λ (x : Option AlgoRefusal). first_of (x ∷ xs) ≡ Some (Limit f)) (sym h) refl
+first_stops error.OutOfMemory x xs h = h
 
-pub first_passes : (x : Option AlgoError) (xs : List (Option AlgoError)) → x ≡ None → first_of (x ∷ xs) ≡ first_of xs
-first_passes x xs h = ap (λ (x : Option AlgoError). first_of (x ∷ xs)) h
+pub first_passes : (x : Option AlgoRefusal) (xs : List (Option AlgoRefusal)) → x ≡ None → first_of (x ∷ xs) ≡ first_of xs
+first_passes x xs h = ap (λ (x : Option AlgoRefusal). first_of (x ∷ xs)) h
 
 spot_there : (row : ℕ) (ps : List Port) (w : Bytes) (n : ℕ) → port_len ps w ≡ Some n → spot_in row ps w ≡ Some (row * 65 + number_of ps w)
 spot_there row ps w n h = ap (λ (b : Bool). if b then Some (row * 65 + number_of ps w) else None) (lt-ltb (number_of ps w) (length ps) (port_found ps w n h))
 
 module _ (g : GraphParts) where
-  abbrev pub fault_at : Bool → Edge → Option AlgoError
+  abbrev pub fault_at : Bool → Edge → Option AlgoRefusal
   fault_at t e = edge_by t e (port_len (givers g e.from.owner) e.from.port) (port_len (takers g e.to.owner) e.to.port)
 
-  abbrev pub faults : List Edge → List Edge → List (Option AlgoError)
+  abbrev pub faults : List Edge → List Edge → List (Option AlgoRefusal)
   faults before es = edge_faults (of g) (own g) g.references.now before es
 
   edge_is : (before : List Edge) (e : Edge) (t : Bool) → t ≡ is_connected before e.to → fault_at t e ≡ edge_fault (of g) (own g) g.references.now before e
@@ -64,7 +64,7 @@ module _ (g : GraphParts) where
   first_edge marks es i e t at lt told h =
       let a : drop i es ≡ e ∷ drop (i + 1) es = rw add-one (drop-cons es i e lt ∙ ap (λ (x : Edge). x ∷ drop (suc i) es) (sym at)) in
       ap (λ (ds : List Edge). first_of (faults (take i es) ds)) a
-      ∙ ap (λ (x : Option AlgoError). first_of (x ∷ faults (take i es ++ e ∷ []) (drop (i + 1) es))) (sym (edge_is (take i es) e t (told ∙ h e.to.owner e.to.port)))
+      ∙ ap (λ (x : Option AlgoRefusal). first_of (x ∷ faults (take i es ++ e ∷ []) (drop (i + 1) es))) (sym (edge_is (take i es) e t (told ∙ h e.to.owner e.to.port)))
       ∙ ap (λ (ts : List Edge). first_of (fault_at t e ∷ faults ts (drop (i + 1) es))) (sym (next es i e at lt))
 
   pub edge_passes : (marks : List Bool) (es : List Edge) (i : ℕ) (e : Edge) (t : Bool) → e ≡ get_or es i e → i < length es
@@ -73,11 +73,11 @@ module _ (g : GraphParts) where
   edge_passes marks es i e t at lt told h none =
       sym (first_edge marks es i e t at lt told h ∙ first_passes (fault_at t e) (faults (take (i + 1) es) (drop (i + 1) es)) none)
 
-  pub edge_stops : (marks : List Bool) (es : List Edge) (i : ℕ) (e : Edge) (t : Bool) (r : AlgoError) (all : Option AlgoError) → e ≡ get_or es i e → i < length es
+  pub edge_stops : (marks : List Bool) (es : List Edge) (i : ℕ) (e : Edge) (t : Bool) (r : AlgoError) (all : Option AlgoRefusal) → e ≡ get_or es i e → i < length es
       → t ≡ marked marks (spot g e.to.owner e.to.port) → AreMarked g marks (take i es) → first_of (faults (take i es) (drop i es)) ≡ all
       → Checks {A = Unit {0}} (Err r) (fault_at t e) → Checks {A = Unit {0}} (Err r) all
   edge_stops marks es i e t r all at lt told h rest stops =
-      subst (λ (x : Option AlgoError). Checks {A = Unit {0}} (Err r) x) (sym (first_edge marks es i e t at lt told h) ∙ rest)
+      subst (λ (x : Option AlgoRefusal). Checks {A = Unit {0}} (Err r) x) (sym (first_edge marks es i e t at lt told h) ∙ rest)
       (first_stops r (fault_at t e) (faults (take (i + 1) es) (drop (i + 1) es)) stops)
 
   pub edge_marked : IsPlacedGraph g → HasRows g → (marks : List Bool) (es : List Edge) (i : ℕ) (e : Edge) (t : Bool) (o : Option ℕ) → e ≡ get_or es i e → i < length es

@@ -2,9 +2,9 @@
 use Rattle.std.specs.Prelude.{ℕ, Bool, List, Option, Some, None, if◌then◌else◌}
 use Rattle.std.specs.List.{flat_map}
 use Rattle.syn_base.specs.Bytes.{Bytes}
+use Rattle.algo_rules.specs.Refusals.{AlgoRefusal}
 use Rattle.algo_rules.specs.declared.Port.{Port}
 use Rattle.algo_rules.specs.declared.FrontierLine.{FrontierLine}
-use Rattle.algo_rules.specs.declared.AlgoError.{AlgoError}
 use Rattle.algo_rules.specs.declared.AlgoCause.TheVariants.{BadRepeat}
 use Rattle.algo_rules.specs.Links.{fault}
 use Rattle.algo_rules.specs.Ports.{has_port, len_of}
@@ -23,6 +23,6 @@ abbrev pub found_len : List Port → Bytes → Option ℕ
 found_len ps w = len_where (has_port ps w) ps w
 
 -- The fault of a line whose outer port has this length, if its inner ports are used rightly.
-abbrev pub fault_by : ℕ → Option ℕ → Option AlgoError
+abbrev pub fault_by : ℕ → Option ℕ → Option AlgoRefusal
 fault_by line None = fault line BadRepeat
 fault_by line (Some len) = too_long len

@@ -24,7 +24,6 @@ use Rattle.std.specs.List.{All}
 use Rattle.syn_base.specs.Bytes.{Bytes}
 use Rattle.algo_rules.specs.declared.Port.{Port}
 use Rattle.algo_rules.specs.declared.Edge.{Edge}
-use Rattle.algo_rules.specs.declared.AlgoError.{AlgoError}
 use Rattle.algo_rules.specs.declared.AlgoCause.TheVariants.{UnknownName, WrongLength, TwiceConnected}
 use Rattle.algo_rules.specs.Words.{end_word}
 use Rattle.algo_rules.specs.Links.{fault}
@@ -32,6 +31,7 @@ use Rattle.algo_rules.specs.Ports.{no_ports, number_of}
 use Rattle.algo_rules.specs.Graphs.{place, is_connected}
 use Rattle.body_check.specs.Parts.{named}
 use Rattle.body_check.specs.declared.parts.GraphParts.{GraphParts}
+use Rattle.algo_rules.specs.Refusals.{AlgoRefusal}
 
 -- The place of a port in a row.
 abbrev pub spot_in : ℕ → List Port → Bytes → Option ℕ
@@ -64,7 +64,7 @@ pub record HasRows (g : GraphParts) : Type 0 where
   pub ins : All (λ p. length (slice_index_or g.table.now p no_ports).ins ≤ 65) g.places.now
 
 -- An edge between ports of these lengths, if they are there, into an end that is marked or not.
-abbrev pub edge_by : Bool → Edge → Option ℕ → Option ℕ → Option AlgoError
+abbrev pub edge_by : Bool → Edge → Option ℕ → Option ℕ → Option AlgoRefusal
 edge_by is_twice e None to = fault e.line (UnknownName (end_word e.from))
 edge_by is_twice e (Some n) None = fault e.line (UnknownName (end_word e.to))
 edge_by is_twice e (Some n) (Some m) =

@@ -1,18 +1,9 @@
-//! The refusals of the checks of frontier lines and cases. None of them takes memory.
-ghost use Rattle.std.specs.Prelude.{◌≡◌, Some};
+//! The limit on the lengths of outer ports, for the checks of frontier lines. It takes no memory.
 ghost use Rattle.algo_rules.specs.Frontiers.{too_long};
-ghost use Rattle.algo_rules.specs.Links.{fault};
 ghost use Rattle.algo_rules.specs.Placed.{Checks};
 
-use algo_rules::{AlgoCause, AlgoError, AlgoFault};
+use algo_rules::AlgoError;
 use syn_base::{LimitFault, LimitKind};
-
-/// The refusal of a line.
-pub fn refusal(line: u32, cause: AlgoCause) -> AlgoError
-    ensures { Some result ≡ fault line cause }
-{
-    AlgoError::Refused(AlgoFault { line, cause })
-}
 
 /// The limit, with the length, where a port would have more than 64 elements.
 pub fn check_len(len: u32) -> Result<(), AlgoError>

@@ -5,16 +5,10 @@ ghost use Rattle.algo_rules.specs.Returned.{Tells};
 ghost use Rattle.algo_rules.specs.Words.{end_word};
 ghost use Rattle.algo_rules.specs.Links.{fault};
 
-use algo_rules::{AlgoCause, AlgoError, AlgoFault, End};
+use algo_rules::{AlgoCause, AlgoError, End};
 use std::alloc::Global;
 use syn_base::{Items, Name, OutOfMemory};
-
-/// The refusal of a line for this cause.
-fn refusal(line: u32, cause: AlgoCause) -> AlgoError
-    ensures { Tells result (fault line cause) }
-{
-    AlgoError::Refused(AlgoFault { line, cause })
-}
+use text_lines::refused_at;
 
 /// An end as it is written: its owner, a dot and its port.
 fn joined(alloc: Global, owner: &[u8], port: &[u8]) -> Result<Items<u8>, OutOfMemory>
@@ -41,7 +35,7 @@ pub fn unknown(alloc: Global, line: u32, end: &End) -> AlgoError
     ensures { Tells result (fault line (UnknownName (end_word end.now))) }
 {
     match written(alloc, end) {
-        Ok(word) => refusal(line, AlgoCause::UnknownName(word)),
+        Ok(word) => refused_at(line, AlgoCause::UnknownName(word)),
         Err(_) => AlgoError::OutOfMemory,
     }
 }
@@ -51,7 +45,7 @@ pub fn wrong_length(alloc: Global, line: u32, end: &End) -> AlgoError
     ensures { Tells result (fault line (WrongLength (end_word end.now))) }
 {
     match written(alloc, end) {
-        Ok(word) => refusal(line, AlgoCause::WrongLength(word)),
+        Ok(word) => refused_at(line, AlgoCause::WrongLength(word)),
         Err(_) => AlgoError::OutOfMemory,
     }
 }
@@ -61,7 +55,7 @@ pub fn twice(alloc: Global, line: u32, end: &End) -> AlgoError
     ensures { Tells result (fault line (TwiceConnected (end_word end.now))) }
 {
     match written(alloc, end) {
-        Ok(word) => refusal(line, AlgoCause::TwiceConnected(word)),
+        Ok(word) => refused_at(line, AlgoCause::TwiceConnected(word)),
         Err(_) => AlgoError::OutOfMemory,
     }
 }
@@ -71,7 +65,7 @@ pub fn open_input(alloc: Global, line: u32, owner: &[u8], port: &[u8]) -> AlgoEr
     ensures { Tells result (fault line (Unconnected (owner.now ++ 46 ∷ port.now))) }
 {
     match joined(alloc, owner, port) {
-        Ok(word) => refusal(line, AlgoCause::Unconnected(word)),
+        Ok(word) => refused_at(line, AlgoCause::Unconnected(word)),
         Err(_) => AlgoError::OutOfMemory,
     }
 }
@@ -81,7 +75,7 @@ pub fn open_output(alloc: Global, line: u32, port: &[u8]) -> AlgoError
     ensures { Tells result (fault line (Unconnected port.now)) }
 {
     match Vec::from_slice(alloc, port) {
-        Ok(word) => refusal(line, AlgoCause::Unconnected(Items::new(word))),
+        Ok(word) => refused_at(line, AlgoCause::Unconnected(Items::new(word))),
         Err(_) => AlgoError::OutOfMemory,
     }
 }
@@ -90,5 +84,5 @@ pub fn open_output(alloc: Global, line: u32, port: &[u8]) -> AlgoError
 pub fn cycle(line: u32, names: Vec<Name>) -> AlgoError
     ensures { Tells result (fault line (Cycle names.items)) }
 {
-    refusal(line, AlgoCause::Cycle(Items::new(names)))
+    refused_at(line, AlgoCause::Cycle(Items::new(names)))
 }

@@ -8,10 +8,11 @@ ghost use Rattle.algo_rules.specs.Ports.{has_port};
 ghost use Rattle.body_check.specs.Bounds.{AreShort, HasShortPorts};
 ghost use Rattle.body_check.specs.Lines.{all_used, len_where, fault_by};
 
-use crate::frontier_fault::{check_len, refusal};
+use crate::frontier_fault::check_len;
 use crate::lookup::port_len;
 use algo_rules::{AlgoCause, AlgoError, Frontier, FrontierLine, Port, Ports};
 use syn_base::Name;
+use text_lines::refused_at;
 
 /// Whether the lines of a repetition at `line` use the ports of its body rightly. Line by line,
 /// BadRepeat comes where an inner port is not there, an inner input was used before or an iterate
@@ -31,7 +32,7 @@ pub fn check_repeat(
         check_line(copies, inner, &lines[..at], next)?;
     }
     if !are_used(inner.ins.as_slice(), lines) {
-        return Err(refusal(line, AlgoCause::BadRepeat));
+        return Err(refused_at(line, AlgoCause::BadRepeat));
     }
     Ok(())
 }
@@ -49,7 +50,7 @@ fn check_line(
 {
     match outer_len(copies, inner, before, &next.frontier) {
         Some(len) => check_len(len),
-        None => Err(refusal(next.line, AlgoCause::BadRepeat)),
+        None => Err(refused_at(next.line, AlgoCause::BadRepeat)),
     }
 }
 

@@ -5,9 +5,9 @@ ghost use Rattle.algo_rules.specs.Frontiers.{case_fault, fits, has_value, switch
 ghost use Rattle.algo_rules.specs.Placed.{Checks, ArePlaced};
 ghost use Rattle.algo_rules.specs.Ports.{no_ports, ports_of, same_ports};
 
-use crate::frontier_fault::refusal;
 use algo_rules::{AlgoCause, AlgoError, Case, Def, Port, Ports};
 use syn_base::Name;
+use text_lines::refused_at;
 
 /// A switch, with the definitions of its text.
 #[derive(Clone, Copy)]
@@ -48,7 +48,7 @@ pub fn check_switch(switch: &SwitchParts) -> Result<(), AlgoError>
     }
     let ports = ports_at(table, places[cases.len()]);
     if !fits(ins, outs, ports) {
-        return Err(refusal(switch.otherwise_line, AlgoCause::BadCase));
+        return Err(refused_at(switch.otherwise_line, AlgoCause::BadCase));
     }
     Ok(())
 }
@@ -72,7 +72,7 @@ pub fn check_case(
     ensures { Checks result (case_fault (λ w. ports.now) ins.now outs.now (map (λ c. c.value) before.now) case.now) }
 {
     if has_value(before, case.value) || !fits(ins, outs, ports) {
-        return Err(refusal(case.line, AlgoCause::BadCase));
+        return Err(refused_at(case.line, AlgoCause::BadCase));
     }
     Ok(())
 }

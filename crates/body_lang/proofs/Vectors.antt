@@ -1,5 +1,36 @@
 -- A flat row cut into vectors: its lengths, zeros, and a vector that is written.
-use Rattle.std.proofs.Common.{◌≡◌, ℕ, zero, suc, ◌+◌, ◌-◌, ◌<◌, ℤ, pos, List, [], ◌∷◌, ◌++◌, length, get_or, set, take, drop, map, refl, sym, ap, ap₂, subst, ◌∙◌, arith, zero-add, append_assoc, length-take, length-drop}
+use Rattle.std.proofs.Common.{
+  ◌≡◌,
+  ℕ,
+  zero,
+  suc,
+  ◌+◌,
+  ◌-◌,
+  ◌<◌,
+  ℤ,
+  pos,
+  List,
+  [],
+  ◌∷◌,
+  ◌++◌,
+  length,
+  get_or,
+  set,
+  take,
+  drop,
+  map,
+  refl,
+  sym,
+  ap,
+  ap₂,
+  subst,
+  ◌∙◌,
+  arith,
+  zero-add,
+  append_assoc,
+  length-take,
+  length-drop,
+}
 use Rattle.std.proofs.Math.ListN.{replicate}
 use Rattle.std.proofs.Math.Seq.{take-append-add, drop-append-add, take-append_seam, drop-append_seam}
 use Rattle.std.specs.List.{sum}
@@ -22,7 +53,8 @@ pub cut-zeros : (lens : List ℕ) → cut lens (replicate (sum lens) (pos 0)) �
 cut-zeros [] = refl
 cut-zeros (len ∷ lens) =
     ap (λ n. cut (len ∷ lens) (replicate n (pos 0))) (sum_by-cons (λ x. x) len lens)
-    ∙ ap₂ (λ a b. a ∷ cut lens b) (take-replicate len (len + sum lens) (pos 0) (omega arith)) (drop-replicate len (len + sum lens) (pos 0) ∙ ap (λ n. replicate n (pos 0)) (let e : len + sum lens - len ≡ sum lens = omega arith in e))
+    ∙ ap₂ (λ a b. a ∷ cut lens b) (take-replicate len (len + sum lens) (pos 0) (omega arith))
+    (drop-replicate len (len + sum lens) (pos 0) ∙ ap (λ n. replicate n (pos 0)) (let e : len + sum lens - len ≡ sum lens = omega arith in e))
     ∙ ap (λ vs. zeros len ∷ vs) (cut-zeros lens)
 
 -- a row whose first vector is a, with what is written after it
@@ -48,7 +80,8 @@ cut-put (len ∷ lens) row vector (suc v) h long is =
     let whole : take len row ++ drop len row ≡ row = take-append-drop len row in
     let place : sum (take (suc v) (len ∷ lens)) ≡ length (take len row) + s = omega (arith, sum_by-cons (λ x. x) len (take v lens)) in
     let rest : drop (sum (take (suc v) (len ∷ lens)) + length vector) row ≡ drop (s + length vector) (drop len row) =
-    ap₂ drop (let e : sum (take (suc v) (len ∷ lens)) + length vector ≡ length (take len row) + (s + length vector) = omega arith in e) (sym whole) ∙ drop-append-add (take len row) (drop len row) (s + length vector) in
+    ap₂ drop (let e : sum (take (suc v) (len ∷ lens)) + length vector ≡ length (take len row) + (s + length vector) = omega arith in e)
+    (sym whole) ∙ drop-append-add (take len row) (drop len row) (s + length vector) in
     ap₂ (λ r t. cut (len ∷ lens) (r ++ (vector ++ t))) (ap₂ take place (sym whole)) rest
     ∙ ap (λ n. cut (n ∷ lens) (take (length (take len row) + s) (take len row ++ drop len row) ++ (vector ++ drop (s + length vector) (drop len row)))) (sym head)
     ∙ put_behind lens (take len row) (drop len row) vector (vector ++ drop (s + length vector) (drop len row)) s

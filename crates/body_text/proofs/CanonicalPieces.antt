@@ -1,5 +1,38 @@
 -- A name or a number at the front of a text is the first token.
-use Rattle.std.proofs.Common.{◌≡◌, ℕ, suc, ◌≤◌, ◌<◌, ◌^◌, ◌==◌, min, Bool, true, false, not, ◌&&◌, ◌||◌, if◌then◌else◌, [], ◌∷◌, ◌++◌, length, Ok, ℤ, pos, negsuc, refl, ap, ◌∙◌, arith, rules, nat_le, leb-true, w64, FitsSigned}
+use Rattle.std.proofs.Common.{
+  ◌≡◌,
+  ℕ,
+  suc,
+  ◌≤◌,
+  ◌<◌,
+  ◌^◌,
+  ◌==◌,
+  min,
+  Bool,
+  true,
+  false,
+  not,
+  ◌&&◌,
+  ◌||◌,
+  if◌then◌else◌,
+  [],
+  ◌∷◌,
+  ◌++◌,
+  length,
+  Ok,
+  ℤ,
+  pos,
+  negsuc,
+  refl,
+  ap,
+  ◌∙◌,
+  arith,
+  rules,
+  nat_le,
+  leb-true,
+  w64,
+  FitsSigned,
+}
 use Rattle.std.specs.List.{list_all}
 use Rattle.std.specs.Fmt.{decimal, signed_decimal}
 use Rattle.std.proofs.lemmas.Fmt.{digits_decimal, decimal_nonempty}

@@ -1,5 +1,34 @@
 -- The ports of a written expression, by number and back by name.
-use Rattle.std.proofs.Common.{◌≡◌, ℕ, suc, ◌+◌, ◌<◌, Bool, true, false, not, cond, ◌||◌, List, [], ◌∷◌, ◌++◌, length, Option, Some, None, refl, sym, ap, ap₂, ◌∙◌, arith, slice_index_or, bytes_eq, codes}
+use Rattle.std.proofs.Common.{
+  ◌≡◌,
+  ℕ,
+  suc,
+  ◌+◌,
+  ◌<◌,
+  Bool,
+  true,
+  false,
+  not,
+  cond,
+  ◌||◌,
+  List,
+  [],
+  ◌∷◌,
+  ◌++◌,
+  length,
+  Option,
+  Some,
+  None,
+  refl,
+  sym,
+  ap,
+  ap₂,
+  ◌∙◌,
+  arith,
+  slice_index_or,
+  bytes_eq,
+  codes,
+}
 use Rattle.std.specs.List.{list_any, position_or_len}
 use Rattle.std.proofs.lemmas.Slice.Eq.{bytes_eq-Decides}
 use Rattle.syn_base.specs.declared.arithmetic.Op.TheVariants.{Neg}
@@ -23,7 +52,8 @@ later_any true more h e = cc
 later_any false more h e = h
 
 -- a port of this name has a number, which is of this name
-numbered : (p : Bytes) (ports : List Bytes) → list_any (bytes_eq p) ports ≡ true → (position_or_len (bytes_eq p) ports < length ports) × (slice_index_or ports (position_or_len (bytes_eq p) ports) [] ≡ p)
+numbered : (p : Bytes) (ports : List Bytes) → list_any (bytes_eq p) ports ≡ true → (position_or_len (bytes_eq p) ports < length ports)
+    × (slice_index_or ports (position_or_len (bytes_eq p) ports) [] ≡ p)
 numbered p [] h = cc
 numbered p (q ∷ qs) h = found (bytes_eq p q) (position_or_len (bytes_eq p) qs) p q qs (λ e. (bytes_eq-Decides p q).0 e) (λ e. numbered p qs (later_any (bytes_eq p q) (list_any (bytes_eq p) qs) h e))
 

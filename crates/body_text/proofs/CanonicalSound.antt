@@ -1,5 +1,41 @@
 -- The names of a text's tokens are names, and its numbers fit 64 bits.
-use Rattle.std.proofs.Common.{◌≡◌, ℕ, zero, suc, ◌-◌, ◌≤◌, ◌^◌, ◌==◌, Bool, true, false, if◌then◌else◌, List, [], ◌∷◌, ◌++◌, take, Option, Some, None, Result, Ok, Err, ℤ, pos, neg_ℤ, refl, sym, subst, arith, nat_le, leb-true, w64, FitsSigned, append_assoc}
+use Rattle.std.proofs.Common.{
+  ◌≡◌,
+  ℕ,
+  zero,
+  suc,
+  ◌-◌,
+  ◌≤◌,
+  ◌^◌,
+  ◌==◌,
+  Bool,
+  true,
+  false,
+  if◌then◌else◌,
+  List,
+  [],
+  ◌∷◌,
+  ◌++◌,
+  take,
+  Option,
+  Some,
+  None,
+  Result,
+  Ok,
+  Err,
+  ℤ,
+  pos,
+  neg_ℤ,
+  refl,
+  sym,
+  subst,
+  arith,
+  nat_le,
+  leb-true,
+  w64,
+  FitsSigned,
+  append_assoc,
+}
 use Rattle.syn_base.specs.Name.{is_name}
 use Rattle.syn_base.specs.declared.integer.NumFault.{NumFault}
 use Rattle.syn_base.specs.declared.integer.NumFault.TheVariants.{TooLarge}
@@ -70,7 +106,8 @@ word_sound : (word : Bytes) → IsSound (word_token word)
 word_sound word = word_by (is_name word) word refl
 
 mark_sound : (v w x y z : Bool) (word : Bytes)
-    → IsSound (mark_or_word (if v then Some open_round else (if w then Some close_round else (if x then Some open_square else (if y then Some close_square else (if z then Some comma else None))))) word)
+    → IsSound (mark_or_word (if v then Some open_round else
+    (if w then Some close_round else (if x then Some open_square else (if y then Some close_square else (if z then Some comma else None))))) word)
 mark_sound true w x y z word = tt
 mark_sound false true x y z word = tt
 mark_sound false false true y z word = tt

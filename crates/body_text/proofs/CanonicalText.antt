@@ -76,7 +76,9 @@ tree_text (negation a) s = joined (named (word_of Neg) refl) refl (open_round_th
 tree_text (apply op a b) s =
     joined (named (word_of op) (word_is_name op)) refl (open_round_then (joined (tree_text a s.0) refl (comma_then (joined (tree_text b s.1) refl close_round_text))))
 tree_text (select c a b) s =
-    joined (named (codes "select") refl) refl (open_round_then (joined (tree_text c s.0) refl (comma_then (joined (tree_text a s.1.0) refl (comma_then (joined (tree_text b s.1.1) refl close_round_text))))))
+    joined (named (codes "select") refl) refl
+    (open_round_then (joined (tree_text c s.0) refl
+    (comma_then (joined (tree_text a s.1.0) refl (comma_then (joined (tree_text b s.1.1) refl close_round_text))))))
 
 -- the text's tokens are those that the grammar writes
 pub text_tokens : (w : Written) → IsSoundTree w → tokens (text_of w) ≡ written w

@@ -60,7 +60,8 @@ complete_step n below (apply op a b) rest proper clear short =
     let size = length_two (name (word_of op)) open_round (written a) (written b) comma close_round in
     word_goes n (Operator op) _ (operator_named op proper.0)
     ∙ ap (λ xs. apply_of (parse n) op xs) (sym (two_tail (written a) (written b) comma close_round rest))
-    ∙ ap (λ (q : Parse). andthen q (λ a rest. andthen (ended (parse n) CloseRound rest) (λ b last. good (apply op a b) last))) (ended_complete n below Comma refl a (written b ++ close_round ∷ rest) proper.1.0 (omega (arith, size)))
+    ∙ ap (λ (q : Parse). andthen q (λ a rest. andthen (ended (parse n) CloseRound rest) (λ b last. good (apply op a b) last)))
+    (ended_complete n below Comma refl a (written b ++ close_round ∷ rest) proper.1.0 (omega (arith, size)))
     ∙ ap (λ (q : Parse). andthen q (λ b last. good (apply op a b) last)) (ended_complete n below CloseRound refl b rest proper.1.1 (omega (arith, size)))
 complete_step n below (select c a b) rest proper clear short =
     let size = length_three (name (codes "select")) open_round (written c) (written a) (written b) comma comma close_round in
@@ -68,7 +69,8 @@ complete_step n below (select c a b) rest proper clear short =
     ∙ ap (λ xs. select_of (parse n) xs) (sym (three_tail (written c) (written a) (written b) comma comma close_round rest))
     ∙ ap (λ (q : Parse). andthen q (λ c rest. andthen (ended (parse n) Comma rest) (λ a more. andthen (ended (parse n) CloseRound more) (λ b last. good (select c a b) last))))
     (ended_complete n below Comma refl c (written a ++ comma ∷ (written b ++ close_round ∷ rest)) proper.0 (omega (arith, size)))
-    ∙ ap (λ (q : Parse). andthen q (λ a more. andthen (ended (parse n) CloseRound more) (λ b last. good (select c a b) last))) (ended_complete n below Comma refl a (written b ++ close_round ∷ rest) proper.1.0 (omega (arith, size)))
+    ∙ ap (λ (q : Parse). andthen q (λ a more. andthen (ended (parse n) CloseRound more) (λ b last. good (select c a b) last)))
+    (ended_complete n below Comma refl a (written b ++ close_round ∷ rest) proper.1.0 (omega (arith, size)))
     ∙ ap (λ (q : Parse). andthen q (λ b last. good (select c a b) last)) (ended_complete n below CloseRound refl b rest proper.1.1 (omega (arith, size)))
 
 pub complete : (n : ℕ) → Completes n

@@ -1,5 +1,37 @@
 -- Cutting a text into tokens.
-use Rattle.std.proofs.Common.{◌≡◌, ℕ, zero, suc, ◌+◌, ◌-◌, ◌<◌, ◌≤◌, false, true, Bool, not, cond, min, List, [], ◌∷◌, ◌++◌, length, take, drop, get_or, refl, arith, ap, ap₂, map, ◌∙◌, drop-cons, length-drop, append_assoc}
+use Rattle.std.proofs.Common.{
+  ◌≡◌,
+  ℕ,
+  zero,
+  suc,
+  ◌+◌,
+  ◌-◌,
+  ◌<◌,
+  ◌≤◌,
+  false,
+  true,
+  Bool,
+  not,
+  cond,
+  min,
+  List,
+  [],
+  ◌∷◌,
+  ◌++◌,
+  length,
+  take,
+  drop,
+  get_or,
+  refl,
+  arith,
+  ap,
+  ap₂,
+  map,
+  ◌∙◌,
+  drop-cons,
+  length-drop,
+  append_assoc,
+}
 use Rattle.std.specs.Prelude.{slice_range}
 use Rattle.std.proofs.lemmas.List.{drop-drop, map_push, drop_all, take_all}
 use Rattle.std.proofs.lemmas.List.Sums.{prefix_len-le-length}

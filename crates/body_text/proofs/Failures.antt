@@ -1,5 +1,35 @@
 -- Where parsing stops, the tokens in front begin an expression's, and no further token changes where it stops.
-use Rattle.std.proofs.Common.{◌≡◌, ◌≢◌, ℕ, zero, suc, ◌<◌, false, true, Bool, cond, Option, Some, None, pos, List, [], ◌∷◌, ◌++◌, length, drop, refl, arith, ap, ap₂, sym, ◌∙◌, subst, append_assoc, codes}
+use Rattle.std.proofs.Common.{
+  ◌≡◌,
+  ◌≢◌,
+  ℕ,
+  zero,
+  suc,
+  ◌<◌,
+  false,
+  true,
+  Bool,
+  cond,
+  Option,
+  Some,
+  None,
+  pos,
+  List,
+  [],
+  ◌∷◌,
+  ◌++◌,
+  length,
+  drop,
+  refl,
+  arith,
+  ap,
+  ap₂,
+  sym,
+  ◌∙◌,
+  subst,
+  append_assoc,
+  codes,
+}
 use Rattle.std.specs.Str.{bytes_eq}
 use Rattle.std.proofs.lemmas.List.{length-append}
 use Rattle.syn_base.specs.declared.arithmetic.Op.{Op}
@@ -13,7 +43,29 @@ use Rattle.body_text.specs.Tokens.{Token, number, name, open_round, close_round,
 use Rattle.body_text.specs.Cut.{mark_view}
 use Rattle.body_text.specs.Grammar.{Written, literal, index, element, sum_over, negation, apply, select, written, word_of, IsProper, IsExpression}
 use Rattle.body_text.specs.Words.{form_of, text_of}
-use Rattle.body_text.specs.Parse.{Parse, good, stops, andthen, behind, begins, is_mark, is_first, first_token, ended, element_of, negation_of, apply_of, select_of, sum_of, index_of, arguments_of, opened, named, expression_of, parse}
+use Rattle.body_text.specs.Parse.{
+  Parse,
+  good,
+  stops,
+  andthen,
+  behind,
+  begins,
+  is_mark,
+  is_first,
+  first_token,
+  ended,
+  element_of,
+  negation_of,
+  apply_of,
+  select_of,
+  sum_of,
+  index_of,
+  arguments_of,
+  opened,
+  named,
+  expression_of,
+  parse,
+}
 use Rattle.body_text.proofs.Fronts.{IsFront, IsEnded, clear_same, begins_is, cond_stops, ended_sound, parse_sound, word_is, operator_is_none_of_one, at_element, at_word, at_index, named_cases}
 use Rattle.body_text.proofs.Complete.{complete, ended_complete, word_goes}
 
@@ -61,7 +113,8 @@ module _ (n : ℕ) (below : Stopping n) (m : Mark) (square : is_mark OpenSquare 
             ∙ ap (λ (b : Bool). cond b (good w (drop 1 cont)) (stops cont)) (ap (is_first m) alike ∙ lacks);
       }
 
-  ended_fails_at : (ts rest : List Token) (p : Parse) → parse n ts ≡ p → andthen p (λ w rest. behind m rest (λ more. good w more)) ≡ stops rest → length ts < n → Fails (λ k xs. ended (parse k) m xs) (EndedBy m) ts rest
+  ended_fails_at : (ts rest : List Token) (p : Parse) → parse n ts ≡ p → andthen p (λ w rest. behind m rest (λ more. good w more))
+      ≡ stops rest → length ts < n → Fails (λ k xs. ended (parse k) m xs) (EndedBy m) ts rest
   ended_fails_at ts rest (good w more) e h short =
       let c = cond_stops (begins m more) w (drop 1 more) more rest h in
       no_mark ts rest w more e c.0 c.1
@@ -156,16 +209,19 @@ module _ (n : ℕ) (below : Stopping n) where
       (λ e xs proper d. (element p e, (proper, ap (λ us. name p ∷ open_square ∷ (written e ++ close_square ∷ us)) d)))
       ts rest h short)
 
-  negation_fails : (ts rest : List Token) → negation_of (parse n) ts ≡ stops rest → length ts < n → Fails (λ k xs. negation_of (parse k) xs) (λ xs. IsExpression (name (word_of Neg) ∷ open_round ∷ xs)) ts rest
+  negation_fails : (ts rest : List Token) → negation_of (parse n) ts ≡ stops rest → length ts < n
+      → Fails (λ k xs. negation_of (parse k) xs) (λ xs. IsExpression (name (word_of Neg) ∷ open_round ∷ xs)) ts rest
   negation_fails ts rest h short =
       both_fails n below CloseRound refl (λ a k rest. good (negation a) rest) (λ xs. IsExpression (name (word_of Neg) ∷ open_round ∷ xs)) (λ a xs. xs ≡ [])
       (λ a proper us more g less. never _ _ _ _ g) [] (λ a. refl)
       (λ a xs proper d. (negation a, (proper, ap (λ us. name (word_of Neg) ∷ open_round ∷ (written a ++ close_round ∷ us)) d)))
       ts rest h short
 
-  apply_fails : (op : Op) → op ≢ Neg → (ts rest : List Token) → apply_of (parse n) op ts ≡ stops rest → length ts < n → Fails (λ k xs. apply_of (parse k) op xs) (λ xs. IsExpression (name (word_of op) ∷ open_round ∷ xs)) ts rest
+  apply_fails : (op : Op) → op ≢ Neg → (ts rest : List Token) → apply_of (parse n) op ts ≡ stops rest → length ts < n
+      → Fails (λ k xs. apply_of (parse k) op xs) (λ xs. IsExpression (name (word_of op) ∷ open_round ∷ xs)) ts rest
   apply_fails op two ts rest h short =
-      both_fails n below Comma refl (λ a k rest. andthen (ended (parse k) CloseRound rest) (λ b last. good (apply op a b) last)) (λ xs. IsExpression (name (word_of op) ∷ open_round ∷ xs)) (λ a xs. EndedBy CloseRound xs)
+      both_fails n below Comma refl (λ a k rest. andthen (ended (parse k) CloseRound rest) (λ b last. good (apply op a b) last))
+      (λ xs. IsExpression (name (word_of op) ∷ open_round ∷ xs)) (λ a xs. EndedBy CloseRound xs)
       (λ a proper us more g less. both_fails n below CloseRound refl (λ b k last. good (apply op a b) last) (EndedBy CloseRound) (λ b xs. xs ≡ [])
       (λ b p2 vs last g2 less2. never _ _ _ _ g2) [] (λ b. refl)
       (λ b xs p2 d. record { tree = b; proper = p2; is = ap (λ us. written b ++ close_round ∷ us) d })
@@ -174,9 +230,12 @@ module _ (n : ℕ) (below : Stopping n) where
       (λ a xs proper d. (apply op a d.tree, ((two, (proper, d.proper)), ap (λ us. name (word_of op) ∷ open_round ∷ (written a ++ comma ∷ us)) d.is)))
       ts rest h short
 
-  select_fails : (ts rest : List Token) → select_of (parse n) ts ≡ stops rest → length ts < n → Fails (λ k xs. select_of (parse k) xs) (λ xs. IsExpression (name (codes "select") ∷ open_round ∷ xs)) ts rest
+  select_fails : (ts rest : List Token) → select_of (parse n) ts ≡ stops rest → length ts < n
+      → Fails (λ k xs. select_of (parse k) xs) (λ xs. IsExpression (name (codes "select") ∷ open_round ∷ xs)) ts rest
   select_fails ts rest h short =
-      both_fails n below Comma refl (λ c k rest. andthen (ended (parse k) Comma rest) (λ a more. andthen (ended (parse k) CloseRound more) (λ b last. good (select c a b) last))) (λ xs. IsExpression (name (codes "select") ∷ open_round ∷ xs)) (λ c xs. Two xs)
+      both_fails n below Comma refl (λ c k rest. andthen (ended (parse k) Comma rest)
+      (λ a more. andthen (ended (parse k) CloseRound more) (λ b last. good (select c a b) last)))
+      (λ xs. IsExpression (name (codes "select") ∷ open_round ∷ xs)) (λ c xs. Two xs)
       (λ c proper us more g less. both_fails n below Comma refl (λ a k rest. andthen (ended (parse k) CloseRound rest) (λ b last. good (select c a b) last)) Two (λ a xs. EndedBy CloseRound xs)
       (λ a pa vs last g2 less2. both_fails n below CloseRound refl (λ b k last. good (select c a b) last) (EndedBy CloseRound) (λ b xs. xs ≡ [])
       (λ b pb xs end g3 less3. never _ _ _ _ g3) [] (λ b. refl)
@@ -226,7 +285,8 @@ sum_fails [] rest h = sum_at_once [] rest refl cc
 sum_fails (t ∷ ts) rest h = sum_at_once (t ∷ ts) rest refl cc
 
 -- A name that no form goes on with.
-index_alike : (p : Bytes) (ts cont : List Token) (read : List Token → Parse) (o : Option Word) → form_of p ≡ o → begins OpenSquare cont ≡ false → ((f : Word) → form_of p ≡ Some f → begins OpenRound cont ≡ false) → opened read o p cont ≡ index_of p cont
+index_alike : (p : Bytes) (ts cont : List Token) (read : List Token → Parse) (o : Option Word) → form_of p ≡ o → begins OpenSquare cont
+    ≡ false → ((f : Word) → form_of p ≡ Some f → begins OpenRound cont ≡ false) → opened read o p cont ≡ index_of p cont
 index_alike p ts cont read None e square word = refl
 index_alike p ts cont read (Some f) e square word = ap (λ (b : Bool). cond b (arguments_of read f (drop 1 cont)) (index_of p cont)) (word f e)
 
@@ -273,7 +333,8 @@ module _ (n : ℕ) (below : Stopping n) where
       let inner = wrap_fails (name (text_of f)) open_round (λ k xs. arguments_of (parse k) f xs) goes (drop 1 ts) rest (arguments_fails f two (drop 1 ts) rest h less) in
       subst (λ (xs : List Token). Fails (λ k us. parse k us) IsExpression xs rest) (sym (ap₂ (λ x xs. name x ∷ xs) named_so opens)) inner
 
-  square_fails : (p : Bytes) (ts rest : List Token) → begins OpenSquare ts ≡ true → element_of (parse n) p (drop 1 ts) ≡ stops rest → length ts < n → Fails (λ k xs. parse k xs) IsExpression (name p ∷ ts) rest
+  square_fails : (p : Bytes) (ts rest : List Token) → begins OpenSquare ts ≡ true → element_of (parse n) p (drop 1 ts) ≡ stops rest
+      → length ts < n → Fails (λ k xs. parse k xs) IsExpression (name p ∷ ts) rest
   square_fails p ts rest square h short =
       let opens : ts ≡ open_square ∷ drop 1 ts = begins_is OpenSquare ts square in
       let less : length (drop 1 ts) < n = omega (arith, ap length opens) in

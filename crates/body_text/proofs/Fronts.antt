@@ -13,7 +13,29 @@ use Rattle.body_text.specs.Tokens.{Token, number, name, open_round, close_round,
 use Rattle.body_text.specs.Cut.{mark_view}
 use Rattle.body_text.specs.Grammar.{Written, literal, index, element, sum_over, negation, apply, select, written, word_of, IsProper}
 use Rattle.body_text.specs.Words.{form_of, found_in, text_of, words}
-use Rattle.body_text.specs.Parse.{Parse, good, stops, andthen, behind, begins, is_mark, is_first, first_token, ended, element_of, negation_of, apply_of, select_of, sum_of, index_of, arguments_of, opened, named, expression_of, parse}
+use Rattle.body_text.specs.Parse.{
+  Parse,
+  good,
+  stops,
+  andthen,
+  behind,
+  begins,
+  is_mark,
+  is_first,
+  first_token,
+  ended,
+  element_of,
+  negation_of,
+  apply_of,
+  select_of,
+  sum_of,
+  index_of,
+  arguments_of,
+  opened,
+  named,
+  expression_of,
+  parse,
+}
 
 -- A token that passes as a mark is the mark.
 mark_is : (m : Mark) (t : Token) → is_mark m t ≡ true → t ≡ mark_view m
@@ -238,7 +260,9 @@ module _ (read : List Token → Parse) (sound : Sound read) where
 
   select_sound : (ts : List Token) (w : Written) (rest : List Token) → select_of read ts ≡ good w rest → IsFront (name (codes "select") ∷ open_round ∷ ts) w rest
   select_sound ts w rest h =
-      let r : Then (ended read Comma ts) (λ c rest. andthen (ended read Comma rest) (λ a more. andthen (ended read CloseRound more) (λ b last. good (select c a b) last))) (good w rest) = then_good _ _ w rest h in
+      let r : Then (ended read Comma ts)
+      (λ c rest. andthen (ended read Comma rest) (λ a more. andthen (ended read CloseRound more) (λ b last. good (select c a b) last)))
+      (good w rest) = then_good _ _ w rest h in
       let c : IsEnded Comma ts r.tree r.more = ended_sound read sound Comma ts r.tree r.more r.is in
       let s : Then (ended read Comma r.more) (λ a more. andthen (ended read CloseRound more) (λ b last. good (select r.tree a b) last)) (good w rest) = then_good _ _ w rest r.goes in
       let d : IsEnded Comma r.more s.tree s.more = ended_sound read sound Comma r.more s.tree s.more s.is in
@@ -261,7 +285,8 @@ module _ (read : List Token → Parse) (sound : Sound read) where
       })
   sum_sound _ w rest h = cc
 
-  arguments_sound : (f : Word) → ((op : Op) → f ≡ Operator op → op ≢ Neg) → (ts : List Token) (w : Written) (rest : List Token) → arguments_of read f ts ≡ good w rest → IsFront (name (text_of f) ∷ open_round ∷ ts) w rest
+  arguments_sound : (f : Word) → ((op : Op) → f ≡ Operator op → op ≢ Neg) → (ts : List Token) (w : Written) (rest : List Token)
+      → arguments_of read f ts ≡ good w rest → IsFront (name (text_of f) ∷ open_round ∷ ts) w rest
   arguments_sound Select two ts w rest h = select_sound ts w rest h
   arguments_sound Sum two ts w rest h = sum_sound ts w rest h
   arguments_sound Negation two ts w rest h = negation_sound ts w rest h
@@ -276,7 +301,8 @@ module _ (read : List Token → Parse) (sound : Sound read) where
         clear = square;
       })
 
-  word_sound : (p : Bytes) (f : Word) (ts : List Token) (w : Written) (rest : List Token) → form_of p ≡ Some f → begins OpenRound ts ≡ true → arguments_of read f (drop 1 ts) ≡ good w rest → IsFront (name p ∷ ts) w rest
+  word_sound : (p : Bytes) (f : Word) (ts : List Token) (w : Written) (rest : List Token) → form_of p ≡ Some f → begins OpenRound ts ≡ true
+      → arguments_of read f (drop 1 ts) ≡ good w rest → IsFront (name p ∷ ts) w rest
   word_sound p f ts w rest form round h =
       let two : (op : Op) → f ≡ Operator op → op ≢ Neg = λ op e. operator_is_none_of_one p op (form ∙ ap Some e) in
       let front = arguments_sound f two (drop 1 ts) w rest h in

@@ -1,5 +1,40 @@
 -- One step of the reader: from what its calls answer to what it answers.
-use Rattle.std.proofs.Common.{◌≡◌, ℕ, suc, ◌+◌, ◌-◌, ◌<◌, false, true, Bool, cond, not, ◌||◌, Option, Some, None, Result, Ok, Err, ℤ, List, [], ◌∷◌, ◌++◌, length, drop, refl, arith, ap, ap₂, sym, ◌∙◌, subst, nat_lt, if◌then◌else◌}
+use Rattle.std.proofs.Common.{
+  ◌≡◌,
+  ℕ,
+  suc,
+  ◌+◌,
+  ◌-◌,
+  ◌<◌,
+  false,
+  true,
+  Bool,
+  cond,
+  not,
+  ◌||◌,
+  Option,
+  Some,
+  None,
+  Result,
+  Ok,
+  Err,
+  ℤ,
+  List,
+  [],
+  ◌∷◌,
+  ◌++◌,
+  length,
+  drop,
+  refl,
+  arith,
+  ap,
+  ap₂,
+  sym,
+  ◌∙◌,
+  subst,
+  nat_lt,
+  if◌then◌else◌,
+}
 use Rattle.std.specs.Option.{option_or}
 use Rattle.std.specs.List.{list_any, position_or_len}
 use Rattle.std.specs.Str.{bytes_eq}
@@ -19,7 +54,27 @@ use Rattle.body_text.specs.Grammar.{Written, literal, element, sum_over, negatio
 use Rattle.body_text.specs.Ports.{Naming, is_port, port_number, first_unknown, namings}
 use Rattle.body_text.specs.declared.word.Word.{Word}
 use Rattle.body_text.specs.Words.{form_of}
-use Rattle.body_text.specs.Parse.{Parse, good, stops, andthen, behind, begins, first_token, ended, element_of, sum_of, apply_of, select_of, named, opened, arguments_of, index_of, parse, expression_of, alone}
+use Rattle.body_text.specs.Parse.{
+  Parse,
+  good,
+  stops,
+  andthen,
+  behind,
+  begins,
+  first_token,
+  ended,
+  element_of,
+  sum_of,
+  apply_of,
+  select_of,
+  named,
+  opened,
+  arguments_of,
+  index_of,
+  parse,
+  expression_of,
+  alone,
+}
 use Rattle.body_text.specs.Answers.{tokens_of, behind_of, IsRead, Answers, LacksMemory, Makes}
 
 -- what an answer with a value was read from
@@ -191,7 +246,8 @@ select_step names ps start read ts c a b r hc ha hb value next unknown =
       read = record {
         value = value ∙ three f.read.value g.read.value h.read.value;
         unknown = unknown ∙ option_or_three c.unknown a.unknown b.unknown
-            ∙ ap₂ option_or f.read.unknown (ap₂ option_or (g.read.unknown ∙ ap second (omega (arith, f.read.next))) (h.read.unknown ∙ ap third (omega (arith, f.read.next, g.read.next))) ∙ sym (unknown_both names na nb))
+            ∙ ap₂ option_or f.read.unknown (ap₂ option_or (g.read.unknown ∙ ap second (omega (arith, f.read.next)))
+            (h.read.unknown ∙ ap third (omega (arith, f.read.next, g.read.next))) ∙ sym (unknown_both names na nb))
             ∙ sym (unknown_both names (namings (start + 2) f.tree) (na ++ nb));
         next = omega (arith, next, f.read.next, g.read.next, h.read.next, length_select f.tree g.tree h.tree);
         within = omega (arith, next, h.read.within);

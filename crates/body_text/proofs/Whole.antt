@@ -47,13 +47,15 @@ stopped names ps i (stops rest) h = record { rest = rest; is = refl; stop = h }
 pub answer_bad : (names : List Bytes) (ps : List declared.Placed) (text : Bytes) (s : Stop) (i place : ℕ) → s ≡ At i → map placed_view ps ≡ placed text → AreFew text
     → Answers names ps 0 0 (alone (parse (length ps + 1) (behind_of 0 ps))) (Err s) → place ≡ place_or (length text) (slice_get (map placed_view ps) i) → IsBad text place
 answer_bad names ps text fault i place at seen short h there =
-    let s : Stopped ps i (alone (parse (length ps + 1) (behind_of 0 ps))) = stopped names ps i _ (subst (λ (x : Stop). Answers names ps 0 0 (alone (parse (length ps + 1) (behind_of 0 ps))) (Err x)) at h) in
+    let s : Stopped ps i (alone (parse (length ps + 1) (behind_of 0 ps))) =
+    stopped names ps i _ (subst (λ (x : Stop). Answers names ps 0 0 (alone (parse (length ps + 1) (behind_of 0 ps))) (Err x)) at h) in
     let are : tokens_of ps ≡ tokens text = tokens_are ps text seen in
     let size : length (tokens text) ≡ length ps = ap length (sym are) ∙ length-map ps _ in
     record {
       few = short;
       token = i;
-      fails = fails_at (length ps + 1) (tokens text) s.rest i (ap (λ ts. alone (parse (length ps + 1) ts)) (sym are) ∙ s.is) (omega arith) (omega (arith, s.stop.within)) (ap (drop i) (sym are) ∙ s.stop.left);
+      fails = fails_at (length ps + 1) (tokens text) s.rest i (ap (λ ts. alone (parse (length ps + 1) ts)) (sym are) ∙ s.is) (omega arith)
+          (omega (arith, s.stop.within)) (ap (drop i) (sym are) ∙ s.stop.left);
       there = ap (λ (qs : List Placed). place_or (length text) (slice_get qs i)) (sym seen) ∙ sym there;
     }
 

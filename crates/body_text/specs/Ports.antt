@@ -33,7 +33,8 @@ module _ (ports : List Bytes) where
   first_unknown [] = None
   first_unknown (n ∷ ns) = cond (is_port n.port) (first_unknown ns) (Some n.token)
 
-  -- The same of an expression that begins with token 0.
+  -- The name of the first port that an expression names and that is not there, where tokens count
+  -- from 0.
   abbrev pub unknown : Written → Option ℕ
   unknown w = first_unknown (namings 0 w)
 
@@ -41,7 +42,7 @@ module _ (ports : List Bytes) where
   abbrev pub port_number : Bytes → ℕ
   port_number p = position_or_len (bytes_eq p) ports
 
-  -- The same expression with the ports by number.
+  -- An expression as it is written, with the numbers of its ports in place of their names.
   abbrev pub resolved : Written → Expr
   resolved (literal v) = numbered.literal v
   resolved index = numbered.index

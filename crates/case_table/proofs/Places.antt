@@ -1,5 +1,42 @@
 -- Places of names in a list.
-use Rattle.std.proofs.Common.{◌≡◌, ℕ, zero, suc, ◌+◌, ◌<◌, Bool, not, true, false, cond, ◌↔◌, ◌⊎◌, inl, inr, List, [], ◌∷◌, ◌++◌, length, map, Option, None, Some, slice_get, position, bytes_eq, nat_lt, refl, ap, sym, ◌∙◌, arith, get_or, length-append, ◌≤◌}
+use Rattle.std.proofs.Common.{
+  ◌≡◌,
+  ℕ,
+  zero,
+  suc,
+  ◌+◌,
+  ◌<◌,
+  Bool,
+  not,
+  true,
+  false,
+  cond,
+  ◌↔◌,
+  ◌⊎◌,
+  inl,
+  inr,
+  List,
+  [],
+  ◌∷◌,
+  ◌++◌,
+  length,
+  map,
+  Option,
+  None,
+  Some,
+  slice_get,
+  position,
+  bytes_eq,
+  nat_lt,
+  refl,
+  ap,
+  sym,
+  ◌∙◌,
+  arith,
+  get_or,
+  length-append,
+  ◌≤◌,
+}
 use Rattle.std.specs.List.{list_any, prefix_len, position_or_len}
 use Rattle.std.proofs.lemmas.Grind.{common_steps}
 use Rattle.std.proofs.lemmas.Slice.Eq.{bytes_eq-Decides}

@@ -5,8 +5,6 @@
 ghost use Rattle.std.specs.Prelude.{◌≤◌, IfOk, length};
 ghost use Rattle.algo_rules.specs.WellRead.{AreWellRead};
 ghost use Rattle.durations.specs.Lines.{AreDurations};
-ghost use Rattle.algo_tree.specs.Bounded.{HasBounds};
-ghost use Rattle.algo_tree.specs.Named.{HasNames};
 ghost use Rattle.elaboration.specs.Stand.{HavePeriods};
 ghost use Rattle.syn_base.specs.Limits.{most_in_text};
 
@@ -120,8 +118,6 @@ fn definitions(alloc: Global, text: &[u8]) -> Result<Defs, AlgoError>
 /// The tree that the text of an algorithm means, or its first refusal.
 fn tree_of(alloc: Global, text: &[u8]) -> Result<Tree, AlgoError>
     requires { length text.now ≤ 4000 }
-    ensures names { IfOk result (λ tree. HasNames tree) }
-    ensures bounds { IfOk result (λ tree. HasBounds tree) }
 {
     let defs = definitions(alloc, text)?;
     elaborate(alloc, &defs)
@@ -140,9 +136,7 @@ fn description(alloc: Global, text: &[u8]) -> Result<ArchiText, ArchiError>
 
 /// The length of the chart of a tree on the architecture of a text, or the first refusal.
 fn chart_length(alloc: Global, tree: &Tree, text: &[u8]) -> Result<u64, ArchiError>
-    requires short { length text.now ≤ 4000 }
-    requires names { HasNames tree.now }
-    requires bounds { HasBounds tree.now }
+    requires { length text.now ≤ 4000 }
 {
     let Ok(flat) = flatten(alloc, tree) else {
         return Err(ArchiError::OutOfMemory);
@@ -159,9 +153,7 @@ fn chart_length(alloc: Global, tree: &Tree, text: &[u8]) -> Result<u64, ArchiErr
 
 /// A line for the architecture of a text, which has this many processors.
 fn print_length(rt: &HostRuntime, tree: &Tree, count: usize, text: &[u8]) -> io::Result<()>
-    requires short { length text.now ≤ 4000 }
-    requires names { HasNames tree.now }
-    requires bounds { HasBounds tree.now }
+    requires { length text.now ≤ 4000 }
 {
     match chart_length(rt.alloc(), tree, text) {
         Ok(length) => println!(rt; "{count} processors: {length} ticks"),

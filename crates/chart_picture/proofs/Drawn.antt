@@ -73,7 +73,9 @@ module _ (g : Graph) (a : Architecture) (scale : Scale) where
       ∙ (λ j. lane_part g a scale (codes "lane") (codes "operator-") (sym is j) i (is_on i) xs ++ operator_lanes g a scale xs (one j) (drop (one j) names))
 
   pub medium_step : (xs : List Act) (media : List Medium) (i : ℕ) (x : Medium) → i < length media → x ≡ get_or media i x
-      → medium_lanes g a scale xs i (drop i media) ≡ lane_part g a scale (codes "medium") (codes "medium-") x.name (length a.operators + i) (is_over i) xs ++ medium_lanes g a scale xs (i + 1) (drop (i + 1) media)
+      → medium_lanes g a scale xs i (drop i media)
+      ≡ lane_part g a scale (codes "medium") (codes "medium-") x.name (length a.operators + i) (is_over i) xs
+      ++ medium_lanes g a scale xs (i + 1) (drop (i + 1) media)
   medium_step xs media i x h is =
       let one : suc i ≡ i + 1 = omega arith in
       ap (λ (l : List Medium). medium_lanes g a scale xs i l) (drop-cons media i x h)

@@ -88,7 +88,7 @@ module _ (g : Graph) (a : Architecture) where
   act_label (run d) = operation_name g.vertices d.op
   act_label (carry t) = operation_name g.vertices t.source.vertex
 
-  -- an act as a bar
+  -- The bar of an act: where it begins and ends, its class, its title and its label.
   abbrev pub bar_of : Scale → Act → Bar
   bar_of scale x = record {
     class = act_class x;

@@ -124,7 +124,8 @@ module _ (g : Graph) (a : Architecture) (s : Schedule) where
       (board_text a scale (length_of s) n ++
       (reactions_text g a scale when n (acts s) ++ (note_text a (length_of s) ++ (END_GROUP.now ++ END.now))))
 
-  -- the same, where the acts of each reaction last these ticks and wait for nothing but what must precede them
+  -- The picture of dates in which the acts of each reaction last these ticks and wait only for what
+  -- must precede them.
   abbrev pub dates_picture : List (List ℕ) → Bytes
   dates_picture ticks =
       dated_picture (λ k i x. span (start_at a.depth g s ticks k i x) (end_at a.depth g s ticks k i)) (length ticks)

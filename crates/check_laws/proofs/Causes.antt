@@ -13,7 +13,24 @@ use Rattle.order_check.proofs.Exact.{communicators_of, of_communicators, on_medi
 use Rattle.program_walks.proofs.Prologues.{opened_of, of_opened}
 use Rattle.check_laws.specs.Items.{AreTransferred, AreGuarded, HasItems}
 use Rattle.check_laws.specs.Run.{Place, run, stuck}
-use Rattle.check_laws.specs.Tests.{Cause, sequences_differ, calls_wrong, transfers_wrong, buffers_wrong, pairs_wrong, prologue_wrong, stuck_at, stopped, are_named, are_called, are_moved, are_transferred, are_written, are_guarded, cause}
+use Rattle.check_laws.specs.Tests.{
+  Cause,
+  sequences_differ,
+  calls_wrong,
+  transfers_wrong,
+  buffers_wrong,
+  pairs_wrong,
+  prologue_wrong,
+  stuck_at,
+  stopped,
+  are_named,
+  are_called,
+  are_moved,
+  are_transferred,
+  are_written,
+  are_guarded,
+  cause,
+}
 use Rattle.check_laws.specs.Laws.{IsCause}
 use Rattle.check_laws.proofs.Running.{is_run, none_stuck, follows_loops, keeps_awaited}
 use Rattle.check_laws.proofs.Orders.{keeps, is_order}
@@ -50,7 +67,8 @@ module _ (p : Program) (g : Graph) (seqs : List Seq) (operators media : ℕ) whe
   wrong : (c d : Cause) → ◌≡◌ {A = Option Cause} (Some c) (Some d) → IsCause p g seqs operators media c → IsCause p g seqs operators media d
   wrong c d e h = subst (λ x. IsCause p g seqs operators media x) (same_Some c d e) h
 
-  pub items_of : are_named p (length g.vertices) operators seqs ≡ true → are_called p g.vertices ≡ true → are_transferred p media ≡ true → are_written p g.vertices media ≡ true → are_guarded p ≡ true → are_opened p ≡ true → HasItems p g seqs operators media
+  pub items_of : are_named p (length g.vertices) operators seqs ≡ true → are_called p g.vertices ≡ true → are_transferred p media ≡ true
+      → are_written p g.vertices media ≡ true → are_guarded p ≡ true → are_opened p ≡ true → HasItems p g seqs operators media
   items_of n c m w u o = record {
     named = named_of p (length g.vertices) operators seqs n;
     called = called_of p g.vertices c;
@@ -61,29 +79,54 @@ module _ (p : Program) (g : Graph) (seqs : List Seq) (operators media : ℕ) whe
   }
 
   pub exact : (c : Cause) → cause p g.vertices seqs operators media ≡ Some c → IsCause p g seqs operators media c
-  exact c e = by (are_named p (length g.vertices) operators seqs) refl (are_called p g.vertices) refl (are_transferred p media) refl (are_written p g.vertices media) refl (are_guarded p) refl (are_opened p) refl e
+  exact c e = by (are_named p (length g.vertices) operators seqs) refl (are_called p g.vertices) refl (are_transferred p media) refl
+      (are_written p g.vertices media) refl (are_guarded p) refl (are_opened p) refl e
     where
-      by : (n : Bool) → are_named p (length g.vertices) operators seqs ≡ n → (l : Bool) → are_called p g.vertices ≡ l → (m : Bool) → are_transferred p media ≡ m → (w : Bool) → are_written p g.vertices media ≡ w
+      by : (n : Bool) → are_named p (length g.vertices) operators seqs ≡ n → (l : Bool) → are_called p g.vertices ≡ l → (m : Bool)
+          → are_transferred p media ≡ m → (w : Bool) → are_written p g.vertices media ≡ w
           → (u : Bool) → are_guarded p ≡ u → (o : Bool) → are_opened p ≡ o
-          → cond n (cond l (cond m (cond w (cond u (cond o (stopped (stuck p)) (Some prologue_wrong)) (Some pairs_wrong)) (Some buffers_wrong)) (Some transfers_wrong)) (Some calls_wrong)) (Some sequences_differ) ≡ Some c
+          → cond n (cond l (cond m (cond w (cond u (cond o (stopped (stuck p)) (Some prologue_wrong)) (Some pairs_wrong))
+          (Some buffers_wrong)) (Some transfers_wrong)) (Some calls_wrong)) (Some sequences_differ) ≡ Some c
           → IsCause p g seqs operators media c
       by false n l a m b w d u f o h e = wrong sequences_differ c e (λ x. false≢true (sym n ∙ of_named p (length g.vertices) operators seqs x))
       by true n false a m b w d u f o h e = wrong calls_wrong c e (named_of p (length g.vertices) operators seqs n, λ x. false≢true (sym a ∙ of_called p g.vertices x))
       by true n true a false b w d u f o h e = wrong transfers_wrong c e (named_of p (length g.vertices) operators seqs n, called_of p g.vertices a, λ x. false≢true (sym b ∙ of_moved x))
-      by true n true a true b false d u f o h e = wrong buffers_wrong c e (named_of p (length g.vertices) operators seqs n, called_of p g.vertices a, moved_of b, λ x. false≢true (sym d ∙ of_written p g media (called_of p g.vertices a) x))
+      by true n true a true b false d u f o h e =
+          wrong buffers_wrong c e (
+            named_of p (length g.vertices) operators seqs n,
+            called_of p g.vertices a,
+            moved_of b,
+            λ x. false≢true (sym d ∙ of_written p g media (called_of p g.vertices a) x),
+          )
       by true n true a true b true d false f o h e =
-          wrong pairs_wrong c e (named_of p (length g.vertices) operators seqs n, called_of p g.vertices a, moved_of b, written_of p g media a d, λ x. false≢true (sym f ∙ of_pairs p x.numbered x.pairs))
+          wrong pairs_wrong c e (
+            named_of p (length g.vertices) operators seqs n,
+            called_of p g.vertices a,
+            moved_of b,
+            written_of p g media a d,
+            λ x. false≢true (sym f ∙ of_pairs p x.numbered x.pairs),
+          )
       by true n true a true b true d true f false h e =
-          wrong prologue_wrong c e (named_of p (length g.vertices) operators seqs n, called_of p g.vertices a, moved_of b, written_of p g media a d, guarded_of f, λ x. false≢true (sym h ∙ of_opened p (numbered_of p f) x))
+          wrong prologue_wrong c e (
+            named_of p (length g.vertices) operators seqs n,
+            called_of p g.vertices a,
+            moved_of b,
+            written_of p g media a d,
+            guarded_of f,
+            λ x. false≢true (sym h ∙ of_opened p (numbered_of p f) x),
+          )
       by true n true a true b true d true f true h e = stuck_is (stuck p) c e refl (items_of n a b d f h)
 
   -- no cause
   pub nothing_wrong : cause p g.vertices seqs operators media ≡ None → HasItems p g seqs operators media × (stuck p ≡ [])
-  nothing_wrong e = by (are_named p (length g.vertices) operators seqs) refl (are_called p g.vertices) refl (are_transferred p media) refl (are_written p g.vertices media) refl (are_guarded p) refl (are_opened p) refl e
+  nothing_wrong e = by (are_named p (length g.vertices) operators seqs) refl (are_called p g.vertices) refl (are_transferred p media) refl
+      (are_written p g.vertices media) refl (are_guarded p) refl (are_opened p) refl e
     where
-      by : (n : Bool) → are_named p (length g.vertices) operators seqs ≡ n → (l : Bool) → are_called p g.vertices ≡ l → (m : Bool) → are_transferred p media ≡ m → (w : Bool) → are_written p g.vertices media ≡ w
+      by : (n : Bool) → are_named p (length g.vertices) operators seqs ≡ n → (l : Bool) → are_called p g.vertices ≡ l → (m : Bool)
+          → are_transferred p media ≡ m → (w : Bool) → are_written p g.vertices media ≡ w
           → (u : Bool) → are_guarded p ≡ u → (o : Bool) → are_opened p ≡ o
-          → cond n (cond l (cond m (cond w (cond u (cond o (stopped (stuck p)) (Some prologue_wrong)) (Some pairs_wrong)) (Some buffers_wrong)) (Some transfers_wrong)) (Some calls_wrong)) (Some sequences_differ) ≡ None
+          → cond n (cond l (cond m (cond w (cond u (cond o (stopped (stuck p)) (Some prologue_wrong)) (Some pairs_wrong))
+          (Some buffers_wrong)) (Some transfers_wrong)) (Some calls_wrong)) (Some sequences_differ) ≡ None
           → HasItems p g seqs operators media × (stuck p ≡ [])
       by true n true a true b true d true f true h e = (items_of n a b d f h, no_stuck (stuck p) e)
       by true n true a true b true d true f false h e = absurd cc

@@ -18,10 +18,12 @@ module _ (p : Program) where
 
   -- the parts of the test
   parts_of : (q : ℕ) (x : Reader) → guards p q x ≡ true
-      → ((nat_lt q (length p.pairs) && has_operator (slice_get p.pairs q) (operator_of p x.buffer)) ≡ true) × (is_written_between p q (writer_of p x.buffer) (written_at p x.buffer) ≡ true) × (is_read_between p q x.buffer x.sequence ≡ true)
+      → ((nat_lt q (length p.pairs) && has_operator (slice_get p.pairs q) (operator_of p x.buffer)) ≡ true)
+      × (is_written_between p q (writer_of p x.buffer) (written_at p x.buffer) ≡ true) × (is_read_between p q x.buffer x.sequence ≡ true)
   parts_of q x h =
       let read = and_parts _ (is_read_between p q x.buffer x.sequence) h in
-      let written = and_parts (nat_lt q (length p.pairs) && has_operator (slice_get p.pairs q) (operator_of p x.buffer)) (is_written_between p q (writer_of p x.buffer) (written_at p x.buffer)) read.0 in
+      let written = and_parts (nat_lt q (length p.pairs) && has_operator (slice_get p.pairs q) (operator_of p x.buffer))
+      (is_written_between p q (writer_of p x.buffer) (written_at p x.buffer)) read.0 in
       (written.0, written.1, read.1)
 
   pub numbered_of : are_guarded p ≡ true → Numbered

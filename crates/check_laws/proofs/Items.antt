@@ -29,7 +29,8 @@ own_operator : (o n : ℕ) (media : List Medium) (k : ℕ) (q : Seq) → slice_g
 own_operator o n [] k q e = absurd cc
 own_operator o n (m ∷ media) k q e = by (stands_at m o) k e (λ i d. own_operator o (n + 1) media i q d)
   where
-    by : (b : Bool) (k : ℕ) → slice_get (cond b (communicator o n ∷ communicators o (n + 1) media) (communicators o (n + 1) media)) k ≡ Some q → ((i : ℕ) → slice_get (communicators o (n + 1) media) i ≡ Some q → q.operator ≡ o) → q.operator ≡ o
+    by : (b : Bool) (k : ℕ) → slice_get (cond b (communicator o n ∷ communicators o (n + 1) media) (communicators o (n + 1) media)) k
+        ≡ Some q → ((i : ℕ) → slice_get (communicators o (n + 1) media) i ≡ Some q → q.operator ≡ o) → q.operator ≡ o
     by true zero e r = ap (λ (x : Seq). x.operator) (sym (same_Some (communicator o n) q e))
     by true (suc k) e r = r k e
     by false k e r = r k e
@@ -84,7 +85,10 @@ module _ (p : Program) (g : Graph) (a : Architecture) (order : List ℕ) (h : Is
       by : Part p c.on (communications p s b) s b x → (far x < length a.operators) × (farther x < length a.operators)
       by (sends u v w) = (subst (λ y. far y < length a.operators) (sym w) (moved c.on (communications p s b) t).1, subst (λ y. farther y < length a.operators) (sym w) some)
       by (receives u v w) = (subst (λ y. far y < length a.operators) (sym w) (moved c.on (communications p s b) t).0, subst (λ y. farther y < length a.operators) (sym w) some)
-      by (waits u v w) = (subst (λ y. far y < length a.operators) (sym w) (moved c.on (communications p s b) t).0, subst (λ y. farther y < length a.operators) (sym w) (moved c.on (communications p s b) t).1)
+      by (waits u v w) = (
+        subst (λ y. far y < length a.operators) (sym w) (moved c.on (communications p s b) t).0,
+        subst (λ y. farther y < length a.operators) (sym w) (moved c.on (communications p s b) t).1,
+      )
 
   loop : (s b : ℕ) (x : Instr) → Stands p s b x → NamesThere p (length g.vertices) (length a.operators) x
   loop s b (Suc0 q) e = h.named s b (Suc0 q) e
@@ -115,7 +119,21 @@ module _ (p : Program) (g : Graph) (a : Architecture) (order : List ℕ) (h : Is
     called = λ v x e. let c = h.called v x e in record { stands = c.stands; only = c.only; computes = c.computes; twins = c.twins };
     transferred = record { communicators = h.communicators; on_media = h.on_media; counts = h.counts; transfers = λ m t l k. transferred p g (sequences a) (length a.media) order h m t l k };
     written = record {
-      buffers = λ b l. let w = h.buffers b l in record { instr = w.instr; stands = w.stands; writes = w.writes; only = w.only; near = w.near; own_reads = w.own_reads; some_place = w.some_place; few_places = w.few_places; one_place = w.one_place; made = all_made p g (sequences a) (length a.media) order h b l };
+      buffers = λ b l. let w = h.buffers b l in
+          record {
+            instr = w.instr;
+            stands = w.stands;
+            writes = w.writes;
+            only = w.only;
+            near = w.near;
+            own_reads =
+                w.own_reads;
+            some_place = w.some_place;
+            few_places = w.few_places;
+            one_place = w.one_place;
+            made =
+                all_made p g (sequences a) (length a.media) order h b l;
+          };
       takes = λ v x e. (h.called v x e).takes;
       gives = λ v x e. (h.called v x e).gives;
       lengths = λ m t l k. (h.transferred m t l k).lengths;
@@ -123,7 +141,17 @@ module _ (p : Program) (g : Graph) (a : Architecture) (order : List ℕ) (h : Is
     };
     guarded = record {
       numbered = h.numbered;
-      pairs = λ q l. let w = h.pairs q l in record { take_empty = w.take_empty; signal_full = w.signal_full; take_full = w.take_full; signal_empty = w.signal_empty; before_write = w.before_write; after_write = w.after_write; reads = w.reads };
+      pairs = λ q l. let w = h.pairs q l in
+          record {
+            take_empty = w.take_empty;
+            signal_full = w.signal_full;
+            take_full = w.take_full;
+            signal_empty =
+                w.signal_empty;
+            before_write = w.before_write;
+            after_write = w.after_write;
+            reads = w.reads;
+          };
     };
     opened = h.prologues;
   }

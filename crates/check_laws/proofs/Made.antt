@@ -96,8 +96,10 @@ module _ (p : Program) (g : Graph) (seqs : List Seq) (media : ℕ) (order : List
       by (waits u v w) = absurd cc
       by (receives u v w) =
           let t = h.transferred c.on (communications p s a) c.low c.inside in
-          let l = h.named (transfer p c.on (communications p s a)).sender (transfer p c.on (communications p s a)).send_at (Send (transfer p c.on (communications p s a)).sent (operator p (transfer p c.on (communications p s a)).receiver)) t.sends.stands in
-          let first = after_write p g seqs media order h (transfer p c.on (communications p s a)).sent (transfer p c.on (communications p s a)).sender (transfer p c.on (communications p s a)).send_at 0
+          let l = h.named (transfer p c.on (communications p s a)).sender (transfer p c.on (communications p s a)).send_at
+          (Send (transfer p c.on (communications p s a)).sent (operator p (transfer p c.on (communications p s a)).receiver)) t.sends.stands in
+          let first = after_write p g seqs media order h (transfer p c.on (communications p s a)).sent
+          (transfer p c.on (communications p s a)).sender (transfer p c.on (communications p s a)).send_at 0
           (Send (transfer p c.on (communications p s a)).sent (operator p (transfer p c.on (communications p s a)).receiver)) l t.sends.stands (refl, refl) in
           let second = t.in_order in
           let here : place_in order s a ≡ place_in order (transfer p c.on (communications p s a)).receiver (transfer p c.on (communications p s a)).receive_at = λ j. place_in order (u j) (v j) in
@@ -105,7 +107,8 @@ module _ (p : Program) (g : Graph) (seqs : List Seq) (media : ℕ) (order : List
             buffer = (transfer p c.on (communications p s a)).sent;
             low = l;
             before = omega arith;
-            is = ap (λ (m : Option ℕ). sent_on p m (communications p s a)) c.is.on ∙ found p c.on (communications p s a) (transferred p g seqs media order h c.on (communications p s a) c.low c.inside);
+            is = ap (λ (m : Option ℕ). sent_on p m (communications p s a)) c.is.on
+                ∙ found p c.on (communications p s a) (transferred p g seqs media order h c.on (communications p s a) c.low c.inside);
           }
 
   made_within : (hops b : ℕ) → b < length p.buffers → rank b < hops → is_made p hops b ≡ true
@@ -115,8 +118,12 @@ module _ (p : Program) (g : Graph) (seqs : List Seq) (media : ℕ) (order : List
       port : ℕ
       port = output_at b (slice_get (turn p (writing p b).writer) (writing p b).at)
 
-      by : (x : Instr) → Stands p (writing p b).writer (writing p b).at x → WritesAt x (writing p b).port b → ((c : ℕ) → c < length p.buffers → rank c < hops → is_made p hops c ≡ true) → made_from (origin p b) (λ c. is_made p hops c) ≡ true
-      by (Call v ins outs) e w r = ap (λ (o : Option Instr). made_from (origin_of p (writing p b).writer (writing p b).at (output_at b (slice_get (turn p (writing p b).writer) (writing p b).at)) o) (λ c. is_made p hops c)) e
+      by : (x : Instr) → Stands p (writing p b).writer (writing p b).at x → WritesAt x (writing p b).port b
+          → ((c : ℕ) → c < length p.buffers → rank c < hops → is_made p hops c ≡ true) → made_from (origin p b) (λ c. is_made p hops c) ≡ true
+      by (Call v ins outs) e w r = ap
+          (λ (o : Option Instr). made_from
+          (origin_of p (writing p b).writer (writing p b).at (output_at b (slice_get (turn p (writing p b).writer) (writing p b).at)) o)
+          (λ c. is_made p hops c)) e
       by (Recv c o) e w r =
           let n = sender c o (writing p b).writer (writing p b).at e in
           let f = rank_falls b n.buffer n.low n.before in

@@ -116,7 +116,20 @@ module _ (p : Program) (g : Graph) (media : ℕ) where
       let calls = calls_of p [] g (together c fit.1) in
       record {
         buffers = λ b l. let w = buffers_of p [] made.0 b l in
-            record { instr = w.instr; stands = w.stands; writes = w.writes; only = w.only; near = w.near; own_reads = w.own_reads; some_place = w.some_place; few_places = w.few_places; one_place = w.one_place; made = below_of (is_made p (length p.buffers)) (length p.buffers) made.1 b l };
+            record {
+              instr = w.instr;
+              stands = w.stands;
+              writes = w.writes;
+              only = w.only;
+              near = w.near;
+              own_reads =
+                  w.own_reads;
+              some_place = w.some_place;
+              few_places = w.few_places;
+              one_place = w.one_place;
+              made =
+                  below_of (is_made p (length p.buffers)) (length p.buffers) made.1 b l;
+            };
         takes = λ v x e. (calls v x e).takes;
         gives = λ v x e. (calls v x e).gives;
         lengths = λ m t l k. eqb-true (len_of p (buffer_at p (receiver_of p m t) t)) (len_of p (buffer_at p (sender_of p m t) t))
@@ -127,7 +140,19 @@ module _ (p : Program) (g : Graph) (media : ℕ) where
   pub of_written : ((v : ℕ) (x : Vertex) → slice_get g.vertices v ≡ Some x → IsCalledOnce p v x) → AreWritten p g media → are_written p g.vertices media ≡ true
   of_written c h =
       both_true (both_true (both_true (both_true
-      (of_buffers p [] (λ b l. let w = h.buffers b l in record { instr = w.instr; stands = w.stands; writes = w.writes; only = w.only; near = w.near; own_reads = w.own_reads; some_place = w.some_place; few_places = w.few_places; one_place = w.one_place }))
+      (of_buffers p [] (λ b l. let w = h.buffers b l in
+      record {
+        instr = w.instr;
+        stands = w.stands;
+        writes = w.writes;
+        only = w.only;
+        near = w.near;
+        own_reads =
+            w.own_reads;
+        some_place = w.some_place;
+        few_places = w.few_places;
+        one_place = w.one_place;
+      }))
       (of_below (is_made p (length p.buffers)) (length p.buffers) (λ b l. (h.buffers b l).made)))
       (apart (of_calls p [] g (λ v x e. let o = c v x e in record { stands = o.stands; only = o.only; computes = o.computes; takes = h.takes v x e; gives = h.gives v x e; twins = o.twins }))))
       (of_below (λ m. all_below (λ t. has_same_len p m t) (transfers p m)) media (λ m l. of_below (λ t. has_same_len p m t) (transfers p m) (λ t k.

@@ -40,7 +40,8 @@ module _ (p : Program) where
   part m t s a x r c = elim (cases_eq s (transfer p m t).sender) [
     | inl e ↦ (let z = same_at m t s (transfer p m t).sender a (transfer p m t).send_at x (Send (transfer p m t).sent (operator p (transfer p m t).receiver)) c r.sends e in sends e z.0 z.1)
     | inr n ↦ elim (cases_eq s (transfer p m t).receiver) [
-      | inl e ↦ (let z = same_at m t s (transfer p m t).receiver a (transfer p m t).receive_at x (Recv (transfer p m t).received (operator p (transfer p m t).sender)) c r.receives e in receives e z.0 z.1)
+      | inl e ↦ (let z = same_at m t s (transfer p m t).receiver a (transfer p m t).receive_at x
+          (Recv (transfer p m t).received (operator p (transfer p m t).sender)) c r.receives e in receives e z.0 z.1)
       | inr k ↦ waits n k (r.others s a x c n k)
     ]
   ]
@@ -107,10 +108,18 @@ module _ (p : Program) where
           by (waits u v w) = absurd cc
           by (receives u v w) =
               let m = c.on in let k = communications p s a in
-              let z = same_Some (record { sequence = (transfer p c.on (communications p s a)).sender; at = (transfer p c.on (communications p s a)).send_at }) y (sym (receive_awaits c.on (communications p s a) s a b o c.is.on refl) ∙ e) in
+              let z = same_Some (record {
+                sequence = (transfer p c.on (communications p s a)).sender;
+                at =
+                    (transfer p c.on (communications p s a)).send_at;
+              }) y (sym (receive_awaits c.on (communications p s a) s a b o c.is.on refl) ∙ e) in
               let f = (r.transferred c.on (communications p s a) c.low c.inside).in_order in
-              let first : place_in order y.sequence y.at ≡ place_in order (transfer p c.on (communications p s a)).sender (transfer p c.on (communications p s a)).send_at = λ j. place_in order (sym z j).sequence (sym z j).at in
-              let second : place_in order s a ≡ place_in order (transfer p c.on (communications p s a)).receiver (transfer p c.on (communications p s a)).receive_at = λ j. place_in order (u j) (v j) in
+              let first : place_in order y.sequence y.at
+              ≡ place_in order (transfer p c.on (communications p s a)).sender (transfer p c.on (communications p s a)).send_at =
+              λ j. place_in order (sym z j).sequence (sym z j).at in
+              let second : place_in order s a
+              ≡ place_in order (transfer p c.on (communications p s a)).receiver (transfer p c.on (communications p s a)).receive_at =
+              λ j. place_in order (u j) (v j) in
               omega arith
 
       of_wait : (o q s a : ℕ) (y : Place) → Stands p s a (Sync o q) → awaited p s a (Sync o q) ≡ Some y → before y s a
@@ -123,9 +132,15 @@ module _ (p : Program) where
           by (sends u v w) = absurd cc
           by (receives u v w) = absurd cc
           by (waits u v w) =
-              let z = same_Some (record { sequence = (transfer p c.on (communications p s a)).receiver; at = (transfer p c.on (communications p s a)).receive_at }) y (sym (wait_awaits c.on (communications p s a) s a o q c.is.on refl) ∙ e) in
+              let z = same_Some (record {
+                sequence = (transfer p c.on (communications p s a)).receiver;
+                at =
+                    (transfer p c.on (communications p s a)).receive_at;
+              }) y (sym (wait_awaits c.on (communications p s a) s a o q c.is.on refl) ∙ e) in
               let f = ((r.transferred c.on (communications p s a) c.low c.inside).others s a (Sync o q) c.is u v).1 in
-              let first : place_in order y.sequence y.at ≡ place_in order (transfer p c.on (communications p s a)).receiver (transfer p c.on (communications p s a)).receive_at = λ j. place_in order (sym z j).sequence (sym z j).at in
+              let first : place_in order y.sequence y.at
+              ≡ place_in order (transfer p c.on (communications p s a)).receiver (transfer p c.on (communications p s a)).receive_at =
+              λ j. place_in order (sym z j).sequence (sym z j).at in
               omega arith
 
       of_send : (b o s a : ℕ) (y : Place) → Stands p s a (Send b o) → awaited p s a (Send b o) ≡ Some y → before y s a
@@ -142,7 +157,9 @@ module _ (p : Program) where
               let f = (r.transferred c.on t c.low (omega arith)).next (omega arith) in
               let first : place_in order y.sequence y.at ≡ place_in order (transfer p c.on t).receiver (transfer p c.on t).receive_at = λ j. place_in order (sym z j).sequence (sym z j).at in
               let second : place_in order s a ≡ place_in order (transfer p c.on (suc t)).sender (transfer p c.on (suc t)).send_at = λ j. place_in order (u j) (v j) in
-              let third : place_in order (transfer p c.on (t + 1)).sender (transfer p c.on (t + 1)).send_at ≡ place_in order (transfer p c.on (suc t)).sender (transfer p c.on (suc t)).send_at = λ j. place_in order (transfer p c.on (one j)).sender (transfer p c.on (one j)).send_at in
+              let third : place_in order (transfer p c.on (t + 1)).sender (transfer p c.on (t + 1)).send_at
+              ≡ place_in order (transfer p c.on (suc t)).sender (transfer p c.on (suc t)).send_at =
+              λ j. place_in order (transfer p c.on (one j)).sender (transfer p c.on (one j)).send_at in
               omega arith
 
           by : Part c.on (communications p s a) s a (Send b o) → before y s a
@@ -183,7 +200,19 @@ module _ (p : Program) where
       }
 
       buffer : (b : ℕ) → b < length p.buffers → IsBuffer p order (places p) b
-      buffer b l = let w = items.written.buffers b l in record { instr = w.instr; stands = w.stands; writes = w.writes; only = w.only; near = w.near; own_reads = w.own_reads; some_place = w.some_place; few_places = w.few_places; one_place = w.one_place }
+      buffer b l = let w = items.written.buffers b l in
+          record {
+            instr = w.instr;
+            stands = w.stands;
+            writes = w.writes;
+            only = w.only;
+            near = w.near;
+            own_reads =
+                w.own_reads;
+            some_place = w.some_place;
+            few_places = w.few_places;
+            one_place = w.one_place;
+          }
 
       paired : (q : ℕ) → q < length p.pairs → IsPair p order (places p) q
       paired q l = let w = items.guarded.pairs q l in record {
@@ -200,12 +229,16 @@ module _ (p : Program) where
       abbrev moved : (m t : ℕ) → m < media → t < transfers p m → IsTransferred p m t
       moved = items.transferred.transfers
 
-      after_next : (m t : ℕ) → m < media → t + 1 < transfers p m → place_in order (transfer p m t).receiver (transfer p m t).receive_at < place_in order (transfer p m (t + 1)).sender (transfer p m (t + 1)).send_at
+      after_next : (m t : ℕ) → m < media → t + 1 < transfers p m → place_in order (transfer p m t).receiver (transfer p m t).receive_at
+          < place_in order (transfer p m (t + 1)).sender (transfer p m (t + 1)).send_at
       after_next m t l k =
           let n = moved m (t + 1) l k in
           let one : t + 1 ≡ suc t = omega arith in
-          kept (transfer p m (t + 1)).sender (transfer p m (t + 1)).send_at (Send (transfer p m (t + 1)).sent (operator p (transfer p m (t + 1)).receiver)) (record { sequence = (transfer p m t).receiver; at = (transfer p m t).receive_at }) n.sends.stands
-          (send_awaits m (t + 1) (transfer p m (t + 1)).sender (transfer p m (t + 1)).send_at (transfer p m (t + 1)).sent (operator p (transfer p m (t + 1)).receiver) n.sends.on n.sends.number ∙ ap (receive_before p m) one)
+          kept (transfer p m (t + 1)).sender (transfer p m (t + 1)).send_at
+          (Send (transfer p m (t + 1)).sent (operator p (transfer p m (t + 1)).receiver))
+          (record { sequence = (transfer p m t).receiver; at = (transfer p m t).receive_at }) n.sends.stands
+          (send_awaits m (t + 1) (transfer p m (t + 1)).sender (transfer p m (t + 1)).send_at (transfer p m (t + 1)).sent
+          (operator p (transfer p m (t + 1)).receiver) n.sends.on n.sends.number ∙ ap (receive_before p m) one)
 
       is_moved : (m t : ℕ) → m < media → t < transfers p m → IsTransfer p order (places p) m t
       is_moved m t l k = let n = moved m t l k in record {
@@ -216,7 +249,9 @@ module _ (p : Program) where
           kept s a x (record { sequence = (transfer p m t).receiver; at = (transfer p m t).receive_at }) c.stands
               (ap (awaited p s a) is ∙ wait_awaits m t s a (operator p (transfer p m t).sender) (operator p (transfer p m t).receiver) c.on c.number),
         );
-        in_order = kept (transfer p m t).receiver (transfer p m t).receive_at (Recv (transfer p m t).received (operator p (transfer p m t).sender)) (record { sequence = (transfer p m t).sender; at = (transfer p m t).send_at }) n.receives.stands
+        in_order = kept (transfer p m t).receiver (transfer p m t).receive_at
+            (Recv (transfer p m t).received (operator p (transfer p m t).sender))
+            (record { sequence = (transfer p m t).sender; at = (transfer p m t).send_at }) n.receives.stands
             (receive_awaits m t (transfer p m t).receiver (transfer p m t).receive_at (transfer p m t).received (operator p (transfer p m t).sender) n.receives.on n.receives.number);
         next = λ h. after_next m t l h;
         lengths = items.written.lengths m t l k;

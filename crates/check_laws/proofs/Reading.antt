@@ -24,7 +24,8 @@ module _ (p : Program) (g : Graph) (seqs : List Seq) (media : ℕ) (order : List
   many = sym (length-map p.pairs (λ o. Some o)) ∙ ap (λ (os : List (Option ℕ)). length os) h.numbered ∙ length-map (readers p) (λ (r : Reader). operator_of p r.buffer)
 
   -- a reading sequence that does not write the buffer has a pair
-  has_pair : (b s a k : ℕ) (x : Instr) → b < length p.buffers → (s ≡ (writing p b).writer → ⊥) → Stands p s a x → ReadsAt x k b → (q : ℕ) × (q < length p.pairs) × ((reader p q).buffer ≡ b) × ((reader p q).sequence ≡ s)
+  has_pair : (b s a k : ℕ) (x : Instr) → b < length p.buffers → (s ≡ (writing p b).writer → ⊥) → Stands p s a x → ReadsAt x k b → (q : ℕ)
+      × (q < length p.pairs) × ((reader p q).buffer ≡ b) × ((reader p q).sequence ≡ s)
   has_pair b s a k x l n st rd = by (code_there p s a x st).it (code_there p s a x st).stands
     where
       by : (y : SeqCode) → slice_get p.seqs s ≡ Some y → (q : ℕ) × (q < length p.pairs) × ((reader p q).buffer ≡ b) × ((reader p q).sequence ≡ s)
@@ -74,7 +75,9 @@ module _ (p : Program) (g : Graph) (seqs : List Seq) (media : ℕ) (order : List
       other : (q : ℕ) → q < length p.pairs → (reader p q).buffer ≡ b → (reader p q).sequence ≡ s → place_in order (writing p b).writer (writing p b).at < place_in order s a
       other q m u v =
           let w = h.pairs q m in
-          let one : place_in order (writing p b).writer (writing p b).at ≡ place_in order (writing p (reader p q).buffer).writer (writing p (reader p q).buffer).at = ap (λ (c : ℕ). place_in order (writing p c).writer (writing p c).at) (sym u) in
+          let one : place_in order (writing p b).writer (writing p b).at
+          ≡ place_in order (writing p (reader p q).buffer).writer (writing p (reader p q).buffer).at =
+          ap (λ (c : ℕ). place_in order (writing p c).writer (writing p c).at) (sym u) in
           let two = rises (writing p (reader p q).buffer).writer (writing p (reader p q).buffer).at (pair p q).signal_full _ w.signal_full.stands w.after_write in
           let three = w.full_first in
           let here = subst (λ (t : ℕ). Stands p t a x) (sym v) e in

@@ -36,7 +36,8 @@ speed_code = record {
   buffers = one 0 ∷ eight ∷ one 1 ∷ eight ∷ one 1 ∷ one 0 ∷ one 0 ∷ one 0 ∷ one 0 ∷ one 0 ∷ one 0 ∷ one 0 ∷ one 0 ∷ [];
   pairs = 0 ∷ 1 ∷ 1 ∷ 0 ∷ [];
   seqs = code 0 None (Pre0 3 ∷ []) (Call 1 [] (5 ∷ []) ∷ Suc1 3 ∷ Call 6 (5 ∷ 6 ∷ []) (7 ∷ []) ∷ Pre0 3 ∷ Call 7 (7 ∷ []) (8 ∷ [])
-      ∷ Call 8 (8 ∷ 7 ∷ []) (9 ∷ []) ∷ Call 9 (8 ∷ 7 ∷ []) (10 ∷ []) ∷ Call 10 (8 ∷ 7 ∷ []) (11 ∷ []) ∷ Call 11 (8 ∷ 9 ∷ 10 ∷ 11 ∷ []) (12 ∷ []) ∷ Call 12 (12 ∷ []) [] ∷ Suc0 0 ∷ Call 0 [] (0 ∷ []) ∷ Pre1 0 ∷ [])
+      ∷ Call 8 (8 ∷ 7 ∷ []) (9 ∷ []) ∷ Call 9 (8 ∷ 7 ∷ []) (10 ∷ []) ∷ Call 10 (8 ∷ 7 ∷ []) (11 ∷ [])
+      ∷ Call 11 (8 ∷ 9 ∷ 10 ∷ 11 ∷ []) (12 ∷ []) ∷ Call 12 (12 ∷ []) [] ∷ Suc0 0 ∷ Call 0 [] (0 ∷ []) ∷ Pre1 0 ∷ [])
       ∷ code 0 (Some 0) (Pre0 0 ∷ []) (Suc1 0 ∷ Send 0 1 ∷ Pre0 0 ∷ Suc0 3 ∷ Recv 6 1 ∷ Pre1 3 ∷ [])
       ∷ code 1 None (Pre0 1 ∷ []) (Call 2 [] (1 ∷ []) ∷ Suc1 1 ∷ Call 4 (1 ∷ 2 ∷ []) (3 ∷ []) ∷ Pre0 1 ∷ Suc0 2 ∷ Call 5 (3 ∷ []) (4 ∷ []) ∷ Pre1 2 ∷ Call 13 (4 ∷ []) [] ∷ Call 3 (3 ∷ []) [] ∷ [])
       ∷ code 1 (Some 0) (Pre0 2 ∷ []) (Suc0 1 ∷ Recv 2 0 ∷ Pre1 1 ∷ Suc1 2 ∷ Send 4 0 ∷ Pre0 2 ∷ []) ∷ [];
@@ -77,7 +78,8 @@ bus_right : (bus_cause (bus_program loop_a loop_b loop_c loop_d (Pre0 0 ∷ []) 
 bus_right = (refl, refl, refl, refl)
 
 -- a semaphore in a prologue that is not there; an operator that is not there
-bus_names : (bus_cause (bus_program loop_a loop_b loop_c loop_d (Pre0 7 ∷ []) (Pre0 1 ∷ [])) ≡ Some sequences_differ) × (bus_cause (bus_program loop_a (Suc1 0 ∷ Send 0 2 ∷ Pre0 0 ∷ []) loop_c loop_d (Pre0 0 ∷ []) (Pre0 1 ∷ [])) ≡ Some sequences_differ)
+bus_names : (bus_cause (bus_program loop_a loop_b loop_c loop_d (Pre0 7 ∷ []) (Pre0 1 ∷ [])) ≡ Some sequences_differ)
+    × (bus_cause (bus_program loop_a (Suc1 0 ∷ Send 0 2 ∷ Pre0 0 ∷ []) loop_c loop_d (Pre0 0 ∷ []) (Pre0 1 ∷ [])) ≡ Some sequences_differ)
 bus_names = (refl, refl)
 
 -- an operation that is called in a prologue alone; a call in a communicator
@@ -86,7 +88,8 @@ bus_calls : (bus_cause (bus_program loop_a loop_b (Suc1 1 ∷ Call 2 (2 ∷ []) 
 bus_calls = (refl, refl)
 
 -- a send to itself; a send in a computation sequence
-bus_transfers : (bus_cause (bus_program loop_a (Suc1 0 ∷ Send 0 0 ∷ Pre0 0 ∷ []) loop_c loop_d (Pre0 0 ∷ []) (Pre0 1 ∷ [])) ≡ Some transfers_wrong) × (bus_cause (bus_program (loop_a ++ Send 0 1 ∷ []) loop_b loop_c loop_d (Pre0 0 ∷ []) (Pre0 1 ∷ [])) ≡ Some transfers_wrong)
+bus_transfers : (bus_cause (bus_program loop_a (Suc1 0 ∷ Send 0 0 ∷ Pre0 0 ∷ []) loop_c loop_d (Pre0 0 ∷ []) (Pre0 1 ∷ []))
+    ≡ Some transfers_wrong) × (bus_cause (bus_program (loop_a ++ Send 0 1 ∷ []) loop_b loop_c loop_d (Pre0 0 ∷ []) (Pre0 1 ∷ [])) ≡ Some transfers_wrong)
 bus_transfers = (refl, refl)
 
 -- the other value is sent; a call that reads what it writes
@@ -95,7 +98,8 @@ bus_buffers : (bus_cause (bus_program loop_a (Suc1 0 ∷ Send 1 1 ∷ Pre0 0 ∷
 bus_buffers = (refl, refl)
 
 -- a take that is missing; a read before the take
-bus_pairs : (bus_cause (bus_program loop_a (Send 0 1 ∷ Pre0 0 ∷ []) loop_c loop_d (Pre0 0 ∷ []) (Pre0 1 ∷ [])) ≡ Some pairs_wrong) × (bus_cause (bus_program loop_a (Send 0 1 ∷ Suc1 0 ∷ Pre0 0 ∷ []) loop_c loop_d (Pre0 0 ∷ []) (Pre0 1 ∷ [])) ≡ Some pairs_wrong)
+bus_pairs : (bus_cause (bus_program loop_a (Send 0 1 ∷ Pre0 0 ∷ []) loop_c loop_d (Pre0 0 ∷ []) (Pre0 1 ∷ [])) ≡ Some pairs_wrong)
+    × (bus_cause (bus_program loop_a (Send 0 1 ∷ Suc1 0 ∷ Pre0 0 ∷ []) loop_c loop_d (Pre0 0 ∷ []) (Pre0 1 ∷ [])) ≡ Some pairs_wrong)
 bus_pairs = (refl, refl)
 
 speed_cause : cause speed_code speed_graph.vertices (sequences speed_archi) 2 1 ≡ Some (stuck_at (place 0 1 ∷ place 1 0 ∷ place 2 1 ∷ place 3 1 ∷ []))

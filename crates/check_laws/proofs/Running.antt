@@ -1,5 +1,36 @@
 -- The run: each of its entries was ready when it came, it stops only where nothing is ready, and it makes all that any order makes that keeps what is awaited.
-use Rattle.std.proofs.Common.{◌≡◌, ◌≢◌, ℕ, zero, suc, ◌+◌, ◌<◌, ◌≤◌, true, cond, nat_eq, List, [], ◌∷◌, ◌++◌, length, take, Option, Some, None, refl, sym, ap, subst, inl, inr, arith, ◌∙◌, eq-eqb, length-append}
+use Rattle.std.proofs.Common.{
+  ◌≡◌,
+  ◌≢◌,
+  ℕ,
+  zero,
+  suc,
+  ◌+◌,
+  ◌<◌,
+  ◌≤◌,
+  true,
+  cond,
+  nat_eq,
+  List,
+  [],
+  ◌∷◌,
+  ◌++◌,
+  length,
+  take,
+  Option,
+  Some,
+  None,
+  refl,
+  sym,
+  ap,
+  subst,
+  inl,
+  inr,
+  arith,
+  ◌∙◌,
+  eq-eqb,
+  length-append,
+}
 use Rattle.std.specs.Prelude.{slice_get, nat_lt}
 use Rattle.std.proofs.lemmas.Bool.{false≢true, cases_eq, cases_lt, ne_eqb, lt-ltb, ltb-true}
 use Rattle.std.proofs.lemmas.Option.{same_Some, slice_get_within}
@@ -79,7 +110,8 @@ module _ (p : Program) where
   pub no_more : (order : List ℕ) → IsRun p order → (s : ℕ) → tally (mine s) order ≤ length (turn p s)
   no_more order r s = elim (cases_lt (length (turn p s)) (tally (mine s) order)) [
     | inl l ↦ (let e = entry order s (length (turn p s)) l in let g = going (take (place_in order s (length (turn p s))) order) s (r.ready (place_in order s (length (turn p s))) s e.stands) in
-        let n = e.number in let m = made_is (take (place_in order s (length (turn p s))) order) s in let w = slice_get_within (turn p s) (made (take (place_in order s (length (turn p s))) order) s) g.it g.stands in absurd (omega arith))
+        let n = e.number in let m = made_is (take (place_in order s (length (turn p s))) order) s in
+        let w = slice_get_within (turn p s) (made (take (place_in order s (length (turn p s))) order) s) g.it g.stands in absurd (omega arith))
     | inr l ↦ l
   ]
 
@@ -91,7 +123,8 @@ module _ (p : Program) where
       let before = counted order r i (omega arith) in
       let step = take_next order i s.0 s.1 in
       let own : tally (mine s.0) (take (suc i) order) ≡ tally (mine s.0) (take i order) + 1 = ap (tally (mine s.0)) step ∙ own_more (take i order) s.0 in
-      let rest = more_below (λ t. tally (mine t) (take i order)) (λ t. tally (mine t) (take (suc i) order)) (length p.seqs) s.0 (r.names i s.0 s.1) own (λ t h. ap (tally (mine t)) step ∙ other_more (take i order) s.0 t h) in
+      let rest = more_below (λ t. tally (mine t) (take i order)) (λ t. tally (mine t) (take (suc i) order)) (length p.seqs) s.0
+      (r.names i s.0 s.1) own (λ t h. ap (tally (mine t)) step ∙ other_more (take i order) s.0 t h) in
       omega arith
 
   total : ℕ
@@ -100,7 +133,8 @@ module _ (p : Program) where
   pub short : (order : List ℕ) → IsRun p order → length order ≤ sum_below (λ s. length (turn p s)) (length p.seqs)
   short order r =
       let all = counted order r (length order) (omega arith) in
-      let l = le_below (λ t. tally (mine t) (take (length order) order)) (λ s. length (turn p s)) (length p.seqs) (λ t _. subst (λ o. tally (mine t) o ≤ length (turn p t)) (sym (take_all (length order) order (omega arith))) (no_more order r t)) in
+      let l = le_below (λ t. tally (mine t) (take (length order) order)) (λ s. length (turn p s)) (length p.seqs)
+      (λ t _. subst (λ o. tally (mine t) o ≤ length (turn p t)) (sym (take_all (length order) order (omega arith))) (no_more order r t)) in
       omega arith
 
   stops_from : (n : ℕ) (order : List ℕ) → IsRun p order → sum_below (λ s. length (turn p s)) (length p.seqs) ≤ length order + n → next p (run_from p n order) ≡ None
@@ -129,7 +163,8 @@ module _ (p : Program) where
 
   -- An order is nowhere further than what is done, if no entry of it goes further.
   module _ (order done : List ℕ)
-      (moves : (i s : ℕ) → slice_get order i ≡ Some s → i < length order → ((u : ℕ) → tally (mine u) (take i order) ≤ tally (mine u) done) → tally (mine s) (take i order) ≡ tally (mine s) done → ⊥) where
+      (moves : (i s : ℕ) → slice_get order i ≡ Some s → i < length order → ((u : ℕ) → tally (mine u) (take i order) ≤ tally (mine u) done)
+      → tally (mine s) (take i order) ≡ tally (mine s) done → ⊥) where
     no_further : (i : ℕ) → i ≤ length order → (t : ℕ) → tally (mine t) (take i order) ≤ tally (mine t) done
     no_further zero l t = omega arith
     no_further (suc i) l t = by (get_some order i l).0 (get_some order i l).1 (λ u. no_further i (omega arith) u)
@@ -149,7 +184,8 @@ module _ (p : Program) where
 
   -- Beside an order that keeps what is awaited, a run that stops has made all.
   module _ (order : List ℕ) (follows : FollowsLoops p order) (keeps : Keeps p order) (done : List ℕ) (stopped : next p done ≡ None) where
-    ordered_moves : (i s : ℕ) → slice_get order i ≡ Some s → i < length order → ((u : ℕ) → tally (mine u) (take i order) ≤ tally (mine u) done) → tally (mine s) (take i order) ≡ tally (mine s) done → ⊥
+    ordered_moves : (i s : ℕ) → slice_get order i ≡ Some s → i < length order
+        → ((u : ℕ) → tally (mine u) (take i order) ≤ tally (mine u) done) → tally (mine s) (take i order) ≡ tally (mine s) done → ⊥
     ordered_moves i s e l before same =
         let low = follows.names i s e in
         let grows = tally_grows (mine s) order i (length order) s e (eq-eqb s s refl) l in
@@ -235,7 +271,8 @@ module _ (p : Program) where
         let e = entry order s a (omega arith) in
         let k = r.ready (place_in order s a) s e.stands in
         let n = made_is (take (place_in order s a) order) s ∙ e.number in
-        let past : is_past p (take (place_in order s a) order) (Some y) ≡ true = ap (is_past p (take (place_in order s a) order)) (sym q) ∙ sym (ready_at (take (place_in order s a) order) s a x n h) ∙ k in
+        let past : is_past p (take (place_in order s a) order) (Some y) ≡ true = ap (is_past p (take (place_in order s a) order)) (sym q)
+        ∙ sym (ready_at (take (place_in order s a) order) s a x n h) ∙ k in
         let d = ltb-true y.at (made (take (place_in order s a) order) y.sequence) past in
         let u = made_is (take (place_in order s a) order) y.sequence in
         unseen order (place_in order s a) y.sequence y.at (omega arith)

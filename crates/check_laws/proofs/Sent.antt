@@ -21,10 +21,22 @@ pub record Sends (xs : List Instr) (t b : ℕ) : Type 0 where
   pub number : tally is_communication (take at xs) ≡ t
 
 one : (x : Instr) (xs : List Instr) (t b : ℕ) → is_communication x ≡ true → Sends xs t b → Sends (x ∷ xs) (suc t) b
-one x xs t b e s = record { at = suc s.at; to = s.to; stands = s.stands; number = ap (λ (c : Bool). cond c (suc (tally is_communication (take s.at xs))) (tally is_communication (take s.at xs))) e ∙ ap (λ (n : ℕ). suc n) s.number }
+one x xs t b e s = record {
+  at = suc s.at;
+  to = s.to;
+  stands = s.stands;
+  number =
+      ap (λ (c : Bool). cond c (suc (tally is_communication (take s.at xs))) (tally is_communication (take s.at xs))) e ∙ ap (λ (n : ℕ). suc n) s.number;
+}
 
 none : (x : Instr) (xs : List Instr) (t b : ℕ) → is_communication x ≡ false → Sends xs t b → Sends (x ∷ xs) t b
-none x xs t b e s = record { at = suc s.at; to = s.to; stands = s.stands; number = ap (λ (c : Bool). cond c (suc (tally is_communication (take s.at xs))) (tally is_communication (take s.at xs))) e ∙ s.number }
+none x xs t b e s = record {
+  at = suc s.at;
+  to = s.to;
+  stands = s.stands;
+  number =
+      ap (λ (c : Bool). cond c (suc (tally is_communication (take s.at xs))) (tally is_communication (take s.at xs))) e ∙ s.number;
+}
 
 sent_from : (xs : List Instr) (t b : ℕ) → sent_in xs t ≡ Some b → Sends xs t b
 sent_from [] t b e = absurd cc
@@ -68,7 +80,8 @@ found_in (q ∷ qs) m t (suc s) b e f u = by (cond (is_on m q.seq.medium) (sent_
   where
     by : (o : Option ℕ) → cond (is_on m q.seq.medium) (sent_in q.turn t) None ≡ o → sent_by qs m t ≡ Some b → sent_by (q ∷ qs) m t ≡ Some b
     by None g r = ap (λ (o : Option ℕ). first_of o (sent_by qs m t)) g ∙ r
-    by (Some c) g r = let z = chosen (is_on m q.seq.medium) (sent_in q.turn t) c g in ap (λ (o : Option ℕ). first_of o (sent_by qs m t)) g ∙ ap (λ (k : ℕ). Some k) (u 0 c (on_is m q.seq.medium z.0) z.1)
+    by (Some c) g r = let z = chosen (is_on m q.seq.medium) (sent_in q.turn t) c g in
+        ap (λ (o : Option ℕ). first_of o (sent_by qs m t)) g ∙ ap (λ (k : ℕ). Some k) (u 0 c (on_is m q.seq.medium z.0) z.1)
 
 abbrev buffer_of : Instr → ℕ
 buffer_of (Send b o) = b
@@ -87,4 +100,11 @@ module _ (p : Program) where
 
       only : (r d : ℕ) → medium_in (slice_get p.seqs r) ≡ Some m → sent_in (turn_of (slice_get p.seqs r)) t ≡ Some d → d ≡ (transfer p m t).sent
       only r d e f = let s = sent_from (turn_of (slice_get p.seqs r)) t d f in
-          by r d s.at s.to (part p m t r s.at (Send d s.to) h (record { on = e; stands = s.stands; is_one = refl; number = counts_tally is_communication (take s.at (turn_of (slice_get p.seqs r))) ∙ s.number }))
+          by r d s.at s.to (part p m t r s.at (Send d s.to) h
+          (record {
+            on = e;
+            stands = s.stands;
+            is_one = refl;
+            number =
+                counts_tally is_communication (take s.at (turn_of (slice_get p.seqs r))) ∙ s.number;
+          }))

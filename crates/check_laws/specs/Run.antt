@@ -31,7 +31,7 @@ use Rattle.sequence_build_laws.specs.Instructions.{turn, medium, communications}
 use Rattle.sequence_build_laws.specs.Places.{writing, pair, transfer}
 use Rattle.sequence_build_laws.specs.WellFormed.{Stands, place_in}
 
--- a place of a loop
+-- A place of a loop: a sequence, and the number of an instruction of its loop.
 pub record Place : Type 0 where
   pub sequence : ℕ
   pub at : ℕ

@@ -59,7 +59,7 @@ pub data Cause : Type 0 where
   prologue_wrong : Cause
   stuck_at : List Place → Cause
 
--- a run that stops
+-- The cause for which a run is stuck at these places; none if there is no place.
 abbrev pub stopped : List Place → Option Cause
 stopped [] = None
 stopped (x ∷ xs) = Some (stuck_at (x ∷ xs))
@@ -119,7 +119,7 @@ module _ (p : Program) where
   abbrev pub are_transferred : ℕ → Bool
   are_transferred media = communicators p && on_media p media && counts p && are_moved media
 
-  -- its buffers carry what operation v takes and gives
+  -- The buffers of instruction a of sequence s carry what operation v takes and gives.
   abbrev pub fits_at : List Vertex → ℕ → Vertex → ℕ → ℕ → Bool
   fits_at vertices v x s a =
       takes p vertices (ins_in (slice_get (turn p s) a)) x.guards x.ins &&

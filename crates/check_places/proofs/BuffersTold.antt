@@ -222,7 +222,9 @@ module _ (p : Program) (b : ℕ) where
                 let k = has p Read b t c r.0 (there_reads p b t c r) in
                 elim (passed_or_later (is_near_at p b) 0 0 0 reads u (rising p Read b) f k.at k.place k.there) [
                   | inl near ↦ near_read t c r near
-                  | inr later ↦ absurd (not_earlier u k.place u.port later (subst (λ (s : ℕ). IsEarlier s k.place.at u.sequence u.at) (sym k.sequence) (subst (λ (d : ℕ). IsEarlier t d u.sequence u.at) (sym k.instr) l)))
+                  | inr later ↦ absurd (not_earlier u k.place u.port later
+                      (subst (λ (s : ℕ). IsEarlier s k.place.at u.sequence u.at) (sym k.sequence)
+                      (subst (λ (d : ℕ). IsEarlier t d u.sequence u.at) (sym k.instr) l)))
                 ])
           ]
 

@@ -32,7 +32,8 @@ module _ (p : Program) (g : Graph) (seqs : List Seq) (operators media : ℕ) whe
   Reason c o = (w : Why) × (o ≡ Some w) × Explains p g seqs operators media c w
 
   -- the first place is a reason
-  reason : (c : Cause) (o : Option Place) → (o ≡ None → ⊥) → ((y : Place) → o ≡ Some y → (cause_of y.rule ≡ c) × Shows p g seqs operators media y × IsFirst p g seqs operators media y) → Reason c (breaks o)
+  reason : (c : Cause) (o : Option Place) → (o ≡ None → ⊥)
+      → ((y : Place) → o ≡ Some y → (cause_of y.rule ≡ c) × Shows p g seqs operators media y × IsFirst p g seqs operators media y) → Reason c (breaks o)
   reason c None some told = absurd (some refl)
   reason c (Some y) some told = (Breaks y, refl, told y refl)
 

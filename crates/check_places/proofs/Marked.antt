@@ -88,7 +88,8 @@ module _ (p : Program) (role : Role) (n : ℕ) where
       by None e =
           let all : every p (λ t c x. all_at (λ j d. implies (nat_eq d n) (is_other s a k t c j)) 0 (named role x)) ≡ true =
           sym (all_marks (is_other s a k) n p role) ∙ all_pass (λ (m : Mark). is_other s a k m.sequence m.at m.port) (marks_of p role n) e in
-          let here = from_zero (λ j d. implies (nat_eq d n) (is_other s a k s a j)) (named role r.instr) (every_of p (λ t c x. all_at (λ j d. implies (nat_eq d n) (is_other s a k t c j)) 0 (named role x)) all s a r.instr r.stands) k n r.names in
+          let here = from_zero (λ j d. implies (nat_eq d n) (is_other s a k s a j)) (named role r.instr)
+          (every_of p (λ t c x. all_at (λ j d. implies (nat_eq d n) (is_other s a k t c j)) 0 (named role x)) all s a r.instr r.stands) k n r.names in
           absurd (false≢true (sym (ap not same) ∙ implied (nat_eq n n) (is_other s a k s a k) here (eq-eqb n n refl)))
       by (Some m) e =
           let f = failing (λ (m : Mark). is_other s a k m.sequence m.at m.port) (marks_of p role n) m e in
@@ -143,7 +144,8 @@ module _ (p : Program) (role : Role) (n : ℕ) where
           let up : Rising 0 0 0 (m ∷ ms) = subst (λ (us : List Mark). Rising 0 0 0 us) e (rising p role n) in
           elim (passed_or_later test m.sequence m.at (m.port + 1) ms u up.1 h i r.place f) [
             | inl t ↦ inr t
-            | inr later ↦ absurd (not_earlier u r.place u.port later (subst (λ (t : ℕ). IsEarlier t r.place.at u.sequence u.at) (sym r.sequence) (subst (λ (c : ℕ). IsEarlier s c u.sequence u.at) (sym r.instr) l)))
+            | inr later ↦ absurd (not_earlier u r.place u.port later
+                (subst (λ (t : ℕ). IsEarlier t r.place.at u.sequence u.at) (sym r.sequence) (subst (λ (c : ℕ). IsEarlier s c u.sequence u.at) (sym r.instr) l)))
           ])
     ]
 

@@ -22,20 +22,39 @@ pub found_at : (xs : List Instr) (t : ℕ) (x : Instr) → slice_get xs (communi
 found_at [] t x h = absurd (cc)
 found_at (y ∷ ys) zero x h = by (is_communication y) refl (λ k e. found_at ys k x e) h
   where
-    by : (b : Bool) → is_communication y ≡ b → ((k : ℕ) → slice_get ys (communication_at ys k) ≡ Some x → (is_communication x ≡ true) × (count_by is_communication (take (communication_at ys k) ys) ≡ k)) → slice_get (y ∷ ys) (cond b 0 (suc (communication_at ys zero))) ≡ Some x → (is_communication x ≡ true) × (count_by is_communication (take (cond b 0 (suc (communication_at ys zero))) (y ∷ ys)) ≡ zero)
+    by : (b : Bool) → is_communication y ≡ b
+        → ((k : ℕ) → slice_get ys (communication_at ys k) ≡ Some x → (is_communication x ≡ true)
+        × (count_by is_communication (take (communication_at ys k) ys) ≡ k))
+        → slice_get (y ∷ ys) (cond b 0 (suc (communication_at ys zero))) ≡ Some x → (is_communication x ≡ true)
+        × (count_by is_communication (take (cond b 0 (suc (communication_at ys zero))) (y ∷ ys)) ≡ zero)
     by true e more h = let same : y ≡ x = cc in (ap is_communication (sym same) ∙ e, refl)
     by false e more h =
-        let r = more zero h in
-        (r.0, counted y (take (communication_at ys zero) ys) ∙ ap (λ (b : Bool). cond b 1 0 + count_by is_communication (take (communication_at ys zero) ys)) e ∙ (let z : 0 + count_by is_communication (take (communication_at ys zero) ys) ≡ zero = omega (arith, r.1) in z))
+        let r = more zero h in (
+          r.0,
+          counted y (take (communication_at ys zero) ys)
+              ∙ ap (λ (b : Bool). cond b 1 0 + count_by is_communication (take (communication_at ys zero) ys)) e
+              ∙ (let z : 0 + count_by is_communication (take (communication_at ys zero) ys) ≡ zero = omega (arith, r.1) in z),
+        )
 found_at (y ∷ ys) (suc t) x h = by (is_communication y) refl (λ k e. found_at ys k x e) h
   where
-    by : (b : Bool) → is_communication y ≡ b → ((k : ℕ) → slice_get ys (communication_at ys k) ≡ Some x → (is_communication x ≡ true) × (count_by is_communication (take (communication_at ys k) ys) ≡ k)) → slice_get ys (communication_at ys (cond b t (suc t))) ≡ Some x → (is_communication x ≡ true) × (count_by is_communication (y ∷ take (communication_at ys (cond b t (suc t))) ys) ≡ suc t)
+    by : (b : Bool) → is_communication y ≡ b
+        → ((k : ℕ) → slice_get ys (communication_at ys k) ≡ Some x → (is_communication x ≡ true)
+        × (count_by is_communication (take (communication_at ys k) ys) ≡ k)) → slice_get ys (communication_at ys (cond b t (suc t)))
+        ≡ Some x → (is_communication x ≡ true) × (count_by is_communication (y ∷ take (communication_at ys (cond b t (suc t))) ys) ≡ suc t)
     by true e more h =
-        let r = more t h in
-        (r.0, counted y (take (communication_at ys t) ys) ∙ ap (λ (b : Bool). cond b 1 0 + count_by is_communication (take (communication_at ys t) ys)) e ∙ (let z : 1 + count_by is_communication (take (communication_at ys t) ys) ≡ suc t = omega (arith, r.1) in z))
+        let r = more t h in (
+          r.0,
+          counted y (take (communication_at ys t) ys)
+              ∙ ap (λ (b : Bool). cond b 1 0 + count_by is_communication (take (communication_at ys t) ys)) e
+              ∙ (let z : 1 + count_by is_communication (take (communication_at ys t) ys) ≡ suc t = omega (arith, r.1) in z),
+        )
     by false e more h =
-        let r = more (suc t) h in
-        (r.0, counted y (take (communication_at ys (suc t)) ys) ∙ ap (λ (b : Bool). cond b 1 0 + count_by is_communication (take (communication_at ys (suc t)) ys)) e ∙ (let z : 0 + count_by is_communication (take (communication_at ys (suc t)) ys) ≡ suc t = omega (arith, r.1) in z))
+        let r = more (suc t) h in (
+          r.0,
+          counted y (take (communication_at ys (suc t)) ys)
+              ∙ ap (λ (b : Bool). cond b 1 0 + count_by is_communication (take (communication_at ys (suc t)) ys)) e
+              ∙ (let z : 0 + count_by is_communication (take (communication_at ys (suc t)) ys) ≡ suc t = omega (arith, r.1) in z),
+        )
 
 past : (y : Instr) (ys : List Instr) (t : ℕ) → is_communication y ≡ false → communication_at (y ∷ ys) t ≡ suc (communication_at ys t)
 past y ys zero e = ap (λ (b : Bool). cond b 0 (suc (communication_at ys zero))) e

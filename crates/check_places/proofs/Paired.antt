@@ -96,8 +96,11 @@ module _ (p : Program) where
 
   pub signalled_after : (q s a : ℕ) → is_signalled_after s a (marks_of p FullSignalled q) ≡ true → IsFullSignalled p q s a
   signalled_after q s a h =
-      let r = and_parts (lone s (marks_of p FullSignalled q)) (nat_lt a (first_at (marks_of p FullSignalled q))) h in
-      (first_at (marks_of p FullSignalled q), ltb-true _ _ r.1, only_of p (signals_full q) (Pre1 q) (same_numbers q) (full_signalled q) s (first_at (marks_of p FullSignalled q)) (only_at FullSignalled q s r.0))
+      let r = and_parts (lone s (marks_of p FullSignalled q)) (nat_lt a (first_at (marks_of p FullSignalled q))) h in (
+        first_at (marks_of p FullSignalled q),
+        ltb-true _ _ r.1,
+        only_of p (signals_full q) (Pre1 q) (same_numbers q) (full_signalled q) s (first_at (marks_of p FullSignalled q)) (only_at FullSignalled q s r.0),
+      )
 
   pub declared : (q : ℕ) (x : Reader) → has_operator (slice_get p.pairs q) (operator_of p x.buffer) ≡ true → IsDeclared p q x
   declared q x h = same_operator (slice_get p.pairs q) (operator_of p x.buffer) h
@@ -168,7 +171,9 @@ module _ (p : Program) where
           let all : list_all (λ (u : Mark). implies (nat_eq u.sequence x.sequence) (nat_lt c u.at)) (marks_of p Read x.buffer) ≡ true =
           all_there (λ (u : Mark). implies (nat_eq u.sequence x.sequence) (nat_lt c u.at)) (marks_of p Read x.buffer) (λ i u e.
           implying (nat_eq u.sequence x.sequence) (nat_lt c u.at) (λ t.
-          let least : m.at ≤ u.at = found.least u.at (subst (λ (s : ℕ). Reads p x.buffer s u.at) (eqb-true u.sequence x.sequence t) (reads_there p x.buffer u.sequence u.at u.port (names_of p Read x.buffer i u e))) in
+          let least : m.at ≤ u.at = found.least u.at
+          (subst (λ (s : ℕ). Reads p x.buffer s u.at) (eqb-true u.sequence x.sequence t)
+          (reads_there p x.buffer u.sequence u.at u.port (names_of p Read x.buffer i u e))) in
           lt-ltb c u.at (omega arith))) in
           false≢true (sym f ∙ both_true one.0 (ap (λ (k : ℕ). list_all (λ (u : Mark). implies (nat_eq u.sequence x.sequence) (nat_lt k u.at)) (marks_of p Read x.buffer)) one.1 ∙ all)),
     )
@@ -181,13 +186,15 @@ module _ (p : Program) where
           let all : list_all (λ (u : Mark). implies (nat_eq u.sequence x.sequence) (nat_lt u.at c)) (marks_of p Read x.buffer) ≡ true =
           all_there (λ (u : Mark). implies (nat_eq u.sequence x.sequence) (nat_lt u.at c)) (marks_of p Read x.buffer) (λ i u e.
           implying (nat_eq u.sequence x.sequence) (nat_lt u.at c) (λ t.
-          lt-ltb u.at c (after u.at (subst (λ (s : ℕ). Reads p x.buffer s u.at) (eqb-true u.sequence x.sequence t) (reads_there p x.buffer u.sequence u.at u.port (names_of p Read x.buffer i u e)))))) in
+          lt-ltb u.at c (after u.at (subst (λ (s : ℕ). Reads p x.buffer s u.at) (eqb-true u.sequence x.sequence t)
+          (reads_there p x.buffer u.sequence u.at u.port (names_of p Read x.buffer i u e)))))) in
           false≢true (sym f ∙ both_true one.0 (ap (λ (k : ℕ). list_all (λ (u : Mark). implies (nat_eq u.sequence x.sequence) (nat_lt u.at k)) (marks_of p Read x.buffer)) one.1 ∙ all)),
     )
 
     pub taken_first : is_taken_first x.sequence (marks_of p Read x.buffer) (marks_of p FullTaken q) ≡ true → IsFullTaken p q x.sequence m.at
     taken_first h =
-        let r = and_parts (lone x.sequence (marks_of p FullTaken q)) (list_all (λ (u : Mark). implies (nat_eq u.sequence x.sequence) (nat_lt (first_at (marks_of p FullTaken q)) u.at)) (marks_of p Read x.buffer)) h in
+        let r = and_parts (lone x.sequence (marks_of p FullTaken q))
+        (list_all (λ (u : Mark). implies (nat_eq u.sequence x.sequence) (nat_lt (first_at (marks_of p FullTaken q)) u.at)) (marks_of p Read x.buffer)) h in
         let f = failing is_elsewhere (marks_of p Read x.buffer) m first.is in
         let here = all_here (λ (u : Mark). implies (nat_eq u.sequence x.sequence) (nat_lt (first_at (marks_of p FullTaken q)) u.at)) (marks_of p Read x.buffer) r.1 f.at m f.there in
         let low = ltb-true _ _ (implied (nat_eq m.sequence x.sequence) (nat_lt (first_at (marks_of p FullTaken q)) m.at) here (eq-eqb m.sequence x.sequence found.here)) in

@@ -27,7 +27,20 @@ use Rattle.check_places.specs.Pairs.{declared_place, is_signalled_after, is_sign
 use Rattle.check_places.specs.Shown.{IsFirst, Shows, cause_of}
 use Rattle.check_places.specs.Wrong.{IsEmptyNotSignalled, IsFullNotTaken, IsMissingPair, IsPairElsewhere}
 use Rattle.check_places.proofs.Guarding.{guarded}
-use Rattle.check_places.proofs.Paired.{declared, elsewhere, in_read, missing, not_signalled_after, not_signalled_last, not_taken_before, not_taken_first, paired, signalled_after, taken_before, taken_first}
+use Rattle.check_places.proofs.Paired.{
+  declared,
+  elsewhere,
+  in_read,
+  missing,
+  not_signalled_after,
+  not_signalled_last,
+  not_taken_before,
+  not_taken_first,
+  paired,
+  signalled_after,
+  taken_before,
+  taken_first,
+}
 use Rattle.check_places.proofs.Places.{holds_of, none_parts}
 use Rattle.check_places.proofs.Telling.{Tells, none_at, some_at, tells_each, tells_first, tells_unless}
 
@@ -84,7 +97,10 @@ module _ (p : Program) (g : Graph) (seqs : List Seq) (operators media : ℕ) whe
           let known : IsDeclared p q x = declared p q x (holds_of (has_operator (slice_get p.pairs q) (operator_of p x.buffer)) _ (none_parts _ _ n).1) in
           tells_first ShowsPairs _ _ (writer_told known) (λ k.
           let parts = none_parts _ _ k in
-          reader_told known (taken_before p q w a (holds_of (is_taken_before w a (marks_of p EmptyTaken q)) _ parts.0), signalled_after p q w a (holds_of (is_signalled_after w a (marks_of p FullSignalled q)) _ parts.1))))
+          reader_told known (
+            taken_before p q w a (holds_of (is_taken_before w a (marks_of p EmptyTaken q)) _ parts.0),
+            signalled_after p q w a (holds_of (is_signalled_after w a (marks_of p FullSignalled q)) _ parts.1),
+          )))
 
     not_false : (b : Bool) → not b ≡ false → b ≡ true
     not_false true e = refl
@@ -116,11 +132,15 @@ module _ (p : Program) (g : Graph) (seqs : List Seq) (operators media : ℕ) whe
   all_guarded e =
       let parts = none_parts _ _ e in
       let each = λ (q : ℕ) (x : Reader) (i : slice_get (readers p) q ≡ Some x). guarded p q x (none_at (pair_place p) (readers p) parts.0 q x i) in
-      let few : length p.pairs ≤ length (readers p) = ltb-false (length (readers p)) (length p.pairs) (not_more (nat_lt (length (readers p)) (length p.pairs)) (holds_of (not (nat_lt (length (readers p)) (length p.pairs))) _ parts.1)) in
+      let few : length p.pairs ≤ length (readers p) =
+      ltb-false (length (readers p)) (length p.pairs)
+      (not_more (nat_lt (length (readers p)) (length p.pairs)) (holds_of (not (nat_lt (length (readers p)) (length p.pairs))) _ parts.1)) in
       let many : length (readers p) ≤ length p.pairs = elim (cases_lt (length p.pairs) (length (readers p))) [
         | inl l ↦ (let x = some_at (readers p) (length p.pairs) l in
             let read = and_parts _ (is_read_between p (length p.pairs) x.0.buffer x.0.sequence) (each (length p.pairs) x.0 x.1) in
-            let there = and_parts (nat_lt (length p.pairs) (length p.pairs) && has_operator (slice_get p.pairs (length p.pairs)) (operator_of p x.0.buffer)) (is_written_between p (length p.pairs) (writer_of p x.0.buffer) (written_at p x.0.buffer)) read.0 in
+            let there = and_parts (nat_lt (length p.pairs) (length p.pairs)
+            && has_operator (slice_get p.pairs (length p.pairs)) (operator_of p x.0.buffer))
+            (is_written_between p (length p.pairs) (writer_of p x.0.buffer) (written_at p x.0.buffer)) read.0 in
             let below = and_parts (nat_lt (length p.pairs) (length p.pairs)) (has_operator (slice_get p.pairs (length p.pairs)) (operator_of p x.0.buffer)) there.0 in
             let z = ltb-true (length p.pairs) (length p.pairs) below.0 in absurd (omega (arith, z)))
         | inr l ↦ l

@@ -87,7 +87,8 @@ module _ (p : Program) where
       let low : nat_lt c.sender (length p.seqs) ≡ true = holds_of (nat_lt c.sender (length p.seqs)) _ sent.0 in
       let under : nat_lt c.receiver (length p.seqs) ≡ true = holds_of (nat_lt c.receiver (length p.seqs)) _ received.0 in
       let sends : is_send_to (operator p c.receiver) (slice_get (turn p c.sender) c.send_at) ≡ true = holds_of (is_send_to (operator p c.receiver) (slice_get (turn p c.sender) c.send_at)) _ to.0 in
-      let receives : is_receive_from (operator p c.sender) (slice_get (turn p c.receiver) c.receive_at) ≡ true = holds_of (is_receive_from (operator p c.sender) (slice_get (turn p c.receiver) c.receive_at)) _ from.0 in
+      let receives : is_receive_from (operator p c.sender) (slice_get (turn p c.receiver) c.receive_at)
+      ≡ true = holds_of (is_receive_from (operator p c.sender) (slice_get (turn p c.receiver) c.receive_at)) _ from.0 in
       both_true (both_true
       (both_true (sends_on m t (ltb-true (sender_of p m t) (length p.seqs) low)) sends)
       (both_true (receives_on m t (ltb-true (receiver_of p m t) (length p.seqs) under)) receives))
@@ -227,7 +228,9 @@ module _ (p : Program) where
         let r = in_sequence p m t n a x k in
         let other : is_other m c.sender c.receiver n r.code.seq.medium ≡ true =
         both_true (both_true r.on (not_true (nat_eq n c.sender) (λ e. other_sender (eqb-true n c.sender e)))) (not_true (nat_eq n c.receiver) (λ e. other_receiver (eqb-true n c.receiver e))) in
-        let wait = implied (is_other m c.sender c.receiver n r.code.seq.medium) (is_wait (operator p c.sender) (operator p c.receiver) true (slice_get r.code.turn (communication_at r.code.turn t))) (before n r.code l r.there) other in
+        let wait = implied (is_other m c.sender c.receiver n r.code.seq.medium)
+        (is_wait (operator p c.sender) (operator p c.receiver) true (slice_get r.code.turn (communication_at r.code.turn t)))
+        (before n r.code l r.there) other in
         wait_is (operator p c.sender) (operator p c.receiver) x (sym (ap (is_wait (operator p c.sender) (operator p c.receiver) true) r.found) ∙ wait)
 
     sent_elsewhere : nat_lt c.sender (length p.seqs) ≡ true → is_send_to (operator p c.receiver) (slice_get (turn p c.sender) c.send_at) ≡ false → IsSentElsewhere p m t c.sender c.send_at
@@ -242,7 +245,8 @@ module _ (p : Program) where
           λ e. false≢true (sym f ∙ (ap (is_send_to (operator p c.receiver)) x.2 ∙ eq-eqb x.1 (operator p c.receiver) e)),
         )
 
-    received_elsewhere : nat_lt c.receiver (length p.seqs) ≡ true → is_receive_from (operator p c.sender) (slice_get (turn p c.receiver) c.receive_at) ≡ false → IsReceivedElsewhere p m t c.receiver c.receive_at
+    received_elsewhere : nat_lt c.receiver (length p.seqs) ≡ true
+        → is_receive_from (operator p c.sender) (slice_get (turn p c.receiver) c.receive_at) ≡ false → IsReceivedElsewhere p m t c.receiver c.receive_at
     received_elsewhere l f =
         let r = first_there (receives_at p m t) p.seqs (ltb-true (receiver_of p m t) (length p.seqs) l) in
         let both = and_parts (is_on m r.0.seq.medium) (is_receive (slice_get r.0.turn (communication_at r.0.turn t))) r.2 in
@@ -291,9 +295,12 @@ module _ (p : Program) (g : Graph) (seqs : List Seq) (operators media : ℕ) whe
       (tells_unless ShowsTransfers _ (record { rule = ReceivedElsewhere; subject = Transfer m t; spot = in_loop (crossing p m t).receiver (crossing p m t).receive_at })
       (λ f. (refl, (l, k, (refl, received_elsewhere p m t receive f)), (first, there))))
       (λ from.
-      let here : IsReceivedThere p m t = received_there p m t receive (holds_of (is_receive_from (operator p (crossing p m t).sender) (slice_get (turn p (crossing p m t).receiver) (crossing p m t).receive_at)) _ from) in
+      let here : IsReceivedThere p m t =
+      received_there p m t receive (holds_of
+      (is_receive_from (operator p (crossing p m t).sender) (slice_get (turn p (crossing p m t).receiver) (crossing p m t).receive_at)) _ from) in
       tells_each ShowsTransfers (awaited_place p m t (crossing p m t)) p.seqs (λ s q i before.
-      tells_unless ShowsTransfers (waits_between p m t (crossing p m t).sender (crossing p m t).receiver s q) (record { rule = NotAwaited; subject = Transfer m t; spot = in_loop s (communication_at q.turn t) })
+      tells_unless ShowsTransfers (waits_between p m t (crossing p m t).sender (crossing p m t).receiver s q)
+      (record { rule = NotAwaited; subject = Transfer m t; spot = in_loop s (communication_at q.turn t) })
       (λ f. (
         refl,
         (l, k, (refl, not_awaited p m t s q i f)),

@@ -29,14 +29,56 @@ use Rattle.check_laws.specs.Tests.{buffers_wrong, fits, has_same_len}
 use Rattle.check_laws.proofs.CalledOnce.{of_called}
 use Rattle.check_laws.proofs.Named.{written_of}
 use Rattle.check_places.specs.declared.place.Place.{Place}
-use Rattle.check_places.specs.declared.place.Rule.TheVariants.{NotWritten, WrittenAgain, TouchedElsewhere, ReadTooEarly, WrongPlaces, NotMade, UnequalInputs, OtherInput, UnequalOutputs, OtherOutput, UnequalLengths, OtherValue}
+use Rattle.check_places.specs.declared.place.Rule.TheVariants.{
+  NotWritten,
+  WrittenAgain,
+  TouchedElsewhere,
+  ReadTooEarly,
+  WrongPlaces,
+  NotMade,
+  UnequalInputs,
+  OtherInput,
+  UnequalOutputs,
+  OtherOutput,
+  UnequalLengths,
+  OtherValue,
+}
 use Rattle.check_places.specs.declared.place.Subject.TheVariants.{Buffer, Operation, Input, Output, Transfer}
 use Rattle.check_places.specs.Ahead.{AreRight, FitBefore, HoldsBelow, HoldsEarlier, IsRight, Keeps, Takes}
-use Rattle.check_places.specs.Buffers.{buffer_place, buffer_place_by, buffers_place, fit_place, given_place, guard_place, input_place, is_near_at, is_not_before, kept_place, made_place, output_place, taken_place}
+use Rattle.check_places.specs.Buffers.{
+  buffer_place,
+  buffer_place_by,
+  buffers_place,
+  fit_place,
+  given_place,
+  guard_place,
+  input_place,
+  is_near_at,
+  is_not_before,
+  kept_place,
+  made_place,
+  output_place,
+  taken_place,
+}
 use Rattle.check_places.specs.First.{first_failing, first_from, in_loop}
 use Rattle.check_places.specs.Shown.{IsFirst, Shows, cause_of}
 use Rattle.check_places.specs.Transfers.{first_on, first_over}
-use Rattle.check_places.proofs.BuffersTold.{all_near, buffer_right, first_early, first_far, not_written, one_write, read_after, read_too_early, right, second, touched_elsewhere, written_again, written_once, wrong_places}
+use Rattle.check_places.proofs.BuffersTold.{
+  all_near,
+  buffer_right,
+  first_early,
+  first_far,
+  not_written,
+  one_write,
+  read_after,
+  read_too_early,
+  right,
+  second,
+  touched_elsewhere,
+  written_again,
+  written_once,
+  wrong_places,
+}
 use Rattle.check_places.proofs.Carrying.{carry_below, fits_it, give_below, guard_passes, input_passes, other_guard, other_input, other_output, output_passes, takes_it, unequal_inputs, unequal_outputs}
 use Rattle.check_places.proofs.Places.{holds_of, no_mark, none_parts}
 use Rattle.check_places.proofs.Telling.{Tells, none_at, none_below_at, tells_below, tells_each, tells_first, tells_mark, tells_one, tells_unless}
@@ -48,15 +90,18 @@ module _ (p : Program) (g : Graph) where
       let many = none_parts _ _ e in
       let each = none_parts _ _ many.1 in
       both_true (both_true (holds_of (nat_eq (length ins) (length x.guards + length x.ins)) _ many.0)
-      (to_zero (λ (k : ℕ) (d : Guard). carries p g.vertices d.source (slice_get ins k)) x.guards (λ k d h. holds_of (carries p g.vertices d.source (slice_get ins k)) _ (none_at (guard_place p g.vertices v s a ins) x.guards each.0 k d h))))
+      (to_zero (λ (k : ℕ) (d : Guard). carries p g.vertices d.source (slice_get ins k)) x.guards
+      (λ k d h. holds_of (carries p g.vertices d.source (slice_get ins k)) _ (none_at (guard_place p g.vertices v s a ins) x.guards each.0 k d h))))
       (to_zero (λ (k : ℕ) (y : Source). carries p g.vertices y (slice_get (drop (length x.guards) ins) k)) x.ins
-      (λ k y h. holds_of (carries p g.vertices y (slice_get (drop (length x.guards) ins) k)) _ (none_at (input_place p g.vertices v s a (length x.guards) (drop (length x.guards) ins)) x.ins each.1 k y h)))
+      (λ k y h. holds_of (carries p g.vertices y (slice_get (drop (length x.guards) ins) k)) _
+      (none_at (input_place p g.vertices v s a (length x.guards) (drop (length x.guards) ins)) x.ins each.1 k y h)))
 
   given : (v : ℕ) (x : Vertex) (s a : ℕ) (outs : List ℕ) → given_place p g.vertices v x s a outs ≡ None → gives p v outs x.outs ≡ true
   given v x s a outs e =
       let many = none_parts _ _ e in
       both_true (holds_of (nat_eq (length outs) (length x.outs)) _ many.0)
-      (to_zero (λ (k n : ℕ). gives_at p v k n (slice_get outs k)) x.outs (λ k n h. holds_of (gives_at p v k n (slice_get outs k)) _ (none_at (output_place p g.vertices v s a outs) x.outs many.1 k n h)))
+      (to_zero (λ (k n : ℕ). gives_at p v k n (slice_get outs k)) x.outs
+      (λ k n h. holds_of (gives_at p v k n (slice_get outs k)) _ (none_at (output_place p g.vertices v s a outs) x.outs many.1 k n h)))
 
   fit : (v : ℕ) (x : Vertex) → fit_place p g.vertices v x ≡ None → fits p g.vertices v x ≡ true
   fit v x e =
@@ -248,7 +293,8 @@ module _ (p : Program) (g : Graph) (seqs : List Seq) (operators media : ℕ) whe
       let single = none_parts _ _ e in
       let made = none_parts _ _ single.1 in
       let fitting = none_parts _ _ made.1 in
-      let kept = λ (m t : ℕ) (l : m < media) (k : t < transfers p m). none_parts _ _ (none_below_at (kept_place p m) (transfers p m) (none_below_at (first_on p (kept_place p)) media fitting.1 m l) t k) in
+      let kept = λ (m t : ℕ) (l : m < media) (k : t < transfers p m). none_parts _ _
+      (none_below_at (kept_place p m) (transfers p m) (none_below_at (first_on p (kept_place p)) media fitting.1 m l) t k) in
       written_of p g media (of_called p g.vertices called) (both_true (both_true (both_true (both_true
       (of_below (is_buffer p) (length p.buffers) (λ b l. buffer_right p b (none_below_at (buffer_place p) (length p.buffers) single.0 b l)))
       (of_below (is_made p (length p.buffers)) (length p.buffers) (λ b l. holds_of (is_made p (length p.buffers) b) _ (none_below_at (made_place p) (length p.buffers) made.0 b l))))

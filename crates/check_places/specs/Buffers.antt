@@ -106,7 +106,8 @@ module _ (p : Program) (vertices : List Vertex) where
   input_place v s a guards ins k x =
       unless (carries p vertices x (slice_get ins k)) (broken OtherInput (Input v (guards + k)) (in_loop s a))
 
-  -- it reads as many buffers as there are guards and inputs, each with its source
+  -- The first place at which a call of operation v does not read as many buffers as it has guards
+  -- and inputs, each with its source.
   abbrev pub taken_place : ℕ → Vertex → ℕ → ℕ → List ℕ → Option Place
   taken_place v x s a ins =
       first_of
@@ -121,7 +122,8 @@ module _ (p : Program) (vertices : List Vertex) where
   output_place v s a outs k len =
       unless (gives_at p v k len (slice_get outs k)) (broken OtherOutput (Output v k) (in_loop s a))
 
-  -- it writes as many buffers as there are outputs, each with its output
+  -- The first place at which a call of operation v does not write as many buffers as it has
+  -- outputs, each with its output.
   abbrev pub given_place : ℕ → Vertex → ℕ → ℕ → List ℕ → Option Place
   given_place v x s a outs =
       first_of
@@ -135,7 +137,7 @@ module _ (p : Program) (vertices : List Vertex) where
       first_of (taken_place v x s a (ins_in (slice_get (turn p s) a)))
       (given_place v x s a (outs_in (slice_get (turn p s) a)))
 
-  -- The same for the first call of operation v in the program.
+  -- The first place at which the first call of operation v in the program does not fit it.
   abbrev pub fit_place : ℕ → Vertex → Option Place
   fit_place v x = fit_place_at v x (caller_of p v) (called_at p v)
 

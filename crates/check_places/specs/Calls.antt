@@ -13,7 +13,7 @@ use Rattle.check_places.specs.declared.place.Rule.TheVariants.{NotCalled, Called
 use Rattle.check_places.specs.declared.place.Subject.TheVariants.{Operation}
 use Rattle.check_places.specs.First.{broken, broken_at, first_failing, first_from, in_loop, unless}
 
--- the same instruction
+-- Both marks are the same instruction.
 abbrev pub is_same : Mark → Mark → Bool
 is_same m u = nat_eq u.sequence m.sequence && nat_eq u.at m.at
 

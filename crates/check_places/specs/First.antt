@@ -23,11 +23,11 @@ in_loop s a = spot_at Loop s a
 abbrev pub broken : Rule → Subject → Option Spot → Option Place
 broken rule subject spot = Some (record { rule = rule; subject = subject; spot = spot })
 
--- it is broken unless this holds
+-- This place, unless the test holds.
 abbrev pub unless : Bool → Option Place → Option Place
 unless holds place = cond holds None place
 
--- it is broken at this instruction of a loop, if there is one
+-- The rule is broken at this instruction of a loop, if there is one.
 abbrev pub broken_at : Rule → Subject → Option Mark → Option Place
 broken_at rule subject None = None
 broken_at rule subject (Some m) = broken rule subject (in_loop m.sequence m.at)

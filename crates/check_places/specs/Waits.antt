@@ -32,6 +32,6 @@ module _ (p : Program) where
     awaits = awaits y.sequence y.at (slice_get (turn p y.sequence) y.at);
   }
 
-  -- The same for each of these, in their order.
+  -- What the sequences at these places wait for, in their order.
   abbrev pub waitings : List run.Place → List Waiting
   waitings ys = map waiting ys

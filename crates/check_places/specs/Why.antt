@@ -61,7 +61,7 @@ module _ (p : Program) (vertices : List Vertex) (seqs : List Seq) (operators med
   why_of prologue_wrong = by_tables p vertices media prologue_wrong
   why_of (stuck_at places) = by_tables p vertices media (stuck_at places)
 
-  -- The same for a cause if there is one, and None otherwise.
+  -- Why a program with this cause is refused; none if there is no cause.
   abbrev pub why_by : Option Cause → Option Why
   why_by None = None
   why_by (Some c) = why_of c

@@ -87,7 +87,8 @@ pub buffer_argument : (b : ℕ) → is_small b ≡ true → is_argument (buffer_
 buffer_argument b h = (and_parts (has_bytes (decimal b)) (list_all is_word_byte (decimal b)) (number_argument b h)).1
 
 -- several
-pub each_back : (read : Bytes → Option ℕ) (print : ℕ → Bytes) → ((n : ℕ) → is_small n ≡ true → read (print n) ≡ Some n) → (ns : List ℕ) → list_all is_small ns ≡ true → each_in read (map print ns) ≡ Some ns
+pub each_back : (read : Bytes → Option ℕ) (print : ℕ → Bytes) → ((n : ℕ) → is_small n ≡ true → read (print n) ≡ Some n) → (ns : List ℕ)
+    → list_all is_small ns ≡ true → each_in read (map print ns) ≡ Some ns
 each_back read print each [] h = refl
 each_back read print each (n ∷ ns) h =
     let both = and_parts (is_small n) (list_all is_small ns) h in

@@ -1,5 +1,43 @@
 -- The lines at the head of a processor are read as its operator, the pairs and the buffers that are declared there.
-use Rattle.std.proofs.Common.{◌≡◌, ℕ, suc, ◌+◌, ◌-◌, ◌≤◌, ◌<◌, Bool, ◌&&◌, true, false, cond, nat_le, nat_eq, if◌then◌else◌, List, [], ◌∷◌, ◌++◌, length, map, refl, sym, ap, arith, ◌∙◌, subst, Option, Some, None, Result, Ok, ◌⊎◌, inl, inr, append_assoc, append-nil}
+use Rattle.std.proofs.Common.{
+  ◌≡◌,
+  ℕ,
+  suc,
+  ◌+◌,
+  ◌-◌,
+  ◌≤◌,
+  ◌<◌,
+  Bool,
+  ◌&&◌,
+  true,
+  false,
+  cond,
+  nat_le,
+  nat_eq,
+  if◌then◌else◌,
+  List,
+  [],
+  ◌∷◌,
+  ◌++◌,
+  length,
+  map,
+  refl,
+  sym,
+  ap,
+  arith,
+  ◌∙◌,
+  subst,
+  Option,
+  Some,
+  None,
+  Result,
+  Ok,
+  ◌⊎◌,
+  inl,
+  inr,
+  append_assoc,
+  append-nil,
+}
 use Rattle.std.specs.Prelude.{slice_get}
 use Rattle.std.specs.List.{list_all}
 use Rattle.std.specs.Fmt.{decimal}
@@ -88,7 +126,8 @@ places x number is s = by (cases_eq 1 x.depth)
         ∙ ap (λ (t : Bool). if t then Some x.depth else None) (and_from (nat_le 2 x.depth) (nat_le x.depth 4) (le-leb 2 x.depth (more low other)) (le-leb x.depth 4 high)) in
         record {
           back = ap (λ (ws : List Bytes). declaration_in (buffer_name number ∷ decimal x.len ∷ ws)) several
-              ∙ declared_steps number x.len x.depth (buffer_in (buffer_name number)) (at_least 1 (number_in (decimal x.len))) (from_to 2 4 (number_in (decimal x.depth))) (buffer_back number s) (length_back x.len is.some is.small) within;
+              ∙ declared_steps number x.len x.depth (buffer_in (buffer_name number)) (at_least 1 (number_in (decimal x.len)))
+              (from_to 2 4 (number_in (decimal x.depth))) (buffer_back number s) (length_back x.len is.some is.small) within;
           arguments = ap (λ (ws : List Bytes). list_all is_argument (buffer_name number ∷ decimal x.len ∷ ws)) several
               ∙ and_from (is_argument (buffer_name number)) _ (buffer_argument number s)
               (and_from (is_argument (decimal x.len)) _ (number_argument x.len is.small) (one_argument (decimal x.depth) (number_argument x.depth (small_depth x.depth high))));
@@ -171,15 +210,19 @@ module _ (g : Graph) (a : Architecture) (known_names : AreNamed g a) where
     pub read : Read g a known_names (declaring r o ds (map f (numbers ds)) here) n (alloc_lines o b xs)
         (declaring r o (ds ++ more) (map f (numbers (ds ++ more))) (here ++ pairs_on o b (map (λ (x : Buffer). x.operator) xs)))
 
-  pub allocs_read : (xs : List Buffer) (r : Reading) (n o b : ℕ) (ds : List Numbered) (f : ℕ → Size) (here : List ℕ) → list_all is_declarable xs ≡ true → b + length xs ≤ 9223372036854775808 → Above here b
+  pub allocs_read : (xs : List Buffer) (r : Reading) (n o b : ℕ) (ds : List Numbered) (f : ℕ → Size) (here : List ℕ)
+      → list_all is_declarable xs ≡ true → b + length xs ≤ 9223372036854775808 → Above here b
       → ((i : ℕ) (x : Buffer) → slice_get xs i ≡ Some x → f (b + i) ≡ size_of x) → Allocated r n o b ds f here xs
   allocs_read [] r n o b ds f here good few above sizes = record {
     more = [];
     are = refl;
     read = subst (λ (es : List Numbered). Read g a known_names (declaring r o ds (map f (numbers ds)) here) n [] (declaring r o es (map f (numbers es)) (here ++ []))) (sym (append-nil ds))
-        (subst (λ (hs : List ℕ). Read g a known_names (declaring r o ds (map f (numbers ds)) here) n [] (declaring r o ds (map f (numbers ds)) hs)) (sym (append-nil here)) (lines.nothing (operation_names g) a (declaring r o ds (map f (numbers ds)) here) n));
+        (subst (λ (hs : List ℕ). Read g a known_names (declaring r o ds (map f (numbers ds)) here) n []
+        (declaring r o ds (map f (numbers ds)) hs)) (sym (append-nil here))
+        (lines.nothing (operation_names g) a (declaring r o ds (map f (numbers ds)) here) n));
   }
-  allocs_read (x ∷ xs) r n o b ds f here good few above sizes = by (nat_eq x.operator o) refl (λ k ds here good above sizes. allocs_read xs r k o (suc b) ds f here good (omega (arith, few)) above sizes)
+  allocs_read (x ∷ xs) r n o b ds f here good few above sizes =
+      by (nat_eq x.operator o) refl (λ k ds here good above sizes. allocs_read xs r k o (suc b) ds f here good (omega (arith, few)) above sizes)
     where
       ops : List ℕ
       ops = map (λ (y : Buffer). y.operator) xs
@@ -191,7 +234,8 @@ module _ (g : Graph) (a : Architecture) (known_names : AreNamed g a) where
       later i y e = ap f (let k : suc b + i ≡ b + suc i = omega arith in k) ∙ sizes (suc i) y e
 
       by : (t : Bool) → nat_eq x.operator o ≡ t
-          → ((k : ℕ) (ds : List Numbered) (here : List ℕ) → list_all is_declarable xs ≡ true → Above here (suc b) → ((i : ℕ) (y : Buffer) → slice_get xs i ≡ Some y → f (suc b + i) ≡ size_of y) → Allocated r k o (suc b) ds f here xs)
+          → ((k : ℕ) (ds : List Numbered) (here : List ℕ) → list_all is_declarable xs ≡ true → Above here (suc b)
+          → ((i : ℕ) (y : Buffer) → slice_get xs i ≡ Some y → f (suc b + i) ≡ size_of y) → Allocated r k o (suc b) ds f here xs)
           → Allocated r n o b ds f here (x ∷ xs)
       by false e again =
           let rest = again n ds here parts.1 (above_later here b above) later in
@@ -219,7 +263,8 @@ module _ (g : Graph) (a : Architecture) (known_names : AreNamed g a) where
             more = numbered n b ∷ rest.more;
             are = ap (λ (ks : List ℕ). b ∷ ks) rest.are ∙ ap (λ (t : Bool). cond t (b ∷ []) [] ++ pairs_on o (suc b) (map (λ (y : Buffer). y.operator) xs)) (sym e);
             read = subst (λ (t : Bool). Read g a known_names (declaring r o ds (map f (numbers ds)) here) n (cond t (alloc_line b x) [] ++ alloc_lines o (suc b) xs)
-                (declaring r o (ds ++ numbered n b ∷ rest.more) (map f (numbers (ds ++ numbered n b ∷ rest.more))) (here ++ (cond t (b ∷ []) [] ++ pairs_on o (suc b) (map (λ (y : Buffer). y.operator) xs))))) (sym e)
+                (declaring r o (ds ++ numbered n b ∷ rest.more) (map f (numbers (ds ++ numbered n b ∷ rest.more)))
+                (here ++ (cond t (b ∷ []) [] ++ pairs_on o (suc b) (map (λ (y : Buffer). y.operator) xs))))) (sym e)
                 (subst (λ (es : List Numbered). Read g a known_names (declaring r o ds (map f (numbers ds)) here) n (alloc_line b x ++ alloc_lines o (suc b) xs)
                 (declaring r o es (map f (numbers es)) (here ++ b ∷ pairs_on o (suc b) (map (λ (y : Buffer). y.operator) xs)))) joined
                 (subst (λ (hs : List ℕ). Read g a known_names (declaring r o ds (map f (numbers ds)) here) n (alloc_line b x ++ alloc_lines o (suc b) xs)

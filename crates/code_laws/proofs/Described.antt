@@ -38,7 +38,8 @@ at_the_end r n d spelled h = by r.version h
     by None e = cc
     by (Some version) e =
         let some = passed (length r.operators == 0) _ _ d e in
-        let right = not_told (position (λ m. not (has_stands m)) r.media) r.media r.lines (all_joined r version (apart r)) d (sym (media_told r.media r.lines (all_joined r version (apart r))) ∙ some) in
+        let right = not_told (position (λ m. not (has_stands m)) r.media) r.media r.lines (all_joined r version (apart r)) d
+        (sym (media_told r.media r.lines (all_joined r version (apart r))) ∙ some) in
         subst HasNames (joined_is r version (apart r) d right) spelled.names
 
 behind_lines : (lines : List Bytes) (r : Reading) (n : ℕ) (d : Described) → IsSpelled r → rest_of r n lines ≡ Ok d → HasNames d

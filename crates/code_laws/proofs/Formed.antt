@@ -1,5 +1,39 @@
 -- What a well-formed program names is declared where it is named.
-use Rattle.std.proofs.Common.{◌≡◌, ℕ, zero, suc, ◌+◌, ◌<◌, ◌≤◌, ◌⊎◌, Bool, true, ◌&&◌, not, cond, nat_lt, List, [], ◌∷◌, ◌++◌, length, map, take, Option, Some, None, refl, sym, ap, subst, inl, inr, ⊎_elim, arith, ◌∙◌}
+use Rattle.std.proofs.Common.{
+  ◌≡◌,
+  ℕ,
+  zero,
+  suc,
+  ◌+◌,
+  ◌<◌,
+  ◌≤◌,
+  ◌⊎◌,
+  Bool,
+  true,
+  ◌&&◌,
+  not,
+  cond,
+  nat_lt,
+  List,
+  [],
+  ◌∷◌,
+  ◌++◌,
+  length,
+  map,
+  take,
+  Option,
+  Some,
+  None,
+  refl,
+  sym,
+  ap,
+  subst,
+  inl,
+  inr,
+  ⊎_elim,
+  arith,
+  ◌∙◌,
+}
 use Rattle.std.specs.Prelude.{slice_get}
 use Rattle.std.specs.List.{list_any, list_all, count_by}
 use Rattle.std.proofs.lemmas.Bool.{and_parts, and_from, ne_eqb, cases_eq, cases_order, lt-ltb, ltb-true}
@@ -118,7 +152,8 @@ module _ (p : Program) (g : Graph) (a : Architecture) (order : List ℕ) (h : Is
   operator_back : (b o : ℕ) (y : Buffer) → slice_get p.buffers b ≡ Some y → operator_of p b ≡ Some o → y.operator ≡ o
   operator_back b o y e f = let own : operator_of p b ≡ Some y.operator = rw e refl in same_Some y.operator o (sym own ∙ f)
 
-  pair_at : (q o b at : ℕ) (code : SeqCode) (y : Buffer) → slice_get p.pairs q ≡ Some o → reader p q ≡ record { buffer = b; sequence = 0 + at } → b < length p.buffers → slice_get p.seqs at ≡ Some code → waits_for b code ≡ true
+  pair_at : (q o b at : ℕ) (code : SeqCode) (y : Buffer) → slice_get p.pairs q ≡ Some o → reader p q
+      ≡ record { buffer = b; sequence = 0 + at } → b < length p.buffers → slice_get p.seqs at ≡ Some code → waits_for b code ≡ true
       → slice_get p.buffers b ≡ Some y → operator_of p b ≡ Some o → PairOf q
   pair_at q o b at code y owned is below stands waits buffer_is operator_is = record {
     owner = o;
@@ -131,7 +166,8 @@ module _ (p : Program) (g : Graph) (a : Architecture) (order : List ℕ) (h : Is
   }
 
   -- from its entry in the readers, which one buffer has
-  pair_from : (q o b i : ℕ) (r : Reader) → slice_get p.pairs q ≡ Some o → slice_get (readers p) q ≡ Some r → operator_of p r.buffer ≡ Some o → b < length p.buffers → slice_get (readers_from 0 p.seqs b) i ≡ Some r → PairOf q
+  pair_from : (q o b i : ℕ) (r : Reader) → slice_get p.pairs q ≡ Some o → slice_get (readers p) q ≡ Some r → operator_of p r.buffer
+      ≡ Some o → b < length p.buffers → slice_get (readers_from 0 p.seqs b) i ≡ Some r → PairOf q
   pair_from q o b i r owned entry operator_is below stands =
       let w = from_readers 0 p.seqs b i r stands in
       let y = got_some p.buffers b below in
@@ -140,7 +176,8 @@ module _ (p : Program) (g : Graph) (a : Architecture) (order : List ℕ) (h : Is
   pub pair_of : (q : ℕ) → q < length p.pairs → PairOf q
   pair_of q l =
       let it = got_some p.pairs q l in
-      let own : slice_get (map (λ (r : Reader). operator_of p r.buffer) (readers p)) q ≡ Some (Some it.0) = ap (λ (os : List (Option ℕ)). slice_get os q) (sym h.numbered) ∙ got_map (λ (o : ℕ). Some o) p.pairs q it.0 it.1 in
+      let own : slice_get (map (λ (r : Reader). operator_of p r.buffer) (readers p)) q
+      ≡ Some (Some it.0) = ap (λ (os : List (Option ℕ)). slice_get os q) (sym h.numbered) ∙ got_map (λ (o : ℕ). Some o) p.pairs q it.0 it.1 in
       let r = map_got (λ (r : Reader). operator_of p r.buffer) (readers p) q (Some it.0) own in
       let block = in_block (readers_from 0 p.seqs) (length p.buffers) q r.0 r.1 in
       pair_from q it.0 block.0 block.2 r.0 it.1 r.1 r.2 block.1 block.3
@@ -171,11 +208,14 @@ module _ (p : Program) (g : Graph) (a : Architecture) (order : List ℕ) (h : Is
   -- who makes a transfer
   pub data Who (m t s i : ℕ) (x : Instr) : Type 0 where
     sends_it : s ≡ ((places p).transfer m t).sender → i ≡ ((places p).transfer m t).send_at → x ≡ Send ((places p).transfer m t).sent (operator p ((places p).transfer m t).receiver) → Who m t s i x
-    receives_it : s ≡ ((places p).transfer m t).receiver → i ≡ ((places p).transfer m t).receive_at → x ≡ Recv ((places p).transfer m t).received (operator p ((places p).transfer m t).sender) → Who m t s i x
+    receives_it : s ≡ ((places p).transfer m t).receiver → i ≡ ((places p).transfer m t).receive_at → x
+        ≡ Recv ((places p).transfer m t).received (operator p ((places p).transfer m t).sender) → Who m t s i x
     waits_for_it : x ≡ Sync (operator p ((places p).transfer m t).sender) (operator p ((places p).transfer m t).receiver) → Who m t s i x
 
   same_communication : (m t s i j : ℕ) (x y : Instr) → Communicates p m t s i x → Communicates p m t s j y → i ≡ j
-  same_communication m t s i j x y e f = ⊎_elim (λ q. q) (λ q. absurd (⊎_elim (λ l. let z = count_more is_communication (turn p s) i j x e.stands e.is_one l in let u = e.number in let v = f.number in omega arith)
+  same_communication m t s i j x y e f =
+      ⊎_elim (λ q. q) (λ q. absurd (⊎_elim
+      (λ l. let z = count_more is_communication (turn p s) i j x e.stands e.is_one l in let u = e.number in let v = f.number in omega arith)
       (λ l. let z = count_more is_communication (turn p s) j i y f.stands f.is_one l in let u = e.number in let v = f.number in omega arith) q)) (cases_order i j)
 
   module _ (m t : ℕ) (there : m < length a.media) (below : t < transfers p m) where
@@ -189,7 +229,8 @@ module _ (p : Program) (g : Graph) (a : Architecture) (order : List ℕ) (h : Is
         at r j y f d = let u = subst (λ (k : ℕ). Communicates p m t k i x) f e in let q = same_communication m t r i j x y u d in
             (q, same_Some x y (sym u.stands ∙ ap (λ (k : ℕ). slice_get (turn p r) k) q ∙ d.stands))
 
-        by : (s ≡ ((places p).transfer m t).sender) ⊎ (s ≡ ((places p).transfer m t).sender → ⊥) → (s ≡ ((places p).transfer m t).receiver) ⊎ (s ≡ ((places p).transfer m t).receiver → ⊥) → Who m t s i x
+        by : (s ≡ ((places p).transfer m t).sender) ⊎ (s ≡ ((places p).transfer m t).sender → ⊥) → (s ≡ ((places p).transfer m t).receiver)
+            ⊎ (s ≡ ((places p).transfer m t).receiver → ⊥) → Who m t s i x
         by (inl f) q = let z = at ((places p).transfer m t).sender _ _ f one.sends in sends_it f z.0 z.1
         by (inr n) (inl f) = let z = at ((places p).transfer m t).receiver _ _ f one.receives in receives_it f z.0 z.1
         by (inr n) (inr k) = let z = one.others s i x e n k in waits_for_it z.0
@@ -227,7 +268,9 @@ module _ (p : Program) (g : Graph) (a : Architecture) (order : List ℕ) (h : Is
       by : (q : Part s i x) → Who q.m (communications p s i) s i x → names_operators x ≡ true
       by q (sends_it u v is) = ap names_operators is ∙ lt-ltb _ (length a.operators) (receiver_low q.m (communications p s i) q.there q.below)
       by q (receives_it u v is) = ap names_operators is ∙ lt-ltb _ (length a.operators) (sender_low q.m (communications p s i) q.there q.below)
-      by q (waits_for_it is) = ap names_operators is ∙ and_from _ _ (lt-ltb _ (length a.operators) (sender_low q.m (communications p s i) q.there q.below)) (lt-ltb _ (length a.operators) (receiver_low q.m (communications p s i) q.there q.below))
+      by q (waits_for_it is) = ap names_operators is
+          ∙ and_from _ _ (lt-ltb _ (length a.operators) (sender_low q.m (communications p s i) q.there q.below))
+          (lt-ltb _ (length a.operators) (receiver_low q.m (communications p s i) q.there q.below))
 
   module _ (few_pairs : length p.pairs ≤ 9223372036854775808) (few_buffers : length p.buffers ≤ 9223372036854775808) where
     pair_there : (q o : ℕ) → slice_get p.pairs q ≡ Some o → is_there (pairs_on o 0 p.pairs) q ≡ true
@@ -263,7 +306,9 @@ module _ (p : Program) (g : Graph) (a : Architecture) (order : List ℕ) (h : Is
     turn_readable s i (Sync o r) e = operators_there s i (Sync o r) e refl
     turn_readable s i (Call v ins outs) e = let l = h.named s i (Call v ins outs) e in
         and_from _ _
-        (and_from _ _ (lt-ltb v (length g.vertices) l.0) (all_there (is_there (pairs_on (operator p s) 0 (places_of p.buffers))) ins (λ k b f. buffer_there b (operator p s) (touched s i k b (Call v ins outs) (l.1 k b (inl f)) e (inr f)))))
+        (and_from _ _ (lt-ltb v (length g.vertices) l.0)
+        (all_there (is_there (pairs_on (operator p s) 0 (places_of p.buffers))) ins
+        (λ k b f. buffer_there b (operator p s) (touched s i k b (Call v ins outs) (l.1 k b (inl f)) e (inr f)))))
         (all_there (is_there (pairs_on (operator p s) 0 (places_of p.buffers))) outs (λ k b f. buffer_there b (operator p s) (touched s i k b (Call v ins outs) (l.1 k b (inr f)) e (inl f))))
 
     -- an instruction of a prologue signals a pair of which the sequence is the reader

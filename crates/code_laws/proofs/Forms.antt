@@ -1,5 +1,37 @@
 -- A line has the form that it was printed in, and its arguments are those that were joined.
-use Rattle.std.proofs.Common.{◌≡◌, ℕ, ◌+◌, ◌-◌, ◌≤◌, Bool, not, ◌&&◌, ◌||◌, ◌==◌, true, false, if◌then◌else◌, nat_le, List, [], ◌∷◌, ◌++◌, length, take, drop, refl, sym, arith, ap, ap₂, ◌∙◌, None, Some, append_assoc, append-nil}
+use Rattle.std.proofs.Common.{
+  ◌≡◌,
+  ℕ,
+  ◌+◌,
+  ◌-◌,
+  ◌≤◌,
+  Bool,
+  not,
+  ◌&&◌,
+  ◌||◌,
+  ◌==◌,
+  true,
+  false,
+  if◌then◌else◌,
+  nat_le,
+  List,
+  [],
+  ◌∷◌,
+  ◌++◌,
+  length,
+  take,
+  drop,
+  refl,
+  sym,
+  arith,
+  ap,
+  ap₂,
+  ◌∙◌,
+  None,
+  Some,
+  append_assoc,
+  append-nil,
+}
 use Rattle.std.specs.Prelude.{codes}
 use Rattle.std.specs.List.{list_all, list_any, position_or_len, slice_split, onto_first}
 use Rattle.std.specs.Str.{bytes_eq}
@@ -7,7 +39,28 @@ use Rattle.std.proofs.lemmas.Bool.{and_parts, and_from, leb-true, le-leb, ne_eqb
 use Rattle.std.proofs.lemmas.List.{take_at, drop_at, length_push}
 use Rattle.std.proofs.lemmas.List.Folds.{list_all-append, list_any-append}
 use Rattle.syn_base.specs.Bytes.{Bytes, each_after_comma}
-use Rattle.macro_code.specs.Forms.{listed, call, is_open, is_semicolon, is_comma, is_mark, is_unmarked, before, after, is_closed, inside, has_bytes, may_name, list_form, name_form, word_form, lists_form, operation_form, call_form, arguments_of}
+use Rattle.macro_code.specs.Forms.{
+  listed,
+  call,
+  is_open,
+  is_semicolon,
+  is_comma,
+  is_mark,
+  is_unmarked,
+  before,
+  after,
+  is_closed,
+  inside,
+  has_bytes,
+  may_name,
+  list_form,
+  name_form,
+  word_form,
+  lists_form,
+  operation_form,
+  call_form,
+  arguments_of,
+}
 use Rattle.macro_code.specs.Text.{joined}
 use Rattle.code_laws.proofs.Bytes.{is_plain}
 
@@ -114,7 +167,8 @@ listed_back name list may n l =
     ap (λ (b : Bool). if b then list_form (before is_open w) (after is_open w) else name_form w) (has_stop is_open name rest 40 refl)
     ∙ ap₂ list_form (before_at is_open name rest 40 no_open refl) (after_at is_open name rest 40 no_open refl)
     ∙ ap (λ (i : Bytes). if may_name name && is_closed rest && is_unmarked i then Some (listed name i) else None) (inside_at list)
-    ∙ ap (λ (b : Bool). if b then Some (listed name list) else None) (and_from (may_name name && is_closed rest) (is_unmarked list) (and_from (may_name name) (is_closed rest) may (closed list)) (unmarked list l))
+    ∙ ap (λ (b : Bool). if b then Some (listed name list) else None)
+    (and_from (may_name name && is_closed rest) (is_unmarked list) (and_from (may_name name) (is_closed rest) may (closed list)) (unmarked list l))
 
 -- OPERATION(INS;OUTS)
 pub call_back : (b : ℕ) (bs ins outs : Bytes) → list_all is_list_byte (b ∷ bs) ≡ true → list_all is_list_byte ins ≡ true → list_all is_list_byte outs ≡ true
@@ -134,7 +188,8 @@ call_back b bs ins outs n i o =
     ∙ ap₂ (λ (x y : Bytes). if list_any is_semicolon lists && is_unmarked x && is_unmarked y then Some (call name x y) else None)
     (before_at is_semicolon ins outs 59 no_semicolon refl) (after_at is_semicolon ins outs 59 no_semicolon refl)
     ∙ ap (λ (t : Bool). if t then Some (call name ins outs) else None)
-    (and_from (list_any is_semicolon lists && is_unmarked ins) (is_unmarked outs) (and_from (list_any is_semicolon lists) (is_unmarked ins) (has_stop is_semicolon ins outs 59 refl) (unmarked ins i)) (unmarked outs o))
+    (and_from (list_any is_semicolon lists && is_unmarked ins) (is_unmarked outs)
+    (and_from (list_any is_semicolon lists) (is_unmarked ins) (has_stop is_semicolon ins outs 59 refl) (unmarked ins i)) (unmarked outs o))
 
 -- an argument has bytes, and none that would end it
 abbrev pub is_argument : Bytes → Bool

@@ -31,7 +31,8 @@ pub stood_rise : (o k least : ℕ) (media : List Medium) → least ≤ k → asc
 stood_rise o k least [] l = refl
 stood_rise o k least (m ∷ media) l = by (stands_at m o) (stood_rise o (k + 1) (k + 1) media (omega arith)) (stood_rise o (k + 1) least media (omega (arith, l)))
   where
-    by : (b : Bool) → ascends_from (k + 1) (stood o (k + 1) media) ≡ true → ascends_from least (stood o (k + 1) media) ≡ true → ascends_from least (if b then k ∷ stood o (k + 1) media else stood o (k + 1) media) ≡ true
+    by : (b : Bool) → ascends_from (k + 1) (stood o (k + 1) media) ≡ true → ascends_from least (stood o (k + 1) media) ≡ true
+        → ascends_from least (if b then k ∷ stood o (k + 1) media else stood o (k + 1) media) ≡ true
     by true e f = and_from (nat_le least k) (ascends_from (k + 1) (stood o (k + 1) media)) (le-leb least k l) e
     by false e f = f
 
@@ -137,7 +138,8 @@ all_imply p q each (x ∷ xs) h = let both = and_parts (p x) (list_all p xs) h i
 pub later_elsewhere : (media : List Medium) (n o : ℕ) (qs : List SeqCode) → map (λ (q : SeqCode). q.seq) qs ≡ seqs_from media (o + 1) n → list_all (is_elsewhere o) qs ≡ true
 later_elsewhere media n o qs e =
     all_imply (λ (q : SeqCode). nat_le (o + 1) q.seq.operator) (is_elsewhere o) (λ q h. let l = leb-true (o + 1) q.seq.operator h in ap not (ne_eqb q.seq.operator o (λ k. omega (arith, l, k)))) qs
-    (sym (list_all-map (λ (s : Seq). nat_le (o + 1) s.operator) (λ (q : SeqCode). q.seq) qs) ∙ ap (list_all (λ (s : Seq). nat_le (o + 1) s.operator)) e ∙ from_least media n (o + 1) (o + 1) (omega arith))
+    (sym (list_all-map (λ (s : Seq). nat_le (o + 1) s.operator) (λ (q : SeqCode). q.seq) qs)
+    ∙ ap (list_all (λ (s : Seq). nat_le (o + 1) s.operator)) e ∙ from_least media n (o + 1) (o + 1) (omega arith))
 
 abbrev pub is_earlier : ℕ → SeqCode → Bool
 is_earlier o q = nat_lt q.seq.operator o
@@ -159,7 +161,8 @@ threads_earlier o (q ∷ qs) [] h = absurd h
 threads_earlier o (q ∷ qs) (m ∷ ms) h = and_from (is_earlier (o + 1) q) (list_all (is_earlier (o + 1)) qs) (own_earlier o q (communicator o m) h.0 refl) (threads_earlier o qs ms h.1)
 
 -- A text of each sequence that is nothing for those elsewhere.
-pub focused : (o : ℕ) (f : SeqCode → Bytes) (done : List SeqCode) (main : SeqCode) (threads rest : List SeqCode) → ((q : SeqCode) → is_elsewhere o q ≡ true → f q ≡ []) → list_all (is_elsewhere o) done ≡ true → list_all (is_elsewhere o) rest ≡ true
+pub focused : (o : ℕ) (f : SeqCode → Bytes) (done : List SeqCode) (main : SeqCode) (threads rest : List SeqCode)
+    → ((q : SeqCode) → is_elsewhere o q ≡ true → f q ≡ []) → list_all (is_elsewhere o) done ≡ true → list_all (is_elsewhere o) rest ≡ true
     → flat_map f (done ++ main ∷ (threads ++ rest)) ≡ f main ++ flat_map f threads
 focused o f done main threads rest each front back =
     flat_map-append f done (main ∷ (threads ++ rest))

@@ -1,5 +1,34 @@
 -- The lines of instructions, and of a prologue or a loop, are read as these instructions.
-use Rattle.std.proofs.Common.{◌≡◌, ℕ, ◌<◌, Bool, not, ◌&&◌, true, false, nat_lt, if◌then◌else◌, List, [], ◌∷◌, ◌++◌, length, map, refl, sym, ap, subst, ◌∙◌, Option, Some, None, Result, Ok, append_assoc, append-nil}
+use Rattle.std.proofs.Common.{
+  ◌≡◌,
+  ℕ,
+  ◌<◌,
+  Bool,
+  not,
+  ◌&&◌,
+  true,
+  false,
+  nat_lt,
+  if◌then◌else◌,
+  List,
+  [],
+  ◌∷◌,
+  ◌++◌,
+  length,
+  map,
+  refl,
+  sym,
+  ap,
+  subst,
+  ◌∙◌,
+  Option,
+  Some,
+  None,
+  Result,
+  Ok,
+  append_assoc,
+  append-nil,
+}
 use Rattle.std.specs.List.{list_all}
 use Rattle.std.specs.Fmt.{decimal}
 use Rattle.std.proofs.lemmas.Bool.{and_parts, and_from, ltb-true}
@@ -18,7 +47,32 @@ use Rattle.macro_code.specs.declared.fault.CodeCause.TheVariants.{UnknownName, B
 use Rattle.macro_code.specs.declared.stage.Stage.TheVariants.{Prologue, Turn}
 use Rattle.syn_base.specs.Bytes.{Bytes}
 use Rattle.macro_code.specs.Forms.{buffer_in, number_in, each_in}
-use Rattle.macro_code.specs.ReadText.{Reading, Arguments, Moved, Ends, argument, known, place_in, operation_names, is_among, is_known, first_unknown, unless_unknown, takes_instr, starts_more, may_stand, with_instr, declared_buffer, macro_line, placed_line, pair_line, transfer_line, sync_line, call_line, call_of}
+use Rattle.macro_code.specs.ReadText.{
+  Reading,
+  Arguments,
+  Moved,
+  Ends,
+  argument,
+  known,
+  place_in,
+  operation_names,
+  is_among,
+  is_known,
+  first_unknown,
+  unless_unknown,
+  takes_instr,
+  starts_more,
+  may_stand,
+  with_instr,
+  declared_buffer,
+  macro_line,
+  placed_line,
+  pair_line,
+  transfer_line,
+  sync_line,
+  call_line,
+  call_of,
+}
 use Rattle.text_lines.specs.Refusals.{and_then, refused}
 use Rattle.code_laws.proofs.Arguments.{is_small, number_back, number_argument, buffer_back, buffer_argument, each_back, each_argument, name_argument, path_argument}
 use Rattle.code_laws.proofs.Forms.{is_argument}
@@ -65,7 +119,8 @@ ends_steps : (n i k : ℕ) (v w : Bytes) (p q : Option ℕ) (x y : Bool) → x �
 ends_steps n i k v w p q x y e f g h = rw (e, f, g, h) refl
 
 call_steps : (n v : ℕ) (is os : List ℕ) (w : Bytes) (i o : Option (List ℕ)) (p : Option ℕ) (x y : Option Bytes) → i ≡ Some is → o ≡ Some os → p ≡ Some v → x ≡ None → y ≡ None
-    → and_then (argument n i) (λ (js : List ℕ). and_then (argument n o) (λ (ks : List ℕ). and_then (known n w p) (λ (u : ℕ). unless_unknown n x (unless_unknown n y (Ok (instr.Call u js ks)))))) ≡ Ok (instr.Call v is os)
+    → and_then (argument n i) (λ (js : List ℕ). and_then (argument n o)
+    (λ (ks : List ℕ). and_then (known n w p) (λ (u : ℕ). unless_unknown n x (unless_unknown n y (Ok (instr.Call u js ks)))))) ≡ Ok (instr.Call v is os)
 call_steps n v is os w i o p x y e f g h k = rw (e, f, g, h, k) refl
 
 -- all of these buffers are declared
@@ -120,7 +175,8 @@ module _ (g : Graph) (a : Architecture) (known_names : AreNamed g a) where
 
   transfer_argument : (here : List ℕ) (b o : ℕ) → is_there here b ≡ true → o < length a.operators → list_all is_argument (buffer_name b ∷ operator_name (names g a) o ∷ []) ≡ true
   transfer_argument here b o h l =
-      two_arguments (buffer_name b) (operator_name (names g a) o) (buffer_argument b (and_parts (is_among here b) (is_small b) h).1) (name_argument (operator_name (names g a) o) ((known_names.operator o l).passes))
+      two_arguments (buffer_name b) (operator_name (names g a) o) (buffer_argument b (and_parts (is_among here b) (is_small b) h).1)
+      (name_argument (operator_name (names g a) o) ((known_names.operator o l).passes))
 
   sync_back : (r : Reading) (n o p : ℕ) → o < length a.operators → p < length a.operators
       → sync_line a r n (Some (operator_name (names g a) o ∷ operator_name (names g a) p ∷ [])) ≡ Ok (with_instr r (instr.Sync o p))
@@ -132,7 +188,8 @@ module _ (g : Graph) (a : Architecture) (known_names : AreNamed g a) where
       ap (λ (x : Result Ends CodeRefusal). and_then x (λ (e : Ends). Ok (with_instr r (instr.Sync e.from e.to))))
       (ends_steps n o p v w (place_in a.operators v) (place_in a.operators w) (is_name v) (is_name w) i.passes j.passes i.place j.place)
 
-  call_back : (r : Reading) (n v : ℕ) (ins outs : List ℕ) → takes_instr r ≡ true → v < length g.vertices → list_all (is_there r.buffers_here) ins ≡ true → list_all (is_there r.buffers_here) outs ≡ true
+  call_back : (r : Reading) (n v : ℕ) (ins outs : List ℕ) → takes_instr r ≡ true → v < length g.vertices
+      → list_all (is_there r.buffers_here) ins ≡ true → list_all (is_there r.buffers_here) outs ≡ true
       → call_line (operation_names g) r n (operation_name (names g a) v) (map buffer_name ins) (map buffer_name outs) ≡ Ok (with_instr r (instr.Call v ins outs))
   call_back r n v ins outs takes l i o =
       let it = known_names.operation v l in
@@ -140,19 +197,29 @@ module _ (g : Graph) (a : Architecture) (known_names : AreNamed g a) where
       let here = r.buffers_here in
       ap (λ (b : Bool). if b then and_then (call_of (operation_names g) n here w (map buffer_name ins) (map buffer_name outs)) (λ (x : Instr). Ok (with_instr r x)) else refused n BadLine) takes
       ∙ ap (λ (x : Result Instr CodeRefusal). and_then x (λ (y : Instr). Ok (with_instr r y)))
-      (call_steps n v ins outs w (each_in buffer_in (map buffer_name ins)) (each_in buffer_in (map buffer_name outs)) (place_in (operation_names g) w) (first_unknown here (map buffer_name ins)) (first_unknown here (map buffer_name outs))
-      (each_back buffer_in buffer_name buffer_back ins (all_small here ins i)) (each_back buffer_in buffer_name buffer_back outs (all_small here outs o)) it.place (all_known here ins i) (all_known here outs o))
+      (call_steps n v ins outs w (each_in buffer_in (map buffer_name ins)) (each_in buffer_in (map buffer_name outs))
+      (place_in (operation_names g) w) (first_unknown here (map buffer_name ins)) (first_unknown here (map buffer_name outs))
+      (each_back buffer_in buffer_name buffer_back ins (all_small here ins i))
+      (each_back buffer_in buffer_name buffer_back outs (all_small here outs o)) it.place (all_known here ins i) (all_known here outs o))
 
   -- the line of an instruction
   pub instr_reads : (r : Reading) (n : ℕ) (x : Instr) → takes_instr r ≡ true → readable r x ≡ true → Read r n (instr_line (names g a) x) (with_instr r x)
   instr_reads r n (Suc0 q) takes h =
-      lines.macro_reads (operation_names g) a r (with_instr r (instr.Suc0 q)) n macros.Suc0 (decimal q ∷ []) (pair_argument r.pairs_here q h) (stands r n (Some (decimal q ∷ [])) macros.Suc0 (with_instr r (instr.Suc0 q)) takes (pair_back r n q (λ k. instr.Suc0 k) h))
+      lines.macro_reads (operation_names g) a r (with_instr r (instr.Suc0 q)) n macros.Suc0 (decimal q ∷ [])
+      (pair_argument r.pairs_here q h)
+      (stands r n (Some (decimal q ∷ [])) macros.Suc0 (with_instr r (instr.Suc0 q)) takes (pair_back r n q (λ k. instr.Suc0 k) h))
   instr_reads r n (Suc1 q) takes h =
-      lines.macro_reads (operation_names g) a r (with_instr r (instr.Suc1 q)) n macros.Suc1 (decimal q ∷ []) (pair_argument r.pairs_here q h) (stands r n (Some (decimal q ∷ [])) macros.Suc1 (with_instr r (instr.Suc1 q)) takes (pair_back r n q (λ k. instr.Suc1 k) h))
+      lines.macro_reads (operation_names g) a r (with_instr r (instr.Suc1 q)) n macros.Suc1 (decimal q ∷ [])
+      (pair_argument r.pairs_here q h)
+      (stands r n (Some (decimal q ∷ [])) macros.Suc1 (with_instr r (instr.Suc1 q)) takes (pair_back r n q (λ k. instr.Suc1 k) h))
   instr_reads r n (Pre0 q) takes h =
-      lines.macro_reads (operation_names g) a r (with_instr r (instr.Pre0 q)) n macros.Pre0 (decimal q ∷ []) (pair_argument r.pairs_here q h) (stands r n (Some (decimal q ∷ [])) macros.Pre0 (with_instr r (instr.Pre0 q)) takes (pair_back r n q (λ k. instr.Pre0 k) h))
+      lines.macro_reads (operation_names g) a r (with_instr r (instr.Pre0 q)) n macros.Pre0 (decimal q ∷ [])
+      (pair_argument r.pairs_here q h)
+      (stands r n (Some (decimal q ∷ [])) macros.Pre0 (with_instr r (instr.Pre0 q)) takes (pair_back r n q (λ k. instr.Pre0 k) h))
   instr_reads r n (Pre1 q) takes h =
-      lines.macro_reads (operation_names g) a r (with_instr r (instr.Pre1 q)) n macros.Pre1 (decimal q ∷ []) (pair_argument r.pairs_here q h) (stands r n (Some (decimal q ∷ [])) macros.Pre1 (with_instr r (instr.Pre1 q)) takes (pair_back r n q (λ k. instr.Pre1 k) h))
+      lines.macro_reads (operation_names g) a r (with_instr r (instr.Pre1 q)) n macros.Pre1 (decimal q ∷ [])
+      (pair_argument r.pairs_here q h)
+      (stands r n (Some (decimal q ∷ [])) macros.Pre1 (with_instr r (instr.Pre1 q)) takes (pair_back r n q (λ k. instr.Pre1 k) h))
   instr_reads r n (Send b o) takes h =
       let both = and_parts (is_there r.buffers_here b) (nat_lt o (length a.operators)) h in
       let l = ltb-true o (length a.operators) both.1 in
@@ -190,13 +257,15 @@ module _ (g : Graph) (a : Architecture) (known_names : AreNamed g a) where
   abbrev pub turning : Reading → List Instr → Reading
   turning r xs = record r { stage = Turn; turn = xs }
 
-  pub prologue_reads : (r : Reading) (n : ℕ) (done xs : List Instr) → starts_more r ≡ false → list_all (readable r) xs ≡ true → Read (opened r done) n (body_text (names g a) xs) (opened r (done ++ xs))
+  pub prologue_reads : (r : Reading) (n : ℕ) (done xs : List Instr) → starts_more r ≡ false → list_all (readable r) xs ≡ true
+      → Read (opened r done) n (body_text (names g a) xs) (opened r (done ++ xs))
   prologue_reads r n done [] none h = subst (λ (l : List Instr). Read (opened r done) n [] (opened r l)) (sym (append-nil done)) (lines.nothing (operation_names g) a (opened r done) n)
   prologue_reads r n done (x ∷ xs) none h =
       let p = and_parts (readable r x) (list_all (readable r) xs) h in
       let first = instr_reads (opened r done) n x (ap not none) p.0 in
       let rest = prologue_reads r first.k (done ++ x ∷ []) xs none p.1 in
-      lines.another (operation_names g) a (opened r done) (opened r (done ++ x ∷ xs)) n (body_text (names g a) (x ∷ xs)) (instr_line (names g a) x ++ body_text (names g a) xs) (flat_map-cons (instr_line (names g a)) x xs)
+      lines.another (operation_names g) a (opened r done) (opened r (done ++ x ∷ xs)) n (body_text (names g a) (x ∷ xs))
+      (instr_line (names g a) x ++ body_text (names g a) xs) (flat_map-cons (instr_line (names g a)) x xs)
       (subst (λ (l : List Instr). Read (opened r done) n (instr_line (names g a) x ++ body_text (names g a) xs) (opened r l)) (append_assoc done (x ∷ []) xs)
       (lines.both (operation_names g) a (opened r done) (opened r (done ++ x ∷ [])) (opened r ((done ++ x ∷ []) ++ xs)) n (instr_line (names g a) x) (body_text (names g a) xs) first rest))
 
@@ -206,6 +275,7 @@ module _ (g : Graph) (a : Architecture) (known_names : AreNamed g a) where
       let p = and_parts (readable r x) (list_all (readable r) xs) h in
       let first = instr_reads (turning r done) n x refl p.0 in
       let rest = turn_reads r first.k (done ++ x ∷ []) xs p.1 in
-      lines.another (operation_names g) a (turning r done) (turning r (done ++ x ∷ xs)) n (body_text (names g a) (x ∷ xs)) (instr_line (names g a) x ++ body_text (names g a) xs) (flat_map-cons (instr_line (names g a)) x xs)
+      lines.another (operation_names g) a (turning r done) (turning r (done ++ x ∷ xs)) n (body_text (names g a) (x ∷ xs))
+      (instr_line (names g a) x ++ body_text (names g a) xs) (flat_map-cons (instr_line (names g a)) x xs)
       (subst (λ (l : List Instr). Read (turning r done) n (instr_line (names g a) x ++ body_text (names g a) xs) (turning r l)) (append_assoc done (x ∷ []) xs)
       (lines.both (operation_names g) a (turning r done) (turning r (done ++ x ∷ [])) (turning r ((done ++ x ∷ []) ++ xs)) n (instr_line (names g a) x) (body_text (names g a) xs) first rest))

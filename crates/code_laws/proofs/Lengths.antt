@@ -56,7 +56,8 @@ module _ (p : Program) (g : Graph) (a : Architecture) (order : List ℕ) (h : Is
       pair_by b s it.0 it.1
 
   -- a sequence that reads a buffer which it does not write has a pair
-  pair_for : (b s i k : ℕ) (x : Instr) → b < length p.buffers → (s ≡ (writing p b).writer → ⊥) → Stands p s i x → ReadsAt x k b → (q : ℕ) × (q < length p.pairs) × (reader p q ≡ record { buffer = b; sequence = s })
+  pair_for : (b s i k : ℕ) (x : Instr) → b < length p.buffers → (s ≡ (writing p b).writer → ⊥) → Stands p s i x → ReadsAt x k b → (q : ℕ)
+      × (q < length p.pairs) × (reader p q ≡ record { buffer = b; sequence = s })
   pair_for b s i k x l other e r =
       let c = formed.standing p g a order h s i x e in
       let reading : list_any (reads b) c.0.turn ≡ true = any_at (reads b) c.0.turn i x c.2 (of_reads b k x r) in
@@ -95,7 +96,8 @@ module _ (p : Program) (g : Graph) (a : Architecture) (order : List ℕ) (h : Is
           let end : place (reader p q.0).sequence i ≡ place s i = ap (λ (t : ℕ). place t i) reader_of in
           omega (arith, first, second, third, start, end)
 
-  carried_len : (v port k b : ℕ) (bs ns : List ℕ) → CarryOutputs p order (places p) (carried p) g v port bs ns → slice_get bs k ≡ Some b → (n : ℕ) × (slice_get ns k ≡ Some n) × len_is p (slice_get p.buffers b) n
+  carried_len : (v port k b : ℕ) (bs ns : List ℕ) → CarryOutputs p order (places p) (carried p) g v port bs ns → slice_get bs k ≡ Some b
+      → (n : ℕ) × (slice_get ns k ≡ Some n) × len_is p (slice_get p.buffers b) n
   carried_len v port k b [] [] c e = absurd cc
   carried_len v port k b [] (n ∷ ns) c e = absurd c
   carried_len v port k b (d ∷ bs) [] c e = absurd c
@@ -137,7 +139,10 @@ module _ (p : Program) (g : Graph) (a : Architecture) (order : List ℕ) (h : Is
       by (Call v ins outs) e w again = call_writes (writing p b).writer (writing p b).at v (writing p b).port b ins outs e w
       by (Recv c o) e w again = received (formed.part p g a order h (writing p b).writer (writing p b).at (Recv c o) e refl) (λ q. q.who_is)
         where
-          received : (q : formed.Part p g a order h (writing p b).writer (writing p b).at (Recv c o)) → ((q : formed.Part p g a order h (writing p b).writer (writing p b).at (Recv c o)) → formed.Who p g a order h q.m (communications p (writing p b).writer (writing p b).at) (writing p b).writer (writing p b).at (Recv c o)) → 1 ≤ len_of p b
+          received : (q : formed.Part p g a order h (writing p b).writer (writing p b).at (Recv c o))
+              → ((q : formed.Part p g a order h (writing p b).writer (writing p b).at (Recv c o))
+              → formed.Who p g a order h q.m (communications p (writing p b).writer (writing p b).at) (writing p b).writer (writing p b).at
+              (Recv c o)) → 1 ≤ len_of p b
           received q who = from (who q)
             where
               t : ℕ

@@ -1,5 +1,36 @@
 -- Places of lists: what stands at a place of a joined list or of a map, tests by places, the first place that passes.
-use Rattle.std.proofs.Common.{◌≡◌, ℕ, zero, suc, ◌+◌, ◌≤◌, ◌<◌, Bool, true, false, cond, nat_lt, List, [], ◌∷◌, ◌++◌, length, map, refl, ap, arith, ◌∙◌, subst, Some, None, position, ◌⊎◌, inl, inr, get_or}
+use Rattle.std.proofs.Common.{
+  ◌≡◌,
+  ℕ,
+  zero,
+  suc,
+  ◌+◌,
+  ◌≤◌,
+  ◌<◌,
+  Bool,
+  true,
+  false,
+  cond,
+  nat_lt,
+  List,
+  [],
+  ◌∷◌,
+  ◌++◌,
+  length,
+  map,
+  refl,
+  ap,
+  arith,
+  ◌∙◌,
+  subst,
+  Some,
+  None,
+  position,
+  ◌⊎◌,
+  inl,
+  inr,
+  get_or,
+}
 use Rattle.std.specs.Prelude.{slice_get}
 use Rattle.std.specs.List.{list_all, position_or_len, count_by}
 use Rattle.std.proofs.lemmas.Bool.{and_parts, and_from, lt-ltb, cases_Bool}

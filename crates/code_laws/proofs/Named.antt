@@ -58,8 +58,10 @@ pub record Operations (g : Graph) : Type 0 where
 
 pub operations : (g : Graph) → is_flat g ≡ true → Operations g
 operations g h =
-    let a = and_parts (nat_le (length g.vertices) 2048 && are_named_apart g.vertices && all_from (is_vertex g) 0 g.vertices && sensors_from 0 (kinds_of g.vertices) && actuators_from 0 (kinds_of g.vertices)) (is_acyclic g.vertices) h in
-    let b = and_parts (nat_le (length g.vertices) 2048 && are_named_apart g.vertices && all_from (is_vertex g) 0 g.vertices && sensors_from 0 (kinds_of g.vertices)) (actuators_from 0 (kinds_of g.vertices)) a.0 in
+    let a = and_parts (nat_le (length g.vertices) 2048 && are_named_apart g.vertices && all_from (is_vertex g) 0 g.vertices
+    && sensors_from 0 (kinds_of g.vertices) && actuators_from 0 (kinds_of g.vertices)) (is_acyclic g.vertices) h in
+    let b = and_parts (nat_le (length g.vertices) 2048 && are_named_apart g.vertices && all_from (is_vertex g) 0 g.vertices
+    && sensors_from 0 (kinds_of g.vertices)) (actuators_from 0 (kinds_of g.vertices)) a.0 in
     let c = and_parts (nat_le (length g.vertices) 2048 && are_named_apart g.vertices && all_from (is_vertex g) 0 g.vertices) (sensors_from 0 (kinds_of g.vertices)) b.0 in
     let d = and_parts (nat_le (length g.vertices) 2048 && are_named_apart g.vertices) (all_from (is_vertex g) 0 g.vertices) c.0 in
     record { apart = (and_parts (nat_le (length g.vertices) 2048) (are_named_apart g.vertices) d.0).1; each = d.1 }
@@ -73,8 +75,10 @@ pub operation_at : (g : Graph) → Operations g → (v : ℕ) (x : Vertex) → s
 operation_at g is v x e =
     let own : is_vertex g v x ≡ true = subst (λ (k : ℕ). is_vertex g k x ≡ true) (let k : 0 + v ≡ v = omega arith in k) (all_at (is_vertex g) 0 g.vertices is.each v x e) in
     let lens = nat_le (length x.outs) 64 && list_all is_len x.outs in
-    let a = and_parts (is_path x.name && lens && list_all (is_guard g.vertices) x.guards && list_all (nat_le 1) (lens_of g.vertices x.ins) && fits g.bodies x.kind (lens_of g.vertices x.ins) x.outs) (has_twin g.vertices v x.kind x.twin) own in
-    let b = and_parts (is_path x.name && lens && list_all (is_guard g.vertices) x.guards && list_all (nat_le 1) (lens_of g.vertices x.ins)) (fits g.bodies x.kind (lens_of g.vertices x.ins) x.outs) a.0 in
+    let a = and_parts (is_path x.name && lens && list_all (is_guard g.vertices) x.guards && list_all (nat_le 1) (lens_of g.vertices x.ins)
+    && fits g.bodies x.kind (lens_of g.vertices x.ins) x.outs) (has_twin g.vertices v x.kind x.twin) own in
+    let b = and_parts (is_path x.name && lens && list_all (is_guard g.vertices) x.guards && list_all (nat_le 1) (lens_of g.vertices x.ins))
+    (fits g.bodies x.kind (lens_of g.vertices x.ins) x.outs) a.0 in
     let c = and_parts (is_path x.name && lens && list_all (is_guard g.vertices) x.guards) (list_all (nat_le 1) (lens_of g.vertices x.ins)) b.0 in
     let d = and_parts (is_path x.name && lens) (list_all (is_guard g.vertices) x.guards) c.0 in
     let e = and_parts (is_path x.name) lens d.0 in
@@ -95,7 +99,8 @@ pub record AreNamed (g : Graph) (a : Architecture) : Type 0 where
 
 distinct_of : (a : Architecture) → is_archi a.operators a.media ≡ true → are_distinct (names_of a.operators a.media) ≡ true
 distinct_of a h =
-    let p = and_parts (are_bounded a.operators a.media && list_all (is_medium (length a.operators)) a.media && are_distinct (names_of a.operators a.media)) (are_joined (length a.operators) a.media) h in
+    let p = and_parts (are_bounded a.operators a.media && list_all (is_medium (length a.operators)) a.media
+    && are_distinct (names_of a.operators a.media)) (are_joined (length a.operators) a.media) h in
     (and_parts (are_bounded a.operators a.media && list_all (is_medium (length a.operators)) a.media) (are_distinct (names_of a.operators a.media)) p.0).1
 
 pub are_named : (g : Graph) (a : Architecture) → is_flat g ≡ true → is_archi a.operators a.media ≡ true → list_all is_name (names_of a.operators a.media) ≡ true → AreNamed g a
@@ -114,7 +119,8 @@ are_named g a flat right named = record { operator = operator; medium = medium; 
         let front : slice_get (names_of a.operators a.media) o ≡ Some it.0 = got_front a.operators (map (λ (m : Medium). m.name) a.media) o it.0 it.1 in
         subst (λ (w : Bytes). IsFound a.operators is_name w o) (sym is) (record {
           place = found (bytes_eq it.0) a.operators o it.0 it.1 (bytes_self it.0) (λ i w e same.
-              alone (names_of a.operators a.media) distinct i o w (got_front a.operators (map (λ (m : Medium). m.name) a.media) i w e) (subst (λ (v : Bytes). slice_get (names_of a.operators a.media) o ≡ Some v) (bytes_same it.0 w same) front));
+              alone (names_of a.operators a.media) distinct i o w (got_front a.operators (map (λ (m : Medium). m.name) a.media) i w e)
+              (subst (λ (v : Bytes). slice_get (names_of a.operators a.media) o ≡ Some v) (bytes_same it.0 w same) front));
           passes = all_here is_name (names_of a.operators a.media) named o it.0 front;
         })
 

@@ -1,5 +1,40 @@
 -- The numbers of buffers and pairs, operator by operator: each stands once among those of all operators.
-use Rattle.std.proofs.Common.{◌≡◌, ℕ, zero, suc, ◌+◌, ◌≤◌, ◌<◌, Bool, ◌||◌, true, false, cond, nat_le, nat_lt, nat_eq, if◌then◌else◌, List, [], ◌∷◌, ◌++◌, length, map, refl, sym, ap, ap₂, arith, ◌∙◌, subst, Some, None, ◌⊎◌, inl, inr}
+use Rattle.std.proofs.Common.{
+  ◌≡◌,
+  ℕ,
+  zero,
+  suc,
+  ◌+◌,
+  ◌≤◌,
+  ◌<◌,
+  Bool,
+  ◌||◌,
+  true,
+  false,
+  cond,
+  nat_le,
+  nat_lt,
+  nat_eq,
+  if◌then◌else◌,
+  List,
+  [],
+  ◌∷◌,
+  ◌++◌,
+  length,
+  map,
+  refl,
+  sym,
+  ap,
+  ap₂,
+  arith,
+  ◌∙◌,
+  subst,
+  Some,
+  None,
+  ◌⊎◌,
+  inl,
+  inr,
+}
 use Rattle.std.specs.Prelude.{slice_get, is_some}
 use Rattle.std.specs.List.{list_all, count_by, sum_by}
 use Rattle.std.proofs.lemmas.Bool.{and_parts, and_from, le-leb, lt-ltb, eq-eqb, ne_eqb, eqb-true, lt-leb, ltb-true, or_right, or_left}

@@ -1,5 +1,38 @@
 -- The text of a processor, and of all processors, is read as their pairs, buffers and sequences.
-use Rattle.std.proofs.Common.{◌≡◌, ℕ, suc, ◌+◌, ◌≤◌, ◌<◌, Bool, not, ◌&&◌, true, false, cond, nat_lt, nat_eq, List, [], ◌∷◌, ◌++◌, length, map, refl, sym, ap, ap₂, arith, ◌∙◌, subst, Option, Some, None, append_assoc, append-nil}
+use Rattle.std.proofs.Common.{
+  ◌≡◌,
+  ℕ,
+  suc,
+  ◌+◌,
+  ◌≤◌,
+  ◌<◌,
+  Bool,
+  not,
+  ◌&&◌,
+  true,
+  false,
+  cond,
+  nat_lt,
+  nat_eq,
+  List,
+  [],
+  ◌∷◌,
+  ◌++◌,
+  length,
+  map,
+  refl,
+  sym,
+  ap,
+  ap₂,
+  arith,
+  ◌∙◌,
+  subst,
+  Option,
+  Some,
+  None,
+  append_assoc,
+  append-nil,
+}
 use Rattle.std.specs.Prelude.{slice_get}
 use Rattle.std.specs.List.{list_all, flat_map, range_with_len}
 use Rattle.std.specs.Fmt.{decimal}
@@ -16,7 +49,25 @@ use Rattle.sequence_build_laws.specs.declared.SeqCode.{SeqCode}
 use Rattle.sequence_build_laws.specs.declared.Program.{Program}
 use Rattle.macro_code.specs.declared.macros.Macro.{Macro}
 use Rattle.macro_code.specs.declared.macros.Macro.TheVariants as macros
-use Rattle.macro_code.specs.Text.{line, word_line, pairs_on, alloc_lines, operator_name, declarations, code_text, thread_by, thread_text, medium_by, medium_line, medium_lines, main_by, main_text, sequences_text, processor_text, processors_from}
+use Rattle.macro_code.specs.Text.{
+  line,
+  word_line,
+  pairs_on,
+  alloc_lines,
+  operator_name,
+  declarations,
+  code_text,
+  thread_by,
+  thread_text,
+  medium_by,
+  medium_line,
+  medium_lines,
+  main_by,
+  main_text,
+  sequences_text,
+  processor_text,
+  processors_from,
+}
 use Rattle.macro_code.specs.declared.numbered.Numbered.{Numbered}
 use Rattle.macro_code.specs.declared.numbered.Size.{Size}
 use Rattle.macro_code.specs.declared.stage.Stage.{Stage}
@@ -87,7 +138,8 @@ module _ (g : Graph) (a : Architecture) (known_names : AreNamed g a) where
 
     abbrev main_part : Bytes
     main_part =
-        word_line macros.Main ++ (medium_lines (names g a) macros.SpawnThread o threads ++ (code_text (names g a) main ++ (medium_lines (names g a) macros.WaitEndThread o threads ++ word_line macros.EndMain)))
+        word_line macros.Main ++ (medium_lines (names g a) macros.SpawnThread o threads
+        ++ (code_text (names g a) main ++ (medium_lines (names g a) macros.WaitEndThread o threads ++ word_line macros.EndMain)))
 
     mains_text : flat_map (main_text (names g a) all o) all ≡ main_part
     mains_text =
@@ -111,10 +163,12 @@ module _ (g : Graph) (a : Architecture) (known_names : AreNamed g a) where
   closed r o qs = record r { stage = Outside; operator = Some o; seqs = qs; threads = []; prologue = []; turn = [] }
 
   -- The main part of an operator, after its threads.
-  main_reads : (r : Reading) (n o : ℕ) (stage : Stage) (medium : Option ℕ) (ms : List ℕ) (threads : List SeqCode) (main : SeqCode) → may_begin g a known_names stage ≡ true → main.seq ≡ computation o → AreThreads o threads ms
+  main_reads : (r : Reading) (n o : ℕ) (stage : Stage) (medium : Option ℕ) (ms : List ℕ) (threads : List SeqCode) (main : SeqCode)
+      → may_begin g a known_names stage ≡ true → main.seq ≡ computation o → AreThreads o threads ms
       → list_all (λ (m : ℕ). nat_lt m (length a.media)) ms ≡ true → ascends_from 0 ms ≡ true → code_readable g a known_names r main ≡ true
       → Read g a known_names (threaded g a known_names r o stage medium ms threads) n
-      (word_line macros.Main ++ (medium_lines (names g a) macros.SpawnThread o threads ++ (code_text (names g a) main ++ (medium_lines (names g a) macros.WaitEndThread o threads ++ word_line macros.EndMain))))
+      (word_line macros.Main ++ (medium_lines (names g a) macros.SpawnThread o threads
+      ++ (code_text (names g a) main ++ (medium_lines (names g a) macros.WaitEndThread o threads ++ word_line macros.EndMain))))
       (closed (awaiting g a known_names (threaded g a known_names r o stage medium ms threads) o ms ms main) o (r.seqs ++ main ∷ threads))
   main_reads r n o stage medium ms threads main may is are low rising h =
       let at = threaded g a known_names r o stage medium ms threads in
@@ -136,7 +190,8 @@ module _ (g : Graph) (a : Architecture) (known_names : AreNamed g a) where
       let all = lines.both (operation_names g) a at opened end n (word_line macros.Main)
       (medium_lines (names g a) macros.SpawnThread o threads ++ (code_text (names g a) main ++ (medium_lines (names g a) macros.WaitEndThread o threads ++ word_line macros.EndMain))) first b in
       subst (λ (q : SeqCode). Read g a known_names at n
-      (word_line macros.Main ++ (medium_lines (names g a) macros.SpawnThread o threads ++ (code_text (names g a) main ++ (medium_lines (names g a) macros.WaitEndThread o threads ++ word_line macros.EndMain))))
+      (word_line macros.Main ++ (medium_lines (names g a) macros.SpawnThread o threads
+      ++ (code_text (names g a) main ++ (medium_lines (names g a) macros.WaitEndThread o threads ++ word_line macros.EndMain))))
       (closed waited o (r.seqs ++ q ∷ threads))) (code_is main (computation o) is) all
 
   -- Between processors: the last operator, the pairs and the buffers that were declared, with what belongs to their numbers, and the sequences.
@@ -161,7 +216,8 @@ module _ (g : Graph) (a : Architecture) (known_names : AreNamed g a) where
     pub sizes : (i : ℕ) (x : Buffer) → slice_get p.buffers i ≡ Some x → fb (0 + i) ≡ size_of x
     pub readable : list_all (λ (q : SeqCode). ready p q.seq.operator q) p.seqs ≡ true
 
-  record ProcessorRead (p : Program) (fp : ℕ → ℕ) (fb : ℕ → Size) (r : Reading) (n o : ℕ) (last : Option ℕ) (ds es : List Numbered) (done : List SeqCode) (main : SeqCode) (threads : List SeqCode) : Type 0 where
+  record ProcessorRead (p : Program) (fp : ℕ → ℕ) (fb : ℕ → Size) (r : Reading) (n o : ℕ) (last : Option ℕ) (ds es : List Numbered)
+      (done : List SeqCode) (main : SeqCode) (threads : List SeqCode) : Type 0 where
     pub pairs : List Numbered
     pub buffers : List Numbered
     pub are_pairs : numbers pairs ≡ pairs_on o 0 p.pairs
@@ -170,7 +226,8 @@ module _ (g : Graph) (a : Architecture) (known_names : AreNamed g a) where
     pub read : Read g a known_names (outside r last ds (map fp (numbers ds)) es (map fb (numbers es)) done) n (processor_text (names g a) p o)
         (outside behind (Some o) (ds ++ pairs) (map fp (numbers (ds ++ pairs))) (es ++ buffers) (map fb (numbers (es ++ buffers))) (done ++ main ∷ threads))
 
-  processor_read : (p : Program) (fp : ℕ → ℕ) (fb : ℕ → Size) → IsPrintable p fp fb → (r : Reading) (n o : ℕ) (last : Option ℕ) (ds es : List Numbered) (done : List SeqCode) (main : SeqCode) (threads rest : List SeqCode) (ms : List ℕ)
+  processor_read : (p : Program) (fp : ℕ → ℕ) (fb : ℕ → Size) → IsPrintable p fp fb
+      → (r : Reading) (n o : ℕ) (last : Option ℕ) (ds es : List Numbered) (done : List SeqCode) (main : SeqCode) (threads rest : List SeqCode) (ms : List ℕ)
       → o < length a.operators → follows last o ≡ true → Around o p.seqs done main threads rest ms → list_all (λ (m : ℕ). nat_lt m (length a.media)) ms ≡ true → ascends_from 0 ms ≡ true
       → ready p o main ≡ true → list_all (ready p o) threads ≡ true
       → ProcessorRead p fp fb r n o last ds es done main threads
@@ -196,8 +253,10 @@ module _ (g : Graph) (a : Architecture) (known_names : AreNamed g a) where
       let d = lines.both (operation_names g) a full before_main end allocated.read.k spoken main_bytes third.read fourth in
       let c = lines.both (operation_names g) a declared full end second.k (alloc_lines o 0 p.buffers) (spoken ++ main_bytes) allocated.read d in
       let b = lines.both (operation_names g) a named declared end first.k (line macros.Semaphores (map decimal qs)) (alloc_lines o 0 p.buffers ++ (spoken ++ main_bytes)) second c in
-      let whole = lines.both (operation_names g) a at named end n (line macros.Processor (operator_name (names g a) o ∷ [])) (line macros.Semaphores (map decimal qs) ++ (alloc_lines o 0 p.buffers ++ (spoken ++ main_bytes))) first b in
-      let text_is : processor_text (names g a) p o ≡ line macros.Processor (operator_name (names g a) o ∷ []) ++ (line macros.Semaphores (map decimal qs) ++ (alloc_lines o 0 p.buffers ++ (spoken ++ main_bytes))) =
+      let whole = lines.both (operation_names g) a at named end n (line macros.Processor (operator_name (names g a) o ∷ []))
+      (line macros.Semaphores (map decimal qs) ++ (alloc_lines o 0 p.buffers ++ (spoken ++ main_bytes))) first b in
+      let text_is : processor_text (names g a) p o ≡ line macros.Processor (operator_name (names g a) o ∷ [])
+      ++ (line macros.Semaphores (map decimal qs) ++ (alloc_lines o 0 p.buffers ++ (spoken ++ main_bytes))) =
       ap (λ (t : Bytes). line macros.Processor (operator_name (names g a) o ∷ []) ++ (declarations o p.pairs p.buffers ++ t)) (parts_text o p.seqs done main threads rest ms around)
       ∙ ap (λ (t : Bytes). line macros.Processor (operator_name (names g a) o ∷ []) ++ t) (append_assoc (line macros.Semaphores (map decimal qs)) (alloc_lines o 0 p.buffers) (spoken ++ main_bytes)) in
       let owned : map fp (numbers ds) ++ map (λ _. o) qs ≡ map fp (numbers (ds ++ pairs)) =
@@ -209,9 +268,13 @@ module _ (g : Graph) (a : Architecture) (known_names : AreNamed g a) where
         are_pairs = numbers_back first.k qs;
         are_buffers = allocated.are;
         behind = behind;
-        read = lines.another (operation_names g) a at (outside behind (Some o) (ds ++ pairs) (map fp (numbers (ds ++ pairs))) (es ++ allocated.more) (map fb (numbers (es ++ allocated.more))) (done ++ main ∷ threads)) n
+        read = lines.another (operation_names g) a at
+            (outside behind (Some o) (ds ++ pairs) (map fp (numbers (ds ++ pairs))) (es ++ allocated.more)
+            (map fb (numbers (es ++ allocated.more))) (done ++ main ∷ threads)) n
             (processor_text (names g a) p o) _ text_is
-            (subst (λ (os : List ℕ). Read g a known_names at n (line macros.Processor (operator_name (names g a) o ∷ []) ++ (line macros.Semaphores (map decimal qs) ++ (alloc_lines o 0 p.buffers ++ (spoken ++ main_bytes))))
+            (subst (λ (os : List ℕ). Read g a known_names at n
+            (line macros.Processor (operator_name (names g a) o ∷ [])
+            ++ (line macros.Semaphores (map decimal qs) ++ (alloc_lines o 0 p.buffers ++ (spoken ++ main_bytes))))
             (outside behind (Some o) (ds ++ pairs) os (es ++ allocated.more) (map fb (numbers (es ++ allocated.more))) (done ++ main ∷ threads))) owned whole);
       }
 
@@ -244,7 +307,8 @@ module _ (g : Graph) (a : Architecture) (known_names : AreNamed g a) where
   nothing_left [] e = refl
   nothing_left (q ∷ rest) e = absurd (cc)
 
-  pub processors_read : (ops : List Bytes) (p : Program) (fp : ℕ → ℕ) (fb : ℕ → Size) → IsPrintable p fp fb → (r : Reading) (n o : ℕ) (last : Option ℕ) (ds es : List Numbered) (done rest : List SeqCode)
+  pub processors_read : (ops : List Bytes) (p : Program) (fp : ℕ → ℕ) (fb : ℕ → Size) → IsPrintable p fp fb
+      → (r : Reading) (n o : ℕ) (last : Option ℕ) (ds es : List Numbered) (done rest : List SeqCode)
       → o + length ops ≡ length a.operators → follows last o ≡ true → numbers ds ≡ all_on p.pairs o → numbers es ≡ all_on (places_of p.buffers) o → AreLeft p o (length ops) done rest
       → ProcessorsRead p fp fb r n o (length ops) last ds es done (processors_from (names g a) p o ops)
   processors_read [] p fp fb good r n o last ds es done rest count f pairs_are buffers_are left =
@@ -276,7 +340,8 @@ module _ (g : Graph) (a : Architecture) (known_names : AreNamed g a) where
         is_main = it.is_main;
         are_threads = it.are_threads;
       } in
-      let first = processor_read p fp fb good r n o last ds es done it.main it.threads it.rest ms (omega (arith, count)) f around (stood_low o 0 (length a.media) a.media (omega arith)) (stood_rise o 0 0 a.media (omega arith))
+      let first = processor_read p fp fb good r n o last ds es done it.main it.threads it.rest ms (omega (arith, count)) f around
+      (stood_low o 0 (length a.media) a.media (omega arith)) (stood_rise o 0 0 a.media (omega arith))
       (ap (λ (s : Seq). ready p s.operator it.main) (sym it.is_main) ∙ own.0) (threads_readable p o it.threads ms it.are_threads thread_parts.0) in
       let one : o + 1 ≡ suc o = omega arith in
       let gone = done ++ it.main ∷ it.threads in
@@ -289,7 +354,8 @@ module _ (g : Graph) (a : Architecture) (known_names : AreNamed g a) where
       }) in
       let pairs_now = more_numbers ds first.pairs p.pairs o pairs_are first.are_pairs in
       let buffers_now = more_numbers es first.buffers (places_of p.buffers) o buffers_are first.are_buffers in
-      let next = processors_read ops p fp fb good first.behind first.read.k (suc o) (Some o) (ds ++ first.pairs) (es ++ first.buffers) gone it.rest (omega (arith, count)) (lt-ltb o (suc o) (omega arith)) pairs_now buffers_now left_now in
+      let next = processors_read ops p fp fb good first.behind first.read.k (suc o) (Some o) (ds ++ first.pairs)
+      (es ++ first.buffers) gone it.rest (omega (arith, count)) (lt-ltb o (suc o) (omega arith)) pairs_now buffers_now left_now in
       let total : suc o + length ops ≡ o + suc (length ops) = omega arith in
       let from = outside r last ds (map fp (numbers ds)) es (map fb (numbers es)) done in
       let middle = outside first.behind (Some o) (ds ++ first.pairs) (map fp (numbers (ds ++ first.pairs))) (es ++ first.buffers) (map fb (numbers (es ++ first.buffers))) gone in

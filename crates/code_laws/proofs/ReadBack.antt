@@ -22,7 +22,8 @@ use Rattle.code_laws.proofs.Lengths as lengths
 use Rattle.code_laws.proofs.Whole.{owner, size, read_whole}
 use Rattle.code_laws.proofs.Limits.{is_signal, opens_alone, within, few, not_limited}
 
-by_order : (p : Program) (g : Graph) (a : Architecture) (order : List ℕ) → is_flat g ≡ true → IsNamedArchi a → IsOrder p g (sequences a) (length a.media) order → program_limit p (length a.media) ≡ None → ReadsBack p g a
+by_order : (p : Program) (g : Graph) (a : Architecture) (order : List ℕ) → is_flat g ≡ true → IsNamedArchi a
+    → IsOrder p g (sequences a) (length a.media) order → program_limit p (length a.media) ≡ None → ReadsBack p g a
 by_order p g a order flat archi h limits =
     let names = are_named g a flat archi.valid archi.named in
     let low = within p (length a.media) limits in
@@ -37,7 +38,9 @@ by_order p g a order flat archi h limits =
       readable = formed.seqs_readable p g a order h bounds.few_pairs bounds.few_buffers;
     })
     pair_low buffer_low h.sequences
-    (not_limited p (length a.media) low (all_there opens_alone p.seqs (λ s c e. all_there is_signal c.prologue (λ i x f. ap is_signal (formed.opens p g a order h bounds.few_pairs bounds.few_buffers s i c x e f).is))))
+    (not_limited p (length a.media) low
+    (all_there opens_alone p.seqs (λ s c e. all_there is_signal c.prologue
+    (λ i x f. ap is_signal (formed.opens p g a order h bounds.few_pairs bounds.few_buffers s i c x e f).is))))
   where
     on_low : (b o : ℕ) → b < length p.buffers → formed.OnOperator p g a order h b o → o < length a.operators
     on_low b o l it =

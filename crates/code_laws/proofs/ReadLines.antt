@@ -5,7 +5,26 @@ use Rattle.std.specs.List.{list_all}
 use Rattle.text_lines.specs.Text.{lines_of, words_of}
 use Rattle.sequence_build_laws.specs.Archi.{Architecture}
 use Rattle.macro_code.specs.declared.macros.Macro.{Macro}
-use Rattle.macro_code.specs.declared.macros.Macro.TheVariants.{Processor, Semaphores, Alloc, Thread, EndThread, Main, EndMain, SpawnThread, WaitEndThread, Loop, EndLoop, Suc0, Suc1, Pre0, Pre1, Send, Recv, Sync}
+use Rattle.macro_code.specs.declared.macros.Macro.TheVariants.{
+  Processor,
+  Semaphores,
+  Alloc,
+  Thread,
+  EndThread,
+  Main,
+  EndMain,
+  SpawnThread,
+  WaitEndThread,
+  Loop,
+  EndLoop,
+  Suc0,
+  Suc1,
+  Pre0,
+  Pre1,
+  Send,
+  Recv,
+  Sync,
+}
 use Rattle.macro_code.specs.Macros.{word_of}
 use Rattle.macro_code.specs.Text.{joined, line, word_line}
 use Rattle.macro_code.specs.Refusals.{CodeRefusal}

@@ -3,6 +3,7 @@ use Rattle.std.proofs.Common.{◌≡◌, ℕ, true, [], ◌∷◌, Some, None, R
 use Rattle.std.specs.Prelude.{codes}
 use Rattle.std.specs.Fmt.{digits}
 use Rattle.sequence_build_laws.specs.Graph.{Graph}
+use Rattle.sequence_build_laws.specs.declared.MediumKind.TheVariants.{Multipoint}
 use Rattle.sequence_build_laws.specs.Archi.{Architecture}
 use Rattle.sequence_build_laws.specs.declared.Instr.TheVariants.{Suc0, Suc1, Pre0, Pre1, Call, Send, Recv}
 use Rattle.sequence_build_laws.specs.declared.Program.{Program}
@@ -17,7 +18,7 @@ use Rattle.text_lines.specs.Refusals.{refused}
 
 -- two operators on a bus; their buffers and pairs stand in the text operator by operator
 abbrev two : Architecture
-two = archi (codes "P" ∷ codes "Q" ∷ []) (record { name = codes "bus"; multi = true; fixed = 1; per = 1; stands = 0 ∷ 1 ∷ [] } ∷ [])
+two = archi (codes "P" ∷ codes "Q" ∷ []) (record { name = codes "bus"; kind = Multipoint; fixed = 1; per = 1; stands = 0 ∷ 1 ∷ [] } ∷ [])
 
 abbrev back : Program → Graph → Architecture → Result Program CodeRefusal
 back p g a = program_in (macro_code p g a) g a
@@ -71,7 +72,8 @@ unfolding macro_of digits
 no_name = refl
 
 -- Of two operations with one name the first is read, and a name that is no path ends its form.
-same_names : back (small 1) (pair_of (codes "s") (codes "s")) (alone (codes "P")) ≡ Ok (record { buffers = buffer 0 1 1 ∷ []; pairs = []; seqs = code 0 None [] (Call 0 [] (0 ∷ []) ∷ Call 0 (0 ∷ []) [] ∷ []) ∷ [] })
+same_names : back (small 1) (pair_of (codes "s") (codes "s")) (alone (codes "P"))
+    ≡ Ok (record { buffers = buffer 0 1 1 ∷ []; pairs = []; seqs = code 0 None [] (Call 0 [] (0 ∷ []) ∷ Call 0 (0 ∷ []) [] ∷ []) ∷ [] })
 unfolding macro_of digits
 same_names = refl
 

@@ -1,5 +1,40 @@
 -- The threads and the main part of a processor are read as its sequences.
-use Rattle.std.proofs.Common.{◌≡◌, ℕ, ◌+◌, ◌<◌, Bool, not, ◌&&◌, ◌||◌, true, false, cond, nat_le, nat_lt, nat_eq, if◌then◌else◌, List, [], ◌∷◌, ◌++◌, length, refl, sym, ap, ap₂, arith, ◌∙◌, subst, Option, Some, None, Result, Ok, append_assoc, append-nil}
+use Rattle.std.proofs.Common.{
+  ◌≡◌,
+  ℕ,
+  ◌+◌,
+  ◌<◌,
+  Bool,
+  not,
+  ◌&&◌,
+  ◌||◌,
+  true,
+  false,
+  cond,
+  nat_le,
+  nat_lt,
+  nat_eq,
+  if◌then◌else◌,
+  List,
+  [],
+  ◌∷◌,
+  ◌++◌,
+  length,
+  refl,
+  sym,
+  ap,
+  ap₂,
+  arith,
+  ◌∙◌,
+  subst,
+  Option,
+  Some,
+  None,
+  Result,
+  Ok,
+  append_assoc,
+  append-nil,
+}
 use Rattle.std.specs.List.{list_all, flat_map}
 use Rattle.std.proofs.lemmas.Bool.{and_parts, lt-ltb, leb-true, ltb-true, eq-eqb}
 use Rattle.std.proofs.lemmas.List.{length-append}
@@ -17,7 +52,24 @@ use Rattle.macro_code.specs.declared.fault.CodeCause.TheVariants.{BadArgument, U
 use Rattle.macro_code.specs.declared.stage.Stage.{Stage}
 use Rattle.macro_code.specs.declared.stage.Stage.TheVariants.{Threaded, Prologue, Ended}
 use Rattle.syn_base.specs.Bytes.{Bytes}
-use Rattle.macro_code.specs.ReadText.{Reading, Joined, known, place_in, medium_names, operation_names, is_among, follows, last_of, is_declared, is_threaded, starts_more, awaits_more, medium_of, thread_of, at_thread}
+use Rattle.macro_code.specs.ReadText.{
+  Reading,
+  Joined,
+  known,
+  place_in,
+  medium_names,
+  operation_names,
+  is_among,
+  follows,
+  last_of,
+  is_declared,
+  is_threaded,
+  starts_more,
+  awaits_more,
+  medium_of,
+  thread_of,
+  at_thread,
+}
 use Rattle.text_lines.specs.Refusals.{and_then, refused}
 use Rattle.code_laws.proofs.Arguments.{name_argument}
 use Rattle.code_laws.proofs.Named.{names, AreNamed}
@@ -83,9 +135,12 @@ module _ (g : Graph) (a : Architecture) (known_names : AreNamed g a) where
       let third = turn_reads g a known_names filled second.k [] q.turn both.1 in
       let fourth = lines.bare_reads (operation_names g) a (turning g a known_names filled q.turn) (ended r q) third.k macros.EndLoop
       (stands g a known_names (turning g a known_names filled q.turn) third.k None macros.EndLoop (ended r q) refl refl) in
-      let last = lines.both (operation_names g) a (turning g a known_names filled []) (turning g a known_names filled q.turn) (ended r q) second.k (body_text (names g a) q.turn) (word_line macros.EndLoop) third fourth in
-      let later = lines.both (operation_names g) a (opened g a known_names bare q.prologue) (turning g a known_names filled []) (ended r q) first.k (word_line macros.Loop) (body_text (names g a) q.turn ++ word_line macros.EndLoop) second last in
-      lines.both (operation_names g) a (begun r) (opened g a known_names bare q.prologue) (ended r q) n (body_text (names g a) q.prologue) (word_line macros.Loop ++ (body_text (names g a) q.turn ++ word_line macros.EndLoop)) first later
+      let last = lines.both (operation_names g) a (turning g a known_names filled []) (turning g a known_names filled q.turn)
+      (ended r q) second.k (body_text (names g a) q.turn) (word_line macros.EndLoop) third fourth in
+      let later = lines.both (operation_names g) a (opened g a known_names bare q.prologue) (turning g a known_names filled [])
+      (ended r q) first.k (word_line macros.Loop) (body_text (names g a) q.turn ++ word_line macros.EndLoop) second last in
+      lines.both (operation_names g) a (begun r) (opened g a known_names bare q.prologue) (ended r q) n (body_text (names g a) q.prologue)
+      (word_line macros.Loop ++ (body_text (names g a) q.turn ++ word_line macros.EndLoop)) first later
 
   -- media
   medium_back : (n m : ℕ) (media : List ℕ) → m < length a.media → follows (last_of media) m ≡ true
@@ -93,7 +148,8 @@ module _ (g : Graph) (a : Architecture) (known_names : AreNamed g a) where
   medium_back n m media l f =
       let it = known_names.medium m l in
       let w = medium_name (names g a) m in
-      name_back n w (λ (v : Bytes). and_then (known n v (place_in (medium_names a) v)) (λ (k : ℕ). if follows (last_of media) k then Ok (record { word = v; medium = k }) else refused n BadArgument)) it.passes
+      name_back n w (λ (v : Bytes). and_then (known n v (place_in (medium_names a) v))
+      (λ (k : ℕ). if follows (last_of media) k then Ok (record { word = v; medium = k }) else refused n BadArgument)) it.passes
       ∙ ap (λ (p : Option ℕ). and_then (known n w p) (λ (k : ℕ). if follows (last_of media) k then Ok (record { word = w; medium = k }) else refused n BadArgument)) it.place
       ∙ ap (λ (b : Bool). if b then Ok (record { word = w; medium = m }) else refused n BadArgument) f
 
@@ -127,11 +183,15 @@ module _ (g : Graph) (a : Architecture) (known_names : AreNamed g a) where
       let made : SeqCode = record { seq = communicator o m; prologue = q.prologue; turn = q.turn } in
       let third = lines.bare_reads (operation_names g) a (ended inner q) (threaded r o Threaded (Some m) (media ++ m ∷ []) (threads ++ made ∷ [])) second.k macros.EndThread
       (stands g a known_names (ended inner q) second.k None macros.EndThread (threaded r o Threaded (Some m) (media ++ m ∷ []) (threads ++ made ∷ [])) refl refl) in
-      let last = lines.both (operation_names g) a inner (ended inner q) (threaded r o Threaded (Some m) (media ++ m ∷ []) (threads ++ made ∷ [])) first.k (code_text (names g a) q) (word_line macros.EndThread) second third in
-      let all = lines.both (operation_names g) a at inner (threaded r o Threaded (Some m) (media ++ m ∷ []) (threads ++ made ∷ [])) n (line macros.Thread ws) (code_text (names g a) q ++ word_line macros.EndThread) first last in
+      let last = lines.both (operation_names g) a inner (ended inner q)
+      (threaded r o Threaded (Some m) (media ++ m ∷ []) (threads ++ made ∷ [])) first.k (code_text (names g a) q)
+      (word_line macros.EndThread) second third in
+      let all = lines.both (operation_names g) a at inner (threaded r o Threaded (Some m) (media ++ m ∷ []) (threads ++ made ∷ [])) n
+      (line macros.Thread ws) (code_text (names g a) q ++ word_line macros.EndThread) first last in
       lines.another (operation_names g) a at (threaded r o Threaded (Some m) (media ++ m ∷ []) (threads ++ q ∷ [])) n (thread_text (names g a) o q) (thread_by (names g a) q (Some m))
       (ap (λ (s : Seq). cond (nat_eq s.operator o) (thread_by (names g a) q s.medium) []) is ∙ ap (λ (b : Bool). cond b (thread_by (names g a) q (Some m)) []) (eq-eqb o o refl))
-      (subst (λ (c : SeqCode). Read g a known_names at n (thread_by (names g a) q (Some m)) (threaded r o Threaded (Some m) (media ++ m ∷ []) (threads ++ c ∷ []))) (code_is q (communicator o m) is) all)
+      (subst (λ (c : SeqCode). Read g a known_names at n (thread_by (names g a) q (Some m))
+      (threaded r o Threaded (Some m) (media ++ m ∷ []) (threads ++ c ∷ []))) (code_is q (communicator o m) is) all)
 
   -- all threads of an operator
   pub record ThreadsRead (r : Reading) (n o : ℕ) (stage : Stage) (medium : Option ℕ) (media : List ℕ) (threads qs : List SeqCode) (ms : List ℕ) : Type 0 where
@@ -140,7 +200,8 @@ module _ (g : Graph) (a : Architecture) (known_names : AreNamed g a) where
     pub of : Option ℕ
     pub read : Read g a known_names (threaded r o stage medium media threads) n (flat_map (thread_text (names g a) o) qs) (threaded r o last of (media ++ ms) (threads ++ qs))
 
-  pub threads_read : (qs : List SeqCode) (ms : List ℕ) (r : Reading) (n o k : ℕ) (stage : Stage) (medium : Option ℕ) (media : List ℕ) (threads : List SeqCode) → may_begin stage ≡ true → AreThreads o qs ms
+  pub threads_read : (qs : List SeqCode) (ms : List ℕ) (r : Reading) (n o k : ℕ) (stage : Stage) (medium : Option ℕ) (media : List ℕ)
+      (threads : List SeqCode) → may_begin stage ≡ true → AreThreads o qs ms
       → list_all (λ (m : ℕ). nat_lt m (length a.media)) ms ≡ true → ascends_from k ms ≡ true → Above media k → list_all (code_readable r) qs ≡ true
       → ThreadsRead r n o stage medium media threads qs ms
   threads_read [] [] r n o k stage medium media threads may are low rising above h = record {
@@ -160,16 +221,21 @@ module _ (g : Graph) (a : Architecture) (known_names : AreNamed g a) where
       let first = thread_reads r n o m stage medium media threads q may are.0 (ltb-true m (length a.media) lows.0) (above.follow m (leb-true k m rises.0)) codes.0 in
       let rest = threads_read qs ms r first.k o (m + 1) Threaded (Some m) (media ++ m ∷ []) (threads ++ q ∷ []) refl are.1 lows.1 rises.1 (above_one media m) codes.1 in
       let from = threaded r o stage medium media threads in
-      let both = lines.both (operation_names g) a from (threaded r o Threaded (Some m) (media ++ m ∷ []) (threads ++ q ∷ [])) (threaded r o rest.last rest.of ((media ++ m ∷ []) ++ ms) ((threads ++ q ∷ []) ++ qs)) n
+      let both = lines.both (operation_names g) a from (threaded r o Threaded (Some m) (media ++ m ∷ []) (threads ++ q ∷ []))
+      (threaded r o rest.last rest.of ((media ++ m ∷ []) ++ ms) ((threads ++ q ∷ []) ++ qs)) n
       (thread_text (names g a) o q) (flat_map (thread_text (names g a) o) qs) first rest.read in
       record {
         last = rest.last;
         may = rest.may;
         of = rest.of;
-        read = lines.another (operation_names g) a from (threaded r o rest.last rest.of (media ++ m ∷ ms) (threads ++ q ∷ qs)) n (flat_map (thread_text (names g a) o) (q ∷ qs)) (thread_text (names g a) o q ++ flat_map (thread_text (names g a) o) qs)
+        read = lines.another (operation_names g) a from (threaded r o rest.last rest.of (media ++ m ∷ ms) (threads ++ q ∷ qs)) n
+            (flat_map (thread_text (names g a) o) (q ∷ qs)) (thread_text (names g a) o q ++ flat_map (thread_text (names g a) o) qs)
             (flat_map-cons (thread_text (names g a) o) q qs)
-            (subst (λ (ks : List ℕ). Read g a known_names from n (thread_text (names g a) o q ++ flat_map (thread_text (names g a) o) qs) (threaded r o rest.last rest.of ks (threads ++ q ∷ qs))) (append_assoc media (m ∷ []) ms)
-            (subst (λ (ts : List SeqCode). Read g a known_names from n (thread_text (names g a) o q ++ flat_map (thread_text (names g a) o) qs) (threaded r o rest.last rest.of ((media ++ m ∷ []) ++ ms) ts)) (append_assoc threads (q ∷ []) qs) both));
+            (subst (λ (ks : List ℕ). Read g a known_names from n (thread_text (names g a) o q ++ flat_map (thread_text (names g a) o) qs)
+            (threaded r o rest.last rest.of ks (threads ++ q ∷ qs))) (append_assoc media (m ∷ []) ms)
+            (subst (λ (ts : List SeqCode). Read g a known_names from n
+            (thread_text (names g a) o q ++ flat_map (thread_text (names g a) o) qs)
+            (threaded r o rest.last rest.of ((media ++ m ∷ []) ++ ms) ts)) (append_assoc threads (q ∷ []) qs) both));
       }
 
   -- the main part before its prologue, which has started some threads, and after its loop, which waited for some
@@ -207,7 +273,8 @@ module _ (g : Graph) (a : Architecture) (known_names : AreNamed g a) where
       (stands g a known_names at n (Some ws) macros.SpawnThread to more
       (ap (λ (x : Result ℕ CodeRefusal). and_then x (λ (k : ℕ). Ok (record at { spawned = done ++ k ∷ [] }))) (thread_back n m media done l (above.follow m (leb-true k m rises.0)) among)))) in
       let rest = spawns_read qs ms r first.k o (m + 1) media (done ++ m ∷ []) (cut ∙ sym (append_assoc done (m ∷ []) ms)) are.1 lows.1 rises.1 (above_one done m) in
-      lines.another (operation_names g) a at (starting r o media media) n (medium_lines (names g a) macros.SpawnThread o (q ∷ qs)) (medium_line (names g a) macros.SpawnThread o q ++ medium_lines (names g a) macros.SpawnThread o qs)
+      lines.another (operation_names g) a at (starting r o media media) n (medium_lines (names g a) macros.SpawnThread o (q ∷ qs))
+      (medium_line (names g a) macros.SpawnThread o q ++ medium_lines (names g a) macros.SpawnThread o qs)
       (flat_map-cons (medium_line (names g a) macros.SpawnThread o) q qs)
       (lines.both (operation_names g) a at to (starting r o media media) n (medium_line (names g a) macros.SpawnThread o q) (medium_lines (names g a) macros.SpawnThread o qs) first rest)
 
@@ -215,7 +282,8 @@ module _ (g : Graph) (a : Architecture) (known_names : AreNamed g a) where
       → list_all (λ (m : ℕ). nat_lt m (length a.media)) ms ≡ true → ascends_from k ms ≡ true → Above done k
       → Read g a known_names (awaiting r o media done c) n (medium_lines (names g a) macros.WaitEndThread o qs) (awaiting r o media media c)
   waits_read [] [] r n o k media done c cut are low rising above =
-      subst (λ (l : List ℕ). Read g a known_names (awaiting r o media done c) n [] (awaiting r o media l c)) (sym (cut ∙ append-nil done)) (lines.nothing (operation_names g) a (awaiting r o media done c) n)
+      subst (λ (l : List ℕ). Read g a known_names (awaiting r o media done c) n [] (awaiting r o media l c)) (sym (cut ∙ append-nil done))
+      (lines.nothing (operation_names g) a (awaiting r o media done c) n)
   waits_read [] (m ∷ ms) r n o k media done c cut are low rising above = absurd are
   waits_read (q ∷ qs) [] r n o k media done c cut are low rising above = absurd are
   waits_read (q ∷ qs) (m ∷ ms) r n o k media done c cut are low rising above =
@@ -232,6 +300,7 @@ module _ (g : Graph) (a : Architecture) (known_names : AreNamed g a) where
       (stands g a known_names at n (Some ws) macros.WaitEndThread to more
       (ap (λ (x : Result ℕ CodeRefusal). and_then x (λ (k : ℕ). Ok (record at { awaited = done ++ k ∷ [] }))) (thread_back n m media done l (above.follow m (leb-true k m rises.0)) among)))) in
       let rest = waits_read qs ms r first.k o (m + 1) media (done ++ m ∷ []) c (cut ∙ sym (append_assoc done (m ∷ []) ms)) are.1 lows.1 rises.1 (above_one done m) in
-      lines.another (operation_names g) a at (awaiting r o media media c) n (medium_lines (names g a) macros.WaitEndThread o (q ∷ qs)) (medium_line (names g a) macros.WaitEndThread o q ++ medium_lines (names g a) macros.WaitEndThread o qs)
+      lines.another (operation_names g) a at (awaiting r o media media c) n (medium_lines (names g a) macros.WaitEndThread o (q ∷ qs))
+      (medium_line (names g a) macros.WaitEndThread o q ++ medium_lines (names g a) macros.WaitEndThread o qs)
       (flat_map-cons (medium_line (names g a) macros.WaitEndThread o) q qs)
       (lines.both (operation_names g) a at to (awaiting r o media media c) n (medium_line (names g a) macros.WaitEndThread o q) (medium_lines (names g a) macros.WaitEndThread o qs) first rest)

@@ -1,5 +1,38 @@
 -- Where the lines of all processors were read, the whole is the program.
-use Rattle.std.proofs.Common.{◌≡◌, ℕ, ◌+◌, ◌<◌, ◌≤◌, ◌⊎◌, Bool, true, false, ◌||◌, if◌then◌else◌, cond, nat_eq, nat_lt, List, [], ◌∷◌, ◌++◌, length, map, Some, None, Ok, refl, sym, ap, ap₂, inl, inr, arith, ◌∙◌, append-nil}
+use Rattle.std.proofs.Common.{
+  ◌≡◌,
+  ℕ,
+  ◌+◌,
+  ◌<◌,
+  ◌≤◌,
+  ◌⊎◌,
+  Bool,
+  true,
+  false,
+  ◌||◌,
+  if◌then◌else◌,
+  cond,
+  nat_eq,
+  nat_lt,
+  List,
+  [],
+  ◌∷◌,
+  ◌++◌,
+  length,
+  map,
+  Some,
+  None,
+  Ok,
+  refl,
+  sym,
+  ap,
+  ap₂,
+  inl,
+  inr,
+  arith,
+  ◌∙◌,
+  append-nil,
+}
 use Rattle.std.specs.Prelude.{slice_get, slice_index_or}
 use Rattle.std.specs.List.{list_all, count_by, range_with_len}
 use Rattle.std.proofs.lemmas.Bool.{cases_lt, lt-ltb, eq-eqb}
@@ -19,7 +52,27 @@ use Rattle.macro_code.specs.Text.{macro_code}
 use Rattle.macro_code.specs.declared.numbered.Numbered.{Numbered}
 use Rattle.macro_code.specs.declared.numbered.Size.{Size}
 use Rattle.macro_code.specs.declared.fault.CodeCause.TheVariants.{BadLine}
-use Rattle.macro_code.specs.ReadText.{Reading, start, operation_names, rest_of, whole, program_in, counted, first_misnumbered, misnumbered, is_outside, program_of, buffer_of, owner_of, limited, sized, no_size, at_place, place_of, is_among}
+use Rattle.macro_code.specs.ReadText.{
+  Reading,
+  start,
+  operation_names,
+  rest_of,
+  whole,
+  program_in,
+  counted,
+  first_misnumbered,
+  misnumbered,
+  is_outside,
+  program_of,
+  buffer_of,
+  owner_of,
+  limited,
+  sized,
+  no_size,
+  at_place,
+  place_of,
+  is_among,
+}
 use Rattle.text_lines.specs.Refusals.{refused}
 use Rattle.code_laws.proofs.ListPlaces.{got_some, all_there, counted as is_counted}
 use Rattle.code_laws.proofs.Named.{AreNamed}

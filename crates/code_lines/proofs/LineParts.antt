@@ -12,7 +12,8 @@ use Rattle.std.proofs.Math.Seq.{take-length}
 use Rattle.std.proofs.lemmas.List.{take_all}
 
 -- the first word, and what stands after it
-pub first_read : (code : List ℕ) (from to : ℕ) → from < length code → is_blank (get_or code from 0) ≡ false → to ≡ from + position_or_len is_blank (drop from code) → words_of (drop from code) ≡ words_of code
+pub first_read : (code : List ℕ) (from to : ℕ) → from < length code → is_blank (get_or code from 0) ≡ false → to
+    ≡ from + position_or_len is_blank (drop from code) → words_of (drop from code) ≡ words_of code
     → words_of code ≡ take (to - from) (drop from code) ∷ words_of (take (length code - to) (drop to code))
 first_read code from to inside letter next so_far =
     let w : Word code code (length code) from to = record { code_is = sym (take-length code); inside = inside; letter = letter; next = next } in
@@ -27,7 +28,8 @@ clean_whole line none =
     (all, ap (list_any is_foreign) (sym all) ∙ found.1)
 
 -- the line is clean up to its comment
-pub clean_to : (line : Bytes) (n : ℕ) → position is_stop line ≡ Some n → n < length line → is_hash (get_or line n 0) ≡ true → (take n line ≡ code_of line) × (list_any is_foreign (code_of line) ≡ false)
+pub clean_to : (line : Bytes) (n : ℕ) → position is_stop line ≡ Some n → n < length line → is_hash (get_or line n 0) ≡ true
+    → (take n line ≡ code_of line) × (list_any is_foreign (code_of line) ≡ false)
 clean_to line n first inside is =
     let found = mark_first is_hash is_foreign line n 0 (found_at is_stop line n first) inside is in
     let to : take n line ≡ code_of line = ap (λ (k : ℕ). take k line) (sym found.0) in

@@ -1,5 +1,36 @@
 -- Where a name stands among those of media and of operations.
-use Rattle.std.proofs.Common.{◌≡◌, ℕ, zero, suc, ◌+◌, ◌<◌, Bool, not, true, false, ◌||◌, cond, List, [], ◌∷◌, ◌++◌, length, map, position, take, get_or, if◌then◌else◌, nat_lt, None, Some, refl, sym, ap, ◌∙◌, arith}
+use Rattle.std.proofs.Common.{
+  ◌≡◌,
+  ℕ,
+  zero,
+  suc,
+  ◌+◌,
+  ◌<◌,
+  Bool,
+  not,
+  true,
+  false,
+  ◌||◌,
+  cond,
+  List,
+  [],
+  ◌∷◌,
+  ◌++◌,
+  length,
+  map,
+  position,
+  take,
+  get_or,
+  if◌then◌else◌,
+  nat_lt,
+  None,
+  Some,
+  refl,
+  sym,
+  ap,
+  ◌∙◌,
+  arith,
+}
 use Rattle.std.specs.List.{list_any, position_or_len, prefix_len}
 use Rattle.std.specs.Str.{bytes_eq}
 use Rattle.std.proofs.lemmas.Bool.{and_parts}
@@ -58,5 +89,6 @@ pub name_added : (vs : List Vertex) (i : ℕ) (d : Vertex) (w : List ℕ) (names
 name_added vs i d w names new r apart below is named so_far told after =
     let same : w ≡ (get_or vs i d).name = named ∙ ap (λ (x : Vertex). x.name) is in
     let fresh : list_any (bytes_eq w) names ≡ false = rw (same, so_far) (is_new vs i d below apart) in
-    let pushed : map (λ (x : Vertex). x.name) (take (i + 1) vs) ≡ map (λ (x : Vertex). x.name) (take i vs) ++ (get_or vs i d).name ∷ [] = ap (map (λ (x : Vertex). x.name)) (take_more vs i d below) ∙ map_push (λ (x : Vertex). x.name) (take i vs) (get_or vs i d) in
+    let pushed : map (λ (x : Vertex). x.name) (take (i + 1) vs) ≡ map (λ (x : Vertex). x.name) (take i vs) ++ (get_or vs i d).name
+    ∷ [] = ap (map (λ (x : Vertex). x.name)) (take_more vs i d below) ∙ map_push (λ (x : Vertex). x.name) (take i vs) (get_or vs i d) in
     new_last names new w (list_any (bytes_eq w) names) r fresh told after ∙ rw (so_far, same) (sym pushed)

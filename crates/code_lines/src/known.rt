@@ -2,7 +2,7 @@
 ghost use Rattle.std.specs.Prelude.{◌≡◌, IfOk, IfSome, ◌<◌, length, map, position, true};
 ghost use Rattle.std.specs.Str.{bytes_eq};
 ghost use Rattle.executive_program.specs.FlatValid.{are_named_apart};
-ghost use Rattle.macro_code.specs.ReadText.{follows, is_among, last_of, medium_names, medium_of, name_of, operation_names, known, operator_of, place_in, processor_of, thread_of};
+ghost use Rattle.macro_code.specs.ReadText.{is_among, medium_names, medium_of, name_of, operation_names, known, operator_of, place_in, processor_of, thread_of};
 ghost use Rattle.text_lines.specs.Refusals.{Gives};
 ghost use Rattle.code_lines.specs.Views.{GivesJoined, GivesWord};
 ghost use Rattle.code_lines.specs.Setting.{Setting};
@@ -11,7 +11,7 @@ use crate::arguments::Arguments;
 use crate::fault::{bad_argument, unknown_name};
 use crate::word::is_name;
 use executive_program::{Archi, Flat, Medium, Vertex};
-use macro_code::CodeError;
+use macro_code::{CodeError, are_followed_by, follows};
 use std::alloc::Global;
 use std::marker::Model;
 use syn_base::{Name, OutOfMemory};
@@ -82,23 +82,6 @@ fn medium_at(media: &[Medium], word: &[u8]) -> Option<usize>
     ensures within { IfSome result (λ k. k < length media.now) }
 {
     medium_named(media, word)
-}
-
-/// A number is above the last one before it.
-pub fn follows(last: Option<u32>, number: u32) -> bool
-    ensures { result ≡ follows last number }
-{
-    match last {
-        Some(last) => last < number,
-        None => true,
-    }
-}
-
-/// A medium is above the last one of these.
-fn are_followed_by(media: &[u32], medium: u32) -> bool
-    ensures { result ≡ follows (last_of media.now) medium }
-{
-    follows(media.last().copied(), medium)
 }
 
 /// Whether a medium is among these.

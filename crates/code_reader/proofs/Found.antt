@@ -6,7 +6,26 @@ use Rattle.text_lines.proofs.FirstNamed as first
 use Rattle.text_lines.proofs.FirstNamed.{first_named}
 use Rattle.macro_code.specs.declared.macros.Macro.{Macro}
 use Rattle.macro_code.specs.Macros.{word_of}
-use Rattle.macro_code.specs.declared.macros.Macro.TheVariants.{Processor, Semaphores, Alloc, Thread, EndThread, Main, EndMain, SpawnThread, WaitEndThread, Loop, EndLoop, Suc0, Suc1, Pre0, Pre1, Send, Recv, Sync}
+use Rattle.macro_code.specs.declared.macros.Macro.TheVariants.{
+  Processor,
+  Semaphores,
+  Alloc,
+  Thread,
+  EndThread,
+  Main,
+  EndMain,
+  SpawnThread,
+  WaitEndThread,
+  Loop,
+  EndLoop,
+  Suc0,
+  Suc1,
+  Pre0,
+  Pre1,
+  Send,
+  Recv,
+  Sync,
+}
 use Rattle.syn_base.specs.Bytes.{Bytes}
 use Rattle.macro_code.specs.Forms.{found_in, macro_of, macros}
 

@@ -2,5 +2,4 @@ pub mod Appending
 pub mod Following
 pub mod Found
 pub mod NextLine
-pub mod Placing
 pub mod Wholes

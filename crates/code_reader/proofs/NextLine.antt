@@ -20,5 +20,6 @@ module _ (operations : List Bytes) (a : Architecture) where
   pub foreign_line : (r : Reading) (n : ℕ) (line : Bytes) → list_any is_foreign (code_of line) ≡ true → next_line operations a r n line ≡ refused n BadLine
   foreign_line r n line any = ap (line_by operations a r n line) (place_by (code_of line) true any)
 
-  pub clean_line : (r : Reading) (n : ℕ) (line code : Bytes) (ws : List Bytes) → (code ≡ code_of line) × (list_any is_foreign (code_of line) ≡ false) → words_of code ≡ ws → next_line operations a r n line ≡ by_words r n ws
+  pub clean_line : (r : Reading) (n : ℕ) (line code : Bytes) (ws : List Bytes) → (code ≡ code_of line)
+      × (list_any is_foreign (code_of line) ≡ false) → words_of code ≡ ws → next_line operations a r n line ≡ by_words r n ws
   clean_line r n line code ws clean words = ap (line_by operations a r n line) (place_by (code_of line) false clean.1) ∙ ap (by_words r n) (ap words_of (sym clean.0) ∙ words)

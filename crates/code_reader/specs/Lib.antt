@@ -1,4 +1,3 @@
-pub mod Placed
 pub mod Read
 pub mod Views
 pub mod Wide

@@ -7,7 +7,6 @@
 mod counts;
 mod lines;
 mod macros;
-mod places;
 mod reader;
 mod stage;
 mod whole;

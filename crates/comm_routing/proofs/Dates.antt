@@ -43,7 +43,11 @@ module _ (media : List Medium) (b : Board) (low : ℕ) (held : (c : Copy) → ti
       let d = below.date in
       let q = quick h.medium in
       let m = below.ends h.medium in
-      record { ends = set_below w.ends h.medium (max (slice_index_or w.ends h.medium 0) w.date + time_in media b h.medium x) (bound + 65000000) (λ k. let z = below.ends k in omega arith) (omega arith); date = omega arith }
+      record {
+        ends = set_below w.ends h.medium (max (slice_index_or w.ends h.medium 0) w.date + time_in media b h.medium x)
+            (bound + 65000000) (λ k. let z = below.ends k in omega arith) (omega arith);
+        date = omega arith;
+      }
   stepped x quick h w bound l below (Some d) e = let q = ap ticks_in e in let z = held (copy h.to x) in record { ends = λ m. (let y = below.ends m in omega arith); date = omega arith }
 
   -- a walk whose dates are at most this fits, and its dates rise by so much at most
@@ -51,7 +55,8 @@ module _ (media : List Medium) (b : Board) (low : ℕ) (held : (c : Copy) → ti
       → Fits media b x w hops × Below (bound + 65000000 * length hops) (steps (time_in media b) (held_in b) x w hops)
   fits_along x quick [] w bound l below room = (tt, record { ends = λ m. (let e = below.ends m in omega arith); date = (let e = below.date in omega arith) })
   fits_along x quick (h ∷ hops) w bound l below room =
-      let rest = fits_along x quick hops (step (time_in media b) (held_in b) x w h) (bound + 65000000) (omega arith) (stepped x quick h w bound l below (held_in b (copy h.to x)) refl) (omega arith) in (
+      let rest = fits_along x quick hops (step (time_in media b) (held_in b) x w h) (bound + 65000000) (omega arith)
+      (stepped x quick h w bound l below (held_in b (copy h.to x)) refl) (omega arith) in (
         ((let e = below.ends h.medium in let d = below.date in let q = quick h.medium in omega arith), rest.0),
         record { ends = λ m. (let e = rest.1.ends m in omega arith); date = (let e = rest.1.date in omega arith) },
       )
@@ -63,7 +68,8 @@ module _ (media : List Medium) (b : Board) (low : ℕ) (held : (c : Copy) → ti
       end_by_both (bound + 65000000 * length (h ∷ hops)) (unless (held_in b (copy h.to x)) (transfer_by (time_in media b) (held_in b) x from w h ∷ []))
       (listed (time_in media b) (held_in b) x h.to (step (time_in media b) (held_in b) x w h) hops)
       (first (held_in b (copy h.to x)))
-      (end_by_more (bound + 65000000 + 65000000 * length hops) (bound + 65000000 * length (h ∷ hops)) (omega arith) (listed (time_in media b) (held_in b) x h.to (step (time_in media b) (held_in b) x w h) hops)
+      (end_by_more (bound + 65000000 + 65000000 * length hops) (bound + 65000000 * length (h ∷ hops)) (omega arith)
+      (listed (time_in media b) (held_in b) x h.to (step (time_in media b) (held_in b) x w h) hops)
       (listed_low x quick h.to hops (step (time_in media b) (held_in b) x w h) (bound + 65000000) (omega arith) (stepped x quick h w bound l below (held_in b (copy h.to x)) refl)))
     where
       first : (o : Option ℕ) → EndBy (bound + 65000000 * length (h ∷ hops)) (unless o (transfer_by (time_in media b) (held_in b) x from w h ∷ []))
@@ -73,17 +79,26 @@ module _ (media : List Medium) (b : Board) (low : ℕ) (held : (c : Copy) → ti
   module _ (route : ℕ → ℕ → List Hop) (p : ℕ) (short : (from : ℕ) → length (route from p) ≤ 32) where
     -- a value that is brought
     fetched : (x : Source) (w : Walk) (bound : ℕ) → low ≤ bound → Below bound w → (o : Option ℕ) → held_in b (copy p x) ≡ o
-        → Below (bound + 65000000 * length (route (on_in b x.vertex) p)) (steps (time_in media b) (held_in b) x (walk w.ends (ticks_in (held_in b (copy (on_in b x.vertex) x)))) (route (on_in b x.vertex) p))
+        → Below (bound + 65000000 * length (route (on_in b x.vertex) p))
+        (steps (time_in media b) (held_in b) x (walk w.ends (ticks_in (held_in b (copy (on_in b x.vertex) x)))) (route (on_in b x.vertex) p))
         → Below (bound + 2080000000) (at_date w.ends o (steps (time_in media b) (held_in b) x (walk w.ends (ticks_in (held_in b (copy (on_in b x.vertex) x)))) (route (on_in b x.vertex) p)))
     fetched x w bound l below None e r = let s = short (on_in b x.vertex) in record { ends = λ m. (let y = r.ends m in omega arith); date = (let y = r.date in omega arith) }
     fetched x w bound l below (Some d) e r = let q = ap ticks_in e in let z = held (copy p x) in record { ends = λ m. (let y = below.ends m in omega arith); date = omega arith }
 
-    brought : (x : Source) (w : Walk) (bound : ℕ) → low ≤ bound → Below bound w → EndBy (bound + 65000000 * length (route (on_in b x.vertex) p)) (listed (time_in media b) (held_in b) x (on_in b x.vertex) (walk w.ends (ticks_in (held_in b (copy (on_in b x.vertex) x)))) (route (on_in b x.vertex) p))
+    brought : (x : Source) (w : Walk) (bound : ℕ) → low ≤ bound → Below bound w
+        → EndBy (bound + 65000000 * length (route (on_in b x.vertex) p))
+        (listed (time_in media b) (held_in b) x (on_in b x.vertex) (walk w.ends (ticks_in (held_in b (copy (on_in b x.vertex) x))))
+        (route (on_in b x.vertex) p))
         → EndBy (bound + 2080000000) (listed_to (time_in media b) (held_in b) (on_in b) route p x w.ends)
     brought x w bound l below all = by (held_in b (copy p x))
       where
-        by : (o : Option ℕ) → EndBy (bound + 2080000000) (unless o (listed (time_in media b) (held_in b) x (on_in b x.vertex) (walk w.ends (ticks_in (held_in b (copy (on_in b x.vertex) x)))) (route (on_in b x.vertex) p)))
-        by None = let s = short (on_in b x.vertex) in end_by_more (bound + 65000000 * length (route (on_in b x.vertex) p)) (bound + 2080000000) (omega arith) (listed (time_in media b) (held_in b) x (on_in b x.vertex) (walk w.ends (ticks_in (held_in b (copy (on_in b x.vertex) x)))) (route (on_in b x.vertex) p)) all
+        by : (o : Option ℕ) → EndBy (bound + 2080000000)
+            (unless o (listed (time_in media b) (held_in b) x (on_in b x.vertex)
+            (walk w.ends (ticks_in (held_in b (copy (on_in b x.vertex) x)))) (route (on_in b x.vertex) p)))
+        by None = let s = short (on_in b x.vertex) in
+            end_by_more (bound + 65000000 * length (route (on_in b x.vertex) p)) (bound + 2080000000) (omega arith)
+            (listed (time_in media b) (held_in b) x (on_in b x.vertex) (walk w.ends (ticks_in (held_in b (copy (on_in b x.vertex) x))))
+            (route (on_in b x.vertex) p)) all
         by (Some d) = tt
 
     -- all values, one after the other: they fit, their dates stay low, and so do the ends of their transfers
@@ -105,11 +120,16 @@ module _ (media : List Medium) (b : Board) (low : ℕ) (held : (c : Copy) → ti
         let first = fits_along x (quick 0 x refl) hops w' bound l below' (omega arith) in
         let f = fetched x w bound l below (held_in b (copy p x)) refl first.1 in
         let g = fetch (time_in media b) (held_in b) (on_in b) route p x w.ends in
-        let rest = stays_low xs (λ i y e. quick (suc i) y e) (walk g.ends (max w.date g.date)) (bound + 2080000000) (omega arith) (record { ends = f.ends; date = (let d = below.date in let e = f.date in omega arith) }) (omega arith) in
+        let rest = stays_low xs (λ i y e. quick (suc i) y e) (walk g.ends (max w.date g.date)) (bound + 2080000000) (omega arith)
+        (record { ends = f.ends; date = (let d = below.date in let e = f.date in omega arith) }) (omega arith) in
         record {
           fits = (first.0, rest.fits);
           below = record { ends = λ m. (let e = rest.below.ends m in omega arith); date = (let e = rest.below.date in omega arith) };
-          ends = end_by_both (bound + 2080000000 * length (x ∷ xs)) (listed_to (time_in media b) (held_in b) (on_in b) route p x w.ends) (listed_all (time_in media b) (held_in b) (on_in b) route p xs g.ends)
-              (end_by_more (bound + 2080000000) (bound + 2080000000 * length (x ∷ xs)) (omega arith) (listed_to (time_in media b) (held_in b) (on_in b) route p x w.ends) (brought x w bound l below (listed_low x (quick 0 x refl) from hops w' bound l below')))
-              (end_by_more (bound + 2080000000 + 2080000000 * length xs) (bound + 2080000000 * length (x ∷ xs)) (omega arith) (listed_all (time_in media b) (held_in b) (on_in b) route p xs g.ends) rest.ends);
+          ends = end_by_both (bound + 2080000000 * length (x ∷ xs)) (listed_to (time_in media b) (held_in b) (on_in b) route p x w.ends)
+              (listed_all (time_in media b) (held_in b) (on_in b) route p xs g.ends)
+              (end_by_more (bound + 2080000000) (bound + 2080000000 * length (x ∷ xs)) (omega arith)
+              (listed_to (time_in media b) (held_in b) (on_in b) route p x w.ends)
+              (brought x w bound l below (listed_low x (quick 0 x refl) from hops w' bound l below')))
+              (end_by_more (bound + 2080000000 + 2080000000 * length xs) (bound + 2080000000 * length (x ∷ xs)) (omega arith)
+              (listed_all (time_in media b) (held_in b) (on_in b) route p xs g.ends) rest.ends);
         }

@@ -84,7 +84,8 @@ dependents_below u xs k d l = at (dependents_from u 0 xs) k l (from_below u 0 (l
     at (y ∷ ys) (suc k) l h = at ys k (omega arith) (and_parts (nat_lt y (length xs)) (list_all (λ x. nat_lt x (length xs)) ys) h).1
 
 pub noted_by_parts : (s u : ℕ) (x : Vertex) (old one two new : List ℕ) (gs : List Guard) (rs : List Source) → gs ≡ x.guards → rs ≡ x.ins
-    → one ≡ old ++ repeated s u (map (λ g. g.source.vertex) gs) → two ≡ one ++ repeated s u (map (λ r. r.vertex) rs) → new ≡ two ++ repeated s u (get_half x.kind x.twin) → new ≡ old ++ repeated s u (depends_on x)
+    → one ≡ old ++ repeated s u (map (λ g. g.source.vertex) gs) → two ≡ one ++ repeated s u (map (λ r. r.vertex) rs) → new ≡ two
+    ++ repeated s u (get_half x.kind x.twin) → new ≡ old ++ repeated s u (depends_on x)
 noted_by_parts s u x old one two new gs rs eg er a b c =
     let guarded = repeated s u (map (λ (g : Guard). g.source.vertex) x.guards) in
     let read = repeated s u (map (λ (r : Source). r.vertex) x.ins) in

@@ -78,7 +78,8 @@ module _ (d : Drafted) (b : Board) (reads : List (List Source)) (c : Candidates)
       let half = ended_in (halves (task_of d) v) g.half in
       omega arith
     where
-      ended_in : (us : List ℕ) → list_all (is_placed (acts_of d.decisions)) us ≡ true → greatest (map (λ u. last_end (runs u) (acts_of d.decisions)) us) ≡ greatest (map (λ u. slice_index_or b.ended u 0) us)
+      ended_in : (us : List ℕ) → list_all (is_placed (acts_of d.decisions)) us ≡ true
+          → greatest (map (λ u. last_end (runs u) (acts_of d.decisions)) us) ≡ greatest (map (λ u. slice_index_or b.ended u 0) us)
       ended_in [] h = refl
       ended_in (u ∷ us) h =
           let both = and_parts (is_placed (acts_of d.decisions) u) (list_all (is_placed (acts_of d.decisions)) us) h in
@@ -88,7 +89,8 @@ module _ (d : Drafted) (b : Board) (reads : List (List Source)) (c : Candidates)
 
   -- those that are ready are the candidates
   pub ready_are : ready_in c ≡ filter (is_candidate (task_of d) (acts_of d.decisions)) (range_with_len 0 (length d.graph.vertices))
-  ready_are = k.ready ∙ from 0 c.ready.flags.items (λ i l. (let s = k.size.flags in flags_at i (omega arith))) ∙ ap (λ (n : ℕ). filter (is_candidate (task_of d) (acts_of d.decisions)) (range_with_len 0 n)) k.size.flags
+  ready_are = k.ready ∙ from 0 c.ready.flags.items (λ i l. (let s = k.size.flags in flags_at i (omega arith)))
+      ∙ ap (λ (n : ℕ). filter (is_candidate (task_of d) (acts_of d.decisions)) (range_with_len 0 n)) k.size.flags
     where
       flags_at : (i : ℕ) → i < length d.graph.vertices → slice_index_or c.ready.flags.items i false ≡ is_candidate (task_of d) (acts_of d.decisions) (0 + i)
       flags_at i l = k.flags i l ∙ (let e : i ≡ 0 + i = omega arith in ap (is_candidate (task_of d) (acts_of d.decisions)) e)

@@ -49,9 +49,11 @@ module _ (media : List Medium) (b : Board) where
     pub source_more : (ends new : List ℕ) (date latest later : ℕ) (whole : Walk) (old out all : List Transfer) → k < length xs
         → walk new date ≡ fetch (time_in media b) (held_in b) (on_in b) route p (get_or xs k d) ends → later ≡ max date latest
         → out ≡ old ++ listed_to (time_in media b) (held_in b) (on_in b) route p (get_or xs k d) ends
-        → (fetch_all (time_in media b) (held_in b) (on_in b) route p (drop k xs) (walk ends latest) ≡ whole) × (old ++ listed_all (time_in media b) (held_in b) (on_in b) route p (drop k xs) ends ≡ all)
+        → (fetch_all (time_in media b) (held_in b) (on_in b) route p (drop k xs) (walk ends latest) ≡ whole)
+        × (old ++ listed_all (time_in media b) (held_in b) (on_in b) route p (drop k xs) ends ≡ all)
         × FitsAll media b route p (drop k xs) (walk ends latest)
-        → (fetch_all (time_in media b) (held_in b) (on_in b) route p (drop (k + 1) xs) (walk new later) ≡ whole) × (out ++ listed_all (time_in media b) (held_in b) (on_in b) route p (drop (k + 1) xs) new ≡ all)
+        → (fetch_all (time_in media b) (held_in b) (on_in b) route p (drop (k + 1) xs) (walk new later) ≡ whole)
+        × (out ++ listed_all (time_in media b) (held_in b) (on_in b) route p (drop (k + 1) xs) new ≡ all)
         × FitsAll media b route p (drop (k + 1) xs) (walk new later)
     source_more ends new date latest later whole old out all l f m t h = (walked, carried, subst (λ (v : Walk). FitsAll media b route p rest v) (sym after) (source_fits (walk ends latest) l h.2).1)
       where

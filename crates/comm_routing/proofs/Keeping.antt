@@ -68,7 +68,8 @@ kept_more d b reads c after v p date k ready depend size more same = record {
   arrivals = λ w q n l f on e. by w q n l (ap (λ (r : Ready). slice_index_or r.flags.items w false) (sym ready) ∙ f) on (more w q n e);
 }
   where
-    by : (w q n : ℕ) → w < length d.graph.vertices → flag_at c w ≡ true → q < length d.archi.operators → (kept_at c w q ≡ Some n) ⊎ ((w ≡ v) × (q ≡ p) × (n ≡ date)) → n ≡ arrival (task_of d) (acts_of d.decisions) w q
+    by : (w q n : ℕ) → w < length d.graph.vertices → flag_at c w ≡ true → q < length d.archi.operators → (kept_at c w q ≡ Some n)
+        ⊎ ((w ≡ v) × (q ≡ p) × (n ≡ date)) → n ≡ arrival (task_of d) (acts_of d.decisions) w q
     by w q n l f on (inl was) = k.arrivals w q n l f on was
     by w q n l f on (inr now) = now.2 ∙ same ∙ (λ i. arrival (task_of d) (acts_of d.decisions) (sym now.0 i) (sym now.1 i))
 
@@ -117,18 +118,21 @@ module _ (d : Drafted) (u o : ℕ) where
       λ i. still_placed v apart i && all_still vs parts.1 i
 
   -- no other operation becomes a candidate, or stops to be one, if it does not depend on it
-  still_candidate : (v : ℕ) → v ≢ u → list_any (nat_eq u) (needs (task_of d) v) ≡ false → is_candidate (task_of d) (acts_of d.decisions) v ≡ is_candidate (task_of d) (acts_of (after_placing d u o).decisions) v
+  still_candidate : (v : ℕ) → v ≢ u → list_any (nat_eq u) (needs (task_of d) v) ≡ false → is_candidate (task_of d) (acts_of d.decisions) v
+      ≡ is_candidate (task_of d) (acts_of (after_placing d u o).decisions) v
   still_candidate v n h = λ i. (nat_lt v (length d.graph.vertices) && not (still_placed v n i)) && all_still (needs (task_of d) v) h i
 
   no_candidate : is_candidate (task_of d) (acts_of (after_placing d u o).decisions) u ≡ false
-  no_candidate = ap (λ (b : Bool). (nat_lt u (length d.graph.vertices) && not b) && list_all (is_placed (acts_of (after_placing d u o).decisions)) (needs (task_of d) u)) now_placed ∙ by (nat_lt u (length d.graph.vertices))
+  no_candidate = ap (λ (b : Bool). (nat_lt u (length d.graph.vertices) && not b)
+      && list_all (is_placed (acts_of (after_placing d u o).decisions)) (needs (task_of d) u)) now_placed ∙ by (nat_lt u (length d.graph.vertices))
     where
       by : (b : Bool) → ((b && false) && list_all (is_placed (acts_of (after_placing d u o).decisions)) (needs (task_of d) u)) ≡ false
       by true = refl
       by false = refl
 
 -- the flags were right before the decision
-pub behind : (d : Drafted) (b new : Board) (reads : List (List Source)) (c : Candidates) (u o : ℕ) → Keeps d b reads c → may_place (task_of d) (acts_of d.decisions) u o ≡ true → IsTold (after_placing d u o) new reads
+pub behind : (d : Drafted) (b new : Board) (reads : List (List Source)) (c : Candidates) (u o : ℕ) → Keeps d b reads c
+    → may_place (task_of d) (acts_of d.decisions) u o ≡ true → IsTold (after_placing d u o) new reads
     → (vs : List Vertex) → vs ≡ d.graph.vertices → IsBehind vs new u c
 behind d b new reads c u o k may told vs same =
     let there = (chosen d b reads c k u o may).there in
@@ -151,6 +155,8 @@ stay_after d b reads c u o k may none v p n l can was on e =
   where
     other : v ≢ u
     other e =
-        let parts = and_parts (nat_lt v (length d.graph.vertices) && not (is_placed (acts_of (after_placing d u o).decisions) v)) (list_all (is_placed (acts_of (after_placing d u o).decisions)) (needs (task_of d) v)) can in
-        let fresh = not-true (is_placed (acts_of (after_placing d u o).decisions) v) (and_parts (nat_lt v (length d.graph.vertices)) (not (is_placed (acts_of (after_placing d u o).decisions) v)) parts.0).1 in
+        let parts = and_parts (nat_lt v (length d.graph.vertices) && not (is_placed (acts_of (after_placing d u o).decisions) v))
+        (list_all (is_placed (acts_of (after_placing d u o).decisions)) (needs (task_of d) v)) can in
+        let fresh = not-true (is_placed (acts_of (after_placing d u o).decisions) v)
+        (and_parts (nat_lt v (length d.graph.vertices)) (not (is_placed (acts_of (after_placing d u o).decisions) v)) parts.0).1 in
         true≢false (sym (now_placed d u o) ∙ ap (is_placed (acts_of (after_placing d u o).decisions)) (sym e) ∙ fresh)

@@ -40,7 +40,8 @@ all_lead t given acts [] g = All-nil (Leads t)
 all_lead t given acts (c ∷ cs) g =
     let joined = append_assoc acts (carry c ∷ []) (map carry cs) in
     let all : good t ((acts ++ carry c ∷ []) ++ map carry cs) ≡ true = ap (λ (l : List Act). good t l) joined ∙ g in
-    let parts = and_parts (good t (acts ++ carry c ∷ [])) (are_right t.graph t.archi t.ticks (acts ++ carry c ∷ []) (map carry cs)) (sym (right-append t.graph t.archi t.ticks [] (acts ++ carry c ∷ []) (map carry cs)) ∙ all) in
+    let parts = and_parts (good t (acts ++ carry c ∷ [])) (are_right t.graph t.archi t.ticks (acts ++ carry c ∷ []) (map carry cs))
+    (sym (right-append t.graph t.archi t.ticks [] (acts ++ carry c ∷ []) (map carry cs)) ∙ all) in
     let first = and_parts (good t acts) (right t acts (carry c) && true) (sym (right-append t.graph t.archi t.ticks [] acts (carry c ∷ [])) ∙ parts.0) in
     let s = sound t given acts c first.0 (and_parts (right t acts (carry c)) true first.1).0 in
     All-cons (Leads t) c cs (record { medium = s.medium; to = s.to; source = s.source }) (all_lead t given (acts ++ carry c ∷ []) cs all)
@@ -88,7 +89,7 @@ time_low t given m n l = by t.archi.media m valid
     by [] m h = omega arith
     by (x ∷ ms) zero h =
         let own = (and_parts (is_medium (length t.archi.operators) x) (list_all (is_medium (length t.archi.operators)) ms) h).0 in
-        let stand = may_stand_there x.multi (length x.stands) && ascends_from 0 x.stands && list_all (λ o. nat_lt o (length t.archi.operators)) x.stands in
+        let stand = may_stand_there x.kind (length x.stands) && ascends_from 0 x.stands && list_all (λ o. nat_lt o (length t.archi.operators)) x.stands in
         let a = and_parts (stand && nat_le x.fixed 1000000) (nat_le x.per 1000000) own in
         let b = and_parts stand (nat_le x.fixed 1000000) a.0 in
         let per = leb-true x.per 1000000 a.1 in
@@ -104,10 +105,14 @@ placements_land t given ds b v p g tells may =
     let c = candidate_given t given.flat acts v both.0 in
     let cs = transfers t acts v p in
     let after = placed_rightly t given.flat (λ from to f o. (given.routes from to f o).route) acts v p g both.0 both.1 in
-    let mid = (and_parts (good t (acts ++ map carry cs)) (right t (acts ++ map carry cs) (run (decision t acts v p)) && true) (sym (right-append t.graph t.archi t.ticks [] (acts ++ map carry cs) (run (decision t acts v p) ∷ [])) ∙ after)).0 in
+    let mid = (and_parts (good t (acts ++ map carry cs)) (right t (acts ++ map carry cs) (run (decision t acts v p)) && true)
+    (sym (right-append t.graph t.archi t.ticks [] (acts ++ map carry cs) (run (decision t acts v p) ∷ [])) ∙ after)).0 in
     let few = (facts t.archi given.archi).few_media in
     let lead = all_map (Leads t) (λ c. HasPlace b (copy c.to c.source) × (c.medium < 16))
-    (λ c l. (record { source = (tells.outputs c.source l.source).output; place = (tells.outputs c.source l.source).place c.to l.to }, (let k = l.medium in omega arith))) cs (all_lead t given acts cs mid) in (
+    (λ c l. (
+      record { source = (tells.outputs c.source l.source).output; place = (tells.outputs c.source l.source).place c.to l.to },
+      (let k = l.medium in omega arith),
+    )) cs (all_lead t given acts cs mid) in (
       subst (λ (xs : List Transfer). All (λ c. HasPlace b (copy c.to c.source) × (c.medium < 16)) xs) (placements_are_in_tables t given ds b v p g tells may).0 lead,
       all_from (λ x. (m : ℕ) → time_in t.archi.media b m x ≤ 65000000) (distinct (sources t v))
           (λ i x e m.

@@ -10,7 +10,8 @@ use Rattle.comm_routing.specs.Tables.{after_transfer, after_transfers, after_ope
 use Rattle.comm_routing.specs.Draft.{IsLow, nones}
 use Rattle.comm_routing.proofs.Dates.{EndBy, set_below}
 
-set_held : (held : List (Option ℕ)) (k e bound : ℕ) → ((i : ℕ) → ticks_in (slice_index_or held i None) ≤ bound) → e ≤ bound → (i : ℕ) → ticks_in (slice_index_or (slice_set held k (Some e)) i None) ≤ bound
+set_held : (held : List (Option ℕ)) (k e bound : ℕ) → ((i : ℕ) → ticks_in (slice_index_or held i None) ≤ bound) → e ≤ bound → (i : ℕ)
+    → ticks_in (slice_index_or (slice_set held k (Some e)) i None) ≤ bound
 set_held [] k e bound h l i = h i
 set_held (x ∷ held) zero e bound h l zero = l
 set_held (x ∷ held) zero e bound h l (suc i) = h (suc i)

@@ -107,7 +107,8 @@ module _ (operations mark : ℕ) where
       last : (y : Source) → list_any (same_source y) (out ++ x ∷ []) ≡ (list_any (same_source y) out || same_source y x)
       last y = list_any-append (same_source y) out (x ∷ []) ∙ ap (λ (b : Bool). list_any (same_source y) out || b) (or_false (same_source y x))
 
-      by : (y : Source) → IsThere operations y → (b : Bool) → same_source y x ≡ b → place_of x < length marks → (slice_index_or (slice_set marks (place_of x) mark) (place_of y) 0 == mark) ≡ list_any (same_source y) (out ++ x ∷ [])
+      by : (y : Source) → IsThere operations y → (b : Bool) → same_source y x ≡ b → place_of x < length marks
+          → (slice_index_or (slice_set marks (place_of x) mark) (place_of y) 0 == mark) ≡ list_any (same_source y) (out ++ x ∷ [])
       by y t true e l =
           let same = source_is y x e in
           ap (λ (z : Source). slice_index_or (slice_set marks (place_of x) mark) (place_of z) 0 == mark) same

@@ -158,7 +158,8 @@ from_there a zero (true ∷ flags) h = or_left (nat_eq (a + 0) a) (list_any (nat
 from_there a zero (false ∷ flags) h = absurd (false≢true h)
 from_there a (suc i) (true ∷ flags) h =
     let e : a + 1 + i ≡ a + suc i = omega arith in
-    or_right (nat_eq (a + suc i) a) (list_any (nat_eq (a + suc i)) (places_from (a + 1) flags)) (subst (λ (v : ℕ). list_any (nat_eq v) (places_from (a + 1) flags) ≡ true) e (from_there (a + 1) i flags h))
+    or_right (nat_eq (a + suc i) a) (list_any (nat_eq (a + suc i)) (places_from (a + 1) flags))
+    (subst (λ (v : ℕ). list_any (nat_eq v) (places_from (a + 1) flags) ≡ true) e (from_there (a + 1) i flags h))
 from_there a (suc i) (false ∷ flags) h =
     let e : a + 1 + i ≡ a + suc i = omega arith in
     subst (λ (v : ℕ). list_any (nat_eq v) (places_from (a + 1) flags) ≡ true) e (from_there (a + 1) i flags h)
@@ -181,7 +182,8 @@ length-first [] (suc n) l = absurd (omega arith)
 length-first (x ∷ xs) (suc n) l = ap suc (length-first xs n (omega arith))
 
 -- where one is not set, there is room for one more
-pub room : (flags : List Bool) (list : List ℕ) (count i : ℕ) → take count list ≡ places_from 0 flags → count ≤ length list → length flags ≡ length list → i < length flags → slice_index_or flags i false ≡ false → count < length list
+pub room : (flags : List Bool) (list : List ℕ) (count i : ℕ) → take count list ≡ places_from 0 flags → count ≤ length list → length flags
+    ≡ length list → i < length flags → slice_index_or flags i false ≡ false → count < length list
 room flags list count i same within size l h =
     let e = ap length same in
     let f = length-first list count within in

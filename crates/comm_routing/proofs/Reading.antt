@@ -94,7 +94,8 @@ reads_more xs k x r old new whole l e is n w =
     (ap (map reads_of) (drop_more xs k x l) ∙ (λ i. (ap reads_of (sym e) ∙ sym is) i ∷ map reads_of (drop (k + 1) xs))) n w
 
 -- one more list that is no longer than the others
-pub short_more : (most : ℕ) (r : List Source) (old new : List (List Source)) → new ≡ old ++ r ∷ [] → length r ≤ most → All (λ (s : List Source). length s ≤ most) old → All (λ (s : List Source). length s ≤ most) new
+pub short_more : (most : ℕ) (r : List Source) (old new : List (List Source)) → new ≡ old ++ r ∷ [] → length r ≤ most
+    → All (λ (s : List Source). length s ≤ most) old → All (λ (s : List Source). length s ≤ most) new
 short_more most r old new n short so_far = subst (All (λ (s : List Source). length s ≤ most)) (sym n) (All-append (λ (s : List Source). length s ≤ most) old (r ∷ []) so_far one)
   where
     one : All (λ (s : List Source). length s ≤ most) (r ∷ [])

@@ -24,7 +24,8 @@ pub record AreMarked (vertices : List Vertex) (b : Board) (placed : ℕ) (c : Ca
   pub others : (v : ℕ) → list_any (nat_eq v) dependents ≡ false → slice_index_or two v false ≡ slice_index_or one v false
 
 -- the dependents are operations
-pub dependents_low : (vertices : List Vertex) (b : Board) (placed : ℕ) (c : Candidates) → IsBehind vertices b placed c → (dependents : List ℕ) → dependents ≡ list_at c.dependents.items placed → All (λ v. v < length vertices) dependents
+pub dependents_low : (vertices : List Vertex) (b : Board) (placed : ℕ) (c : Candidates) → IsBehind vertices b placed c
+    → (dependents : List ℕ) → dependents ≡ list_at c.dependents.items placed → All (λ v. v < length vertices) dependents
 dependents_low vertices b placed c behind dependents are =
     subst (λ (xs : List ℕ). All (λ v. v < length vertices) xs) (sym (are ∙ behind.dependents placed behind.operation)) (dependents_below placed vertices)
 
@@ -61,7 +62,8 @@ module _ (vertices : List Vertex) (b : Board) (placed : ℕ) (c : Candidates) (d
   ]
 
   -- the arrivals of each candidate are forgotten, or stay
-  pub arrivals_right : (keeps : Bool) (r : Ready) (before rows after : List (List (Option ℕ))) {lent : List (List (Option ℕ))} → r.flags.items ≡ two → take r.count r.list.items ≡ places_from 0 r.flags.items → lent ≡ before → after ≡ rows
+  pub arrivals_right : (keeps : Bool) (r : Ready) (before rows after : List (List (Option ℕ))) {lent : List (List (Option ℕ))}
+      → r.flags.items ≡ two → take r.count r.list.items ≡ places_from 0 r.flags.items → lent ≡ before → after ≡ rows
       → ((v : ℕ) → list_any (nat_eq v) (sought_in keeps dependents r) ≡ true → AreUnknown (row_at rows v))
       → ((v : ℕ) → list_any (nat_eq v) (sought_in keeps dependents r) ≡ false → row_at rows v ≡ row_at lent v)
       → (v : ℕ) → v < length vertices → flag_in r v ≡ true

@@ -76,7 +76,8 @@ row_some (x ∷ os) h = elim (or_cases (is_some x) (list_any is_some os) h) [
 ]
 
 -- the parts make a site
-pub site_of : (g : Graph) (a : Architecture) (r : RouteTable) (table : Table) → is_flat g ≡ true → is_archi a.operators a.media ≡ true → IsTableOf a r → IsOf g a table → All (IsRow table.operators) table.rows
+pub site_of : (g : Graph) (a : Architecture) (r : RouteTable) (table : Table) → is_flat g ≡ true → is_archi a.operators a.media ≡ true
+    → IsTableOf a r → IsOf g a table → All (IsRow table.operators) table.rows
     → StandBeside table → IsSite (record { graph = g; archi = a; routes = r; durations = table; decisions = [] })
 site_of g a r table flat archi routes fits rows beside = record {
   given = record {
@@ -120,7 +121,8 @@ site_of g a r table flat archi routes fits rows beside = record {
     bound v o = bound_rows table.rows rows v o
 
 -- before the first decision
-pub told_begin : (g : Graph) (a : Architecture) (r : RouteTable) (table : Table) → IsSite (record { graph = g; archi = a; routes = r; durations = table; decisions = [] }) → (b : Board) (reads : List (List Source)) (ops : ℕ)
+pub told_begin : (g : Graph) (a : Architecture) (r : RouteTable) (table : Table)
+    → IsSite (record { graph = g; archi = a; routes = r; durations = table; decisions = [] }) → (b : Board) (reads : List (List Source)) (ops : ℕ)
     → (vs : List Vertex) → vs ≡ g.vertices → IsStart vs ops b → ops ≡ length a.operators → reads ≡ map reads_of g.vertices → All (λ x. length x ≤ 131072) reads
     → IsTold (record { graph = g; archi = a; routes = r; durations = table; decisions = [] }) b reads
 told_begin g a r table site b reads ops vs vs_are start_vs same are short =
@@ -141,7 +143,8 @@ told_begin g a r table site b reads ops vs vs_are start_vs same are short =
       counted = (let n = all_none b.places start.none_placed in let p = start.places in omega arith);
     }
 
-pub stands_in : (d : Drafted) (b : Board) (c : Candidates) (v p : ℕ) (x : Vertex) (r : Bool) → p < length d.archi.operators → is_some (entry_in d.durations v p) ≡ true → slice_get d.graph.vertices v ≡ Some x
+pub stands_in : (d : Drafted) (b : Board) (c : Candidates) (v p : ℕ) (x : Vertex) (r : Bool) → p < length d.archi.operators
+    → is_some (entry_in d.durations v p) ≡ true → slice_get d.graph.vertices v ≡ Some x
     → r ≡ list_all (λ u. nat_eq (on_in b u) p) (get_half x.kind x.twin) → r ≡ may_stand_in d b c v p
 stands_in d b c v p x r on has is e =
     e ∙ (λ i. (sym (lt-ltb p (length d.archi.operators) on) i && sym has i) && list_all (λ u. nat_eq (on_in b u) p) (with_vertex (sym is i) [] (λ y. get_half y.kind y.twin)))

@@ -92,7 +92,8 @@ rises (x ∷ xs) a (suc v) (suc w) port less l h = rises xs (a + length x.outs) 
 one_row : (a n : ℕ) → (a + 1) * n ≡ a * n + n
 one_row a n = grind arith
 
-module _ (t : Task) (b : Board) (ops : ℕ) (start : IsStart t.graph.vertices ops b) (same : ops ≡ length t.archi.operators) (few : length t.archi.operators ≤ 16) (few_media : length t.archi.media ≤ 16) where
+module _ (t : Task) (b : Board) (ops : ℕ) (start : IsStart t.graph.vertices ops b) (same : ops ≡ length t.archi.operators)
+    (few : length t.archi.operators ≤ 16) (few_media : length t.archi.media ≤ 16) where
   here : (x : Source) → 1 ≤ len_of t.graph.vertices x → At t.graph.vertices 0 x.vertex x.port
   here x l = at t.graph.vertices 0 x.vertex x.port l
 

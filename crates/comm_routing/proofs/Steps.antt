@@ -1,5 +1,40 @@
 -- One placement in a draft: what it asks for, and what is kept after it.
-use Rattle.std.proofs.Common.{◌≡◌, ℕ, zero, suc, ◌+◌, ◌*◌, ◌<◌, ◌≤◌, ◌^◌, Bool, true, false, cond, ◌&&◌, not, List, [], ◌∷◌, ◌++◌, map, length, Option, Some, None, refl, sym, ap, subst, arith, ◌∙◌, inl, inr, length-append, mul-le-mul_right}
+use Rattle.std.proofs.Common.{
+  ◌≡◌,
+  ℕ,
+  zero,
+  suc,
+  ◌+◌,
+  ◌*◌,
+  ◌<◌,
+  ◌≤◌,
+  ◌^◌,
+  Bool,
+  true,
+  false,
+  cond,
+  ◌&&◌,
+  not,
+  List,
+  [],
+  ◌∷◌,
+  ◌++◌,
+  map,
+  length,
+  Option,
+  Some,
+  None,
+  refl,
+  sym,
+  ap,
+  subst,
+  arith,
+  ◌∙◌,
+  inl,
+  inr,
+  length-append,
+  mul-le-mul_right,
+}
 use Rattle.std.specs.Prelude.{All, is_some, nat_eq, nat_lt, nat_le, slice_get, slice_index_or, slice_set}
 use Rattle.std.specs.List.{list_all}
 use Rattle.std.proofs.lemmas.Bool.{and_parts, cases_lt, lt-ltb, ltb-true, leb-true}
@@ -128,7 +163,8 @@ module _ (d : Drafted) (b : Board) (reads : List (List Source)) (told : IsTold d
     quick i x e m =
         let c = candidate_given (task_of d) told.site.given.flat (acts_of d.decisions) v can in
         let at = from_distinct [] (sources (task_of d) v) i x e in
-        let parts = and_parts (is_placed (acts_of d.decisions) x.vertex) (nat_le 1 (len_of d.graph.vertices x)) (all_there (is_given (task_of d) (acts_of d.decisions)) (sources (task_of d) v) c.given at.0 x at.1) in
+        let parts = and_parts (is_placed (acts_of d.decisions) x.vertex) (nat_le 1 (len_of d.graph.vertices x))
+        (all_there (is_given (task_of d) (acts_of d.decisions)) (sources (task_of d) v) c.given at.0 x at.1) in
         let same = (told.tells.outputs x (leb-true 1 (len_of d.graph.vertices x) parts.1)).len in
         let l = len_low (task_of d) told.site.given x in
         time_low (task_of d) told.site.given m (len_in b x) (omega arith)
@@ -137,11 +173,13 @@ module _ (d : Drafted) (b : Board) (reads : List (List Source)) (told : IsTold d
     count = let s = short_at reads v 131072 told.few_reads in let e = ap length (read_sources v there) in omega arith
 
     module _ (p : ℕ) (on : p < length d.archi.operators) where
-      stays : Stays d.archi.media b (rise * length d.decisions) (λ c. told.low.held (place_in b c)) (route_in d.routes) p (short d told.site p on) (distinct (sources (task_of d) v)) (walk b.ends 0) (rise * length d.decisions)
+      stays : Stays d.archi.media b (rise * length d.decisions) (λ c. told.low.held (place_in b c)) (route_in d.routes) p
+          (short d told.site p on) (distinct (sources (task_of d) v)) (walk b.ends 0) (rise * length d.decisions)
       stays =
           let l = few in
           let n = count in
-          stays_low d.archi.media b (rise * length d.decisions) (λ c. told.low.held (place_in b c)) (route_in d.routes) p (short d told.site p on) (distinct (sources (task_of d) v)) quick (walk b.ends 0) (rise * length d.decisions)
+          stays_low d.archi.media b (rise * length d.decisions) (λ c. told.low.held (place_in b c)) (route_in d.routes) p
+          (short d told.site p on) (distinct (sources (task_of d) v)) quick (walk b.ends 0) (rise * length d.decisions)
           (omega arith) (record { ends = told.low.ends; date = omega arith }) (omega arith)
 
       ways : All (HasWay d.archi.media b (route_in d.routes) d.routes.operators p) (distinct (sources (task_of d) v))
@@ -185,7 +223,9 @@ module _ (d : Drafted) (b : Board) (reads : List (List Source)) (told : IsTold d
       low_enough = let l = few in omega arith
 
       transfers_low : EndBy (rise * length d.decisions + rise) (transfers_in (task_of d) b v p)
-      transfers_low = let n = count in end_by_more (rise * length d.decisions + 2080000000 * length (distinct (sources (task_of d) v))) (rise * length d.decisions + rise) (omega arith) (transfers_in (task_of d) b v p) stays.ends
+      transfers_low = let n = count in
+          end_by_more (rise * length d.decisions + 2080000000 * length (distinct (sources (task_of d) v)))
+          (rise * length d.decisions + rise) (omega arith) (transfers_in (task_of d) b v p) stays.ends
 
 -- What a placement asks for.
 module _ (d : Drafted) (b : Board) (reads : List (List Source)) (told : IsTold d b reads) (v p : ℕ) (may : may_place (task_of d) (acts_of d.decisions) v p ≡ true) where
@@ -251,7 +291,8 @@ module _ (d : Drafted) (b : Board) (reads : List (List Source)) (told : IsTold d
         outputs = λ j k. places j k (vertex_of d.graph.vertices v l);
       }
     where
-      places : (j : ℕ) → j < length (outs_of (routing d.graph d.archi d.routes) v) → (x : Vertex) × (slice_get d.graph.vertices v ≡ Some x) → (slice_index_or b.first v 0 + j) * b.operators + p < length b.held
+      places : (j : ℕ) → j < length (outs_of (routing d.graph d.archi d.routes) v) → (x : Vertex) × (slice_get d.graph.vertices v ≡ Some x)
+          → (slice_index_or b.first v 0 + j) * b.operators + p < length b.held
       places j k x =
           let outs : outs_of (routing d.graph d.archi d.routes) v ≡ x.0.outs = ap (λ (o : Option Vertex). with_vertex o [] (λ y. y.outs)) x.1 in
           let e = ap length outs in
@@ -266,17 +307,24 @@ module _ (d : Drafted) (b : Board) (reads : List (List Source)) (told : IsTold d
       λ i. record { op = v; operator = p; start = r.1 i; end = r.1 i + ticks_in (entry_in d.durations v p); transfers = r.0 i }
 
   -- after it the tables tell of the decisions with it
-  pub told_after : (nb : Board) → nb ≡ after_operation (after_transfers b (transfers_in (routing d.graph d.archi d.routes) b v p)) (outs_of (routing d.graph d.archi d.routes) v) (decision_in (routing d.graph d.archi d.routes) b v p (ticks_in (entry_in d.durations v p)))
+  pub told_after : (nb : Board) → nb
+      ≡ after_operation (after_transfers b (transfers_in (routing d.graph d.archi d.routes) b v p))
+      (outs_of (routing d.graph d.archi d.routes) v) (decision_in (routing d.graph d.archi d.routes) b v p (ticks_in (entry_in d.durations v p)))
       → IsTold (after_placing d v p) nb reads
   told_after nb is =
       let r = placements_are_in_tables (task_of d) told.site.given d.decisions b v p told.right told.tells may in
-      let nb' = after_operation (after_transfers b (transfers_in (task_of d) b v p)) (outs_of (task_of d) v) (decision_in (routing d.graph d.archi d.routes) b v p (ticks_in (entry_in d.durations v p))) in
-      let size : length (d.decisions ++ decision (task_of d) (acts_of d.decisions) v p ∷ []) ≡ length d.decisions + 1 = length-append d.decisions (decision (task_of d) (acts_of d.decisions) v p ∷ []) in
+      let nb' = after_operation (after_transfers b (transfers_in (task_of d) b v p)) (outs_of (task_of d) v)
+      (decision_in (routing d.graph d.archi d.routes) b v p (ticks_in (entry_in d.durations v p))) in
+      let size : length (d.decisions ++ decision (task_of d) (acts_of d.decisions) v p ∷ [])
+      ≡ length d.decisions + 1 = length-append d.decisions (decision (task_of d) (acts_of d.decisions) v p ∷ []) in
       let sizes = same_sizes b (transfers_in (task_of d) b v p) in
       let end = end_low d b reads told v can p on in
       let long = told.site.bounded v p in
-      let low = low_operation (rise * length d.decisions + rise) (after_transfers b (transfers_in (task_of d) b v p)) (outs_of (task_of d) v) (decision_in (routing d.graph d.archi d.routes) b v p (ticks_in (entry_in d.durations v p)))
-      (low_transfers (rise * length d.decisions + rise) b (transfers_in (task_of d) b v p) (low_more (rise * length d.decisions) (rise * length d.decisions + rise) b (omega arith) told.low) (transfers_low d b reads told v can p on)) (omega arith) in
+      let low = low_operation (rise * length d.decisions + rise) (after_transfers b (transfers_in (task_of d) b v p))
+      (outs_of (task_of d) v) (decision_in (routing d.graph d.archi d.routes) b v p (ticks_in (entry_in d.durations v p)))
+      (low_transfers (rise * length d.decisions + rise) b (transfers_in (task_of d) b v p)
+      (low_more (rise * length d.decisions) (rise * length d.decisions + rise) b (omega arith) told.low)
+      (transfers_low d b reads told v can p on)) (omega arith) in
       let c = candidate_given (task_of d) told.site.given.flat (acts_of d.decisions) v can in
       let l = there d b reads told v can in
       let free : slice_index_or b.places v None ≡ None = told.tells.places v l ∙ ap (λ (x : Bool). cond x (Some (operator_of (acts_of d.decisions) v)) None) c.fresh in
@@ -284,9 +332,20 @@ module _ (d : Drafted) (b : Board) (reads : List (List Source)) (told : IsTold d
       let counted = told.counted in
       let places = ap (λ (os : List (Option ℕ)). nones (slice_set os v (Some p))) (same_places b (transfers_in (task_of d) b v p)) in
       subst (λ (x : Board). IsTold (after_placing d v p) x reads) (sym is) (record {
-        site = record { given = told.site.given; routes = told.site.routes; rows = told.site.rows; columns = told.site.columns; bounded = told.site.bounded; operations = told.site.operations; operators = told.site.operators; media = told.site.media };
+        site = record {
+          given = told.site.given;
+          routes = told.site.routes;
+          rows = told.site.rows;
+          columns = told.site.columns;
+          bounded =
+              told.site.bounded;
+          operations = told.site.operations;
+          operators = told.site.operators;
+          media = told.site.media;
+        };
         right = placed_rightly_behind (task_of d) told.site.given d.decisions v p told.right may;
-        tells = subst (λ (x : Decision). Tells (task_of d) (acts_of (d.decisions ++ decision (task_of d) (acts_of d.decisions) v p ∷ [])) (after_operation (after_transfers b (transfers_in (task_of d) b v p)) (outs_of (task_of d) v) x)) decided r.2;
+        tells = subst (λ (x : Decision). Tells (task_of d) (acts_of (d.decisions ++ decision (task_of d) (acts_of d.decisions) v p ∷ []))
+            (after_operation (after_transfers b (transfers_in (task_of d) b v p)) (outs_of (task_of d) v) x)) decided r.2;
         reads_are = told.reads_are;
         few_reads = told.few_reads;
         low = low_more (rise * length d.decisions + rise) (rise * length (d.decisions ++ decision (task_of d) (acts_of d.decisions) v p ∷ [])) nb' (omega arith) low;

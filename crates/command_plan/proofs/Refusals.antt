@@ -30,6 +30,7 @@ module _ {R A : Type 0} (P : R → Type 0) (told : Bytes → Option Bytes) where
       deeper b true after q = subst P (same_refusal long s q) h.0
       deeper b false after q = after q
 
-      by : ((b : Bytes) → outcome told (next b) ≡ as_refused s → P s) → (o : Option Bytes) → option_and_then (λ bytes. if nat_lt file_bound (length bytes) then as_refused long else outcome told (next bytes)) o ≡ as_refused s → P s
+      by : ((b : Bytes) → outcome told (next b) ≡ as_refused s → P s) → (o : Option Bytes)
+          → option_and_then (λ bytes. if nat_lt file_bound (length bytes) then as_refused long else outcome told (next bytes)) o ≡ as_refused s → P s
       by after None q = absurd (none_refused s q)
       by after (Some b) q = deeper b (nat_lt file_bound (length b)) (after b) q

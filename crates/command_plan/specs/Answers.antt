@@ -22,7 +22,7 @@ UnnamedStay names held held' =
     (file : File) (name : Bytes) → names file ≡ None → held'.faults file name ≡ held.faults file name
 
 module _ {A J : Type 0} (stages : A → List (Stage J)) where
-  -- it is written by one call, and no job is run for it
+  -- What is given is made in at most one stage.
   abbrev pub IsOnce : A → Type 0
   IsOnce a = length (stages a) ≤ 1
 

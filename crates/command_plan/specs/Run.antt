@@ -18,7 +18,8 @@ SameFaults old new = (file : File) (name : Bytes) → new.faults file name ≡ o
 abbrev pub Gives : {R A : Type 0} → Held → Held → Result A (Ending R) → Result A (Ending R) → Type 0
 Gives old new answer made = ((made ≡ answer) ⊎ (made ≡ Err no_memory)) × SameFaults old new
 
--- these bytes of a file were read, and no count of another file changed
+-- These bytes of a file were read, and neither what files hold nor the faults of another file
+-- changed.
 abbrev pub WasRead : File → Bytes → Held → Held → Bytes → Type 0
 WasRead file name old new bytes = IsRead name old bytes × Stays old new × OthersStay file old new
 

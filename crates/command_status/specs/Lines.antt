@@ -4,9 +4,9 @@ use Rattle.std.specs.Fmt.{decimal}
 use Rattle.syn_base.specs.Bytes.{Bytes}
 use Rattle.syn_base.specs.declared.limits.LimitFault.{LimitFault}
 use Rattle.syn_base.specs.Limits.{word_of}
+use Rattle.algo_text.specs.Refusals.{AlgoFault}
 use Rattle.algo_text.specs.declared.fault.AlgoCause.{AlgoCause}
 use Rattle.algo_text.specs.declared.fault.AlgoCause.TheVariants as a
-use Rattle.algo_text.specs.declared.fault.AlgoFault.{AlgoFault}
 use Rattle.archi_defs.specs.declared.fault.ArchiCause.{ArchiCause}
 use Rattle.archi_defs.specs.declared.fault.ArchiCause.TheVariants as h
 use Rattle.archi_defs.specs.Refusals.{ArchiFault}

@@ -1,21 +1,21 @@
 -- How a command ends.
 use Rattle.std.specs.Prelude.{ℕ}
 use Rattle.command_plan.specs.Ending.{Ending, done, refused, unread, unwritten, no_memory}
-use Rattle.algo_text.specs.declared.fault.AlgoError.{AlgoError}
-use Rattle.algo_text.specs.declared.fault.AlgoError.TheVariants as algorithm
-use Rattle.algo_text.specs.declared.fault.AlgoFault.{AlgoFault}
 use Rattle.archi_defs.specs.Refusals.{ArchiError, ArchiFault, ArchiRefusal}
 use Rattle.text_lines.specs.declared.fault.TextError.TheVariants as error
 use Rattle.text_lines.specs.Refusals as text
 use Rattle.sensor_table.specs.declared.fault.SensorError.{SensorError}
 use Rattle.sensor_table.specs.declared.fault.SensorError.TheVariants as sensors
 use Rattle.sensor_table.specs.declared.fault.SensorFault.{SensorFault}
+use Rattle.sequence_build.specs.declared.error.BuildError.{BuildError}
+use Rattle.sequence_build.specs.declared.error.BuildError.TheVariants as build
 use Rattle.macro_code.specs.Refusals.{CodeError, CodeFault, CodeRefusal}
 use Rattle.check_cause.specs.declared.cause.CheckCause.{CheckCause}
 use Rattle.actual_defs.specs.declared.fault.ActualError.{ActualError}
 use Rattle.actual_defs.specs.declared.fault.ActualError.TheVariants as durations
 use Rattle.actual_defs.specs.declared.fault.ActualFault.{ActualFault}
 use Rattle.syn_base.specs.declared.limits.LimitFault.{LimitFault}
+use Rattle.algo_text.specs.Refusals.{AlgoError, AlgoFault, AlgoRefusal}
 use Rattle.command_status.specs.declared.status.Status.{Status}
 use Rattle.command_status.specs.declared.status.Status.TheVariants.{
   Done,
@@ -76,17 +76,14 @@ number_of (CheckRefused cause) = 12
 number_of (ActualRefused fault) = 13
 
 -- the refusal by an algorithm's text
-abbrev pub of_algorithm : AlgoError → Refusal
-of_algorithm (algorithm.Refused fault) = bad_algorithm fault
-of_algorithm (algorithm.Limit fault) = above fault
-of_algorithm algorithm.TooLarge = wants_memory
-of_algorithm algorithm.OutOfMemory = wants_memory
+abbrev pub of_algorithm : AlgoRefusal → Refusal
+of_algorithm (text.Refused fault) = bad_algorithm fault
+of_algorithm (text.Limit fault) = above fault
 
 abbrev pub status_of_algorithm : AlgoError → Status
-status_of_algorithm (algorithm.Refused fault) = AlgoRefused fault
-status_of_algorithm (algorithm.Limit fault) = Limit fault
-status_of_algorithm algorithm.TooLarge = OutOfMemory
-status_of_algorithm algorithm.OutOfMemory = OutOfMemory
+status_of_algorithm (error.Refused fault) = AlgoRefused fault
+status_of_algorithm (error.Limit fault) = Limit fault
+status_of_algorithm error.OutOfMemory = OutOfMemory
 
 -- the refusal by an architecture's text or its durations
 abbrev pub of_architecture : ArchiRefusal → Refusal
@@ -129,3 +126,8 @@ abbrev pub status_of_durations : ActualError → Status
 status_of_durations (durations.Refused fault) = ActualRefused fault
 status_of_durations (durations.Limit fault) = Limit fault
 status_of_durations durations.OutOfMemory = OutOfMemory
+
+-- the status of a schedule that gets no program
+abbrev pub status_of_build : BuildError → Status
+status_of_build (build.Limit fault) = Limit fault
+status_of_build build.OutOfMemory = OutOfMemory

@@ -2,9 +2,9 @@
 //! writing of a text by one call, which is an end of most commands.
 #![tactic(auto)]
 
+mod actual;
 mod architecture;
 mod code;
-mod durations;
 mod line;
 mod status;
 mod written;

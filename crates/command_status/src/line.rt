@@ -19,9 +19,9 @@ ghost use Rattle.command_status.specs.Lines.{
   Said,
 };
 
+use crate::actual::write_durations;
 use crate::architecture::write_described;
 use crate::code::{write_check, write_code};
-use crate::durations::write_durations;
 use crate::status::Status;
 use algo_text::{AlgoCause, AlgoFault};
 use command_plan::{Failed, File, Sink, write_pieces, write_whole};

@@ -4,6 +4,7 @@ ghost use Rattle.command_status.specs.Status.{
   number_of,
   status_of_algorithm,
   status_of_architecture,
+  status_of_build,
   status_of_code,
   status_of_durations,
   status_of_sensors,
@@ -17,6 +18,7 @@ use check_cause::CheckCause;
 use command_plan::File;
 use macro_code::{CodeError, CodeFault};
 use sensor_table::{SensorError, SensorFault};
+use sequence_build::BuildError;
 use syn_base::{LimitFault, OutOfMemory};
 
 /// How a command ended.
@@ -77,7 +79,7 @@ impl From<AlgoError> for Status {
         match error {
             AlgoError::Refused(fault) => Status::AlgoRefused(fault),
             AlgoError::Limit(fault) => Status::Limit(fault),
-            AlgoError::TooLarge | AlgoError::OutOfMemory => Status::OutOfMemory,
+            AlgoError::OutOfMemory => Status::OutOfMemory,
         }
     }
 }
@@ -126,6 +128,17 @@ impl From<ActualError> for Status {
             ActualError::Refused(fault) => Status::ActualRefused(fault),
             ActualError::Limit(fault) => Status::Limit(fault),
             ActualError::OutOfMemory => Status::OutOfMemory,
+        }
+    }
+}
+
+impl From<BuildError> for Status {
+    ghost from_gives = { λ error status. status ≡ status_of_build error };
+
+    fn from(error: BuildError) -> Status {
+        match error {
+            BuildError::Limit(fault) => Status::Limit(fault),
+            BuildError::OutOfMemory => Status::OutOfMemory,
         }
     }
 }

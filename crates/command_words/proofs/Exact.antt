@@ -6,7 +6,25 @@ use Rattle.clap.specs.Walk.{Row, nothing_held}
 use Rattle.clap.specs.Simple.{subcommand_of}
 use Rattle.clap.specs.Faults.{fault_of}
 use Rattle.command_words.specs.Table.{table, kind_named}
-use Rattle.command_words.specs.Command.{Command, check, sim, one, two, one_or_two, four, loaded, dated, number_up_to, algorithm_text, schedule_text, plain, plainly, arguments_of, command_of_kind, command_of}
+use Rattle.command_words.specs.Command.{
+  Command,
+  check,
+  sim,
+  one,
+  two,
+  one_or_two,
+  four,
+  loaded,
+  dated,
+  number_up_to,
+  algorithm_text,
+  schedule_text,
+  plain,
+  plainly,
+  arguments_of,
+  command_of_kind,
+  command_of,
+}
 use Rattle.command_words.specs.Plain.{plain_words, command_with, command_named}
 use Rattle.command_words.specs.Answer.{Tells}
 use Rattle.command_words.specs.App.{the_app}
@@ -121,16 +139,20 @@ module _ (program name : Text) (ws : List Text) (u : AreTexts ws) where
 
   of_this : (kind : CommandKind) → kind_named table name ≡ Some kind → Exact (program ∷ name ∷ ws)
   of_this Check is =
-      takes_plain program name ws Check is (one_or_two (λ a h. Some (plain (check a h)))) refl (λ us. refl) (wants_two name false) (told_one_or_two name (λ a h. Some (plain (check a h)))) (one_or_two_read name false ws u)
+      takes_plain program name ws Check is (one_or_two (λ a h. Some (plain (check a h)))) refl (λ us. refl) (wants_two name false)
+      (told_one_or_two name (λ a h. Some (plain (check a h)))) (one_or_two_read name false ws u)
   of_this Sim is =
       takes_plain program name ws Sim is (two (λ a s. Some (plain (sim a s)))) refl (λ us. refl) (wants_two name true) (told_two name (λ a s. Some (plain (sim a s)))) (both_read name false ws u)
   of_this (Algorithm text) is =
-      takes_plain program name ws (Algorithm text) is (one (λ a. Some (plain (algorithm_text text a)))) refl (λ us. refl) (wants_one name) (told_one name (λ a. Some (plain (algorithm_text text a)))) (single_reads name false ws u)
+      takes_plain program name ws (Algorithm text) is (one (λ a. Some (plain (algorithm_text text a)))) refl (λ us. refl) (wants_one name)
+      (told_one name (λ a. Some (plain (algorithm_text text a)))) (single_reads name false ws u)
   of_this (Schedule text) is =
-      takes_plain program name ws (Schedule text) is (two (λ a h. Some (plain (schedule_text text a h)))) refl (λ us. refl) (wants_two name true) (told_two name (λ a h. Some (plain (schedule_text text a h)))) (both_read name false ws u)
+      takes_plain program name ws (Schedule text) is (two (λ a h. Some (plain (schedule_text text a h)))) refl (λ us. refl)
+      (wants_two name true) (told_two name (λ a h. Some (plain (schedule_text text a h)))) (both_read name false ws u)
   of_this Run is = takes_workers is
   of_this Load is =
-      takes_plain program name ws Load is (one (λ n. loaded (number_up_to 1000 n))) refl (λ us. refl) (wants_one name) (told_one name (λ n. loaded (number_up_to 1000 n))) (single_reads name false ws u)
+      takes_plain program name ws Load is (one (λ n. loaded (number_up_to 1000 n))) refl (λ us. refl) (wants_one name)
+      (told_one name (λ n. loaded (number_up_to 1000 n))) (single_reads name false ws u)
   of_this Exec is = takes_code is
   of_this Dates is =
       takes_plain program name ws Dates is (four (λ a h g n. dated a h g (number_up_to 1000 n))) refl (λ us. refl) (wants_four name) (told_four name (λ a h g n. dated a h g (number_up_to 1000 n)))

@@ -1,5 +1,34 @@
 -- Digits read one by one, up to a bound.
-use Rattle.std.proofs.Common.{◌≡◌, ◌∙◌, ◌≤◌, ◌<◌, ◌+◌, ◌-◌, ◌*◌, ℕ, suc, refl, ap, [], ◌∷◌, Option, Some, None, Bool, true, false, ◌&&◌, nat_le, arith, rules, if◌then◌else◌, drop, length, get_or, drop-cons}
+use Rattle.std.proofs.Common.{
+  ◌≡◌,
+  ◌∙◌,
+  ◌≤◌,
+  ◌<◌,
+  ◌+◌,
+  ◌-◌,
+  ◌*◌,
+  ℕ,
+  suc,
+  refl,
+  ap,
+  [],
+  ◌∷◌,
+  Option,
+  Some,
+  None,
+  Bool,
+  true,
+  false,
+  ◌&&◌,
+  nat_le,
+  arith,
+  rules,
+  if◌then◌else◌,
+  drop,
+  length,
+  get_or,
+  drop-cons,
+}
 use Rattle.std.specs.List.{list_all}
 use Rattle.syn_base.specs.Name.{is_digit}
 use Rattle.syn_base.specs.Integer.{number_after}

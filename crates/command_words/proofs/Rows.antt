@@ -71,4 +71,5 @@ left_alone id rs h = at_the_end id (λ r. []) [] rs h ∙ append_none rs
 
 -- the first use of an argument
 pub first_use : (id v : Text) (rs : List Row) → Has id rs None → with_values id (reading_by (argument id true)) CommandLine (v ∷ []) (without id rs) ≡ more id v rs
-first_use id v rs h = ap (λ (xs : List Row). with_values id (reading_by (argument id true)) CommandLine (v ∷ []) xs) (left_alone id rs h) ∙ at_the_end id (more_values CommandLine (v ∷ [])) (row id v ∷ []) rs h
+first_use id v rs h = ap (λ (xs : List Row). with_values id (reading_by (argument id true)) CommandLine (v ∷ []) xs) (left_alone id rs h)
+    ∙ at_the_end id (more_values CommandLine (v ∷ [])) (row id v ∷ []) rs h

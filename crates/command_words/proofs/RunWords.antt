@@ -6,7 +6,25 @@ use Rattle.std.specs.Str.{bytes_eq, IsUtf8}
 use Rattle.std.proofs.lemmas.Slice.Eq.{bytes_eq-Decides}
 use Rattle.clap.specs.Walk.{Held, Row, Walk, Waiting, idle, option, value, walked, arg_by_index, to_positional, nothing_held}
 use Rattle.clap.specs.Faults.{turn_fault, step_fault, settle_fault, walk_fault}
-use Rattle.command_words.specs.Command.{Command, Arguments, with_plain, with_workers, is_option, is_joined, arguments_of, number_up_to, counted, with_count, three, four, job, run, exec, run_by, exec_by}
+use Rattle.command_words.specs.Command.{
+  Command,
+  Arguments,
+  with_plain,
+  with_workers,
+  is_option,
+  is_joined,
+  arguments_of,
+  number_up_to,
+  counted,
+  with_count,
+  three,
+  four,
+  job,
+  run,
+  exec,
+  run_by,
+  exec_by,
+}
 use Rattle.command_words.specs.Plain.{plain_words, run_with, run_given, exec_with, exec_given}
 use Rattle.command_words.specs.Answer.{Tells}
 use Rattle.command_words.proofs.Behind.{behind, given, behind_plain, behind_workers}
@@ -16,7 +34,45 @@ use Rattle.command_words.proofs.OptionWords.{joined_is}
 use Rattle.command_words.proofs.Rows.{Has, more, first_value_of, stays, is_added}
 use Rattle.command_words.proofs.Leaf.{IsRefused, refused_first, at}
 use Rattle.command_words.proofs.Stages.{AreTexts, faults_of, rows_of_walk, faults_on, fits_not, turn_plain, turn_escape, turn_value, walked_value, walked_plain, walked_escape}
-use Rattle.command_words.proofs.Standing.{bare, pend, waits, runs, rules, Stands, stands_bare, stands_first, stands_second, stands_third, stands_fourth, stands_workers, twice_refused, none_refused, Takes, takes1, takes2, takes3, takes4, none_takes, turn_option, walked_option, joined_passes, joined_refused, walked_joined, turn_awaited, walked_awaited, faults_at_end, rows_at_end, no_first, no_second, no_third, other_dashed, dashed_shows, no_fourth, three_there, four_there}
+use Rattle.command_words.proofs.Standing.{
+  bare,
+  pend,
+  waits,
+  runs,
+  rules,
+  Stands,
+  stands_bare,
+  stands_first,
+  stands_second,
+  stands_third,
+  stands_fourth,
+  stands_workers,
+  twice_refused,
+  none_refused,
+  Takes,
+  takes1,
+  takes2,
+  takes3,
+  takes4,
+  none_takes,
+  turn_option,
+  walked_option,
+  joined_passes,
+  joined_refused,
+  walked_joined,
+  turn_awaited,
+  walked_awaited,
+  faults_at_end,
+  rows_at_end,
+  no_first,
+  no_second,
+  no_third,
+  other_dashed,
+  dashed_shows,
+  no_fourth,
+  three_there,
+  four_there,
+}
 
 -- the command of arguments, by whether it needs a fourth one
 abbrev pub working_by : Bool → Option Arguments → Option Command
@@ -31,7 +87,8 @@ module _ (needed : Bool) (name : Text) where
   -- what becomes of the words from a walk on, where they say o
   pub data Fate (w : Walk) (ws : List Text) (o : Option Arguments) : Type 0 where
     refused : IsRefused (faults_of (runs needed name) w ws) → working_by needed o ≡ None → Fate w ws o
-    accepted : (a b c : Text) (d n : Option Text) → faults_of (runs needed name) w ws ≡ [] → Tells (rows_of_walk (runs needed name) w ws) a (Some b) (Some c) d n → working_by needed o ≡ working_with needed a b c d n → Fate w ws o
+    accepted : (a b c : Text) (d n : Option Text) → faults_of (runs needed name) w ws ≡ []
+        → Tells (rows_of_walk (runs needed name) w ws) a (Some b) (Some c) d n → working_by needed o ≡ working_with needed a b c d n → Fate w ws o
 
   fate_as : (w : Walk) (ws : List Text) (o q : Option Arguments) → o ≡ q → Fate w ws q → Fate w ws o
   fate_as w ws o q e f = subst (λ (r : Option Arguments). Fate w ws r) (sym e) f
@@ -39,7 +96,8 @@ module _ (needed : Bool) (name : Text) where
   fate_on : (w v : Walk) (x : Text) (xs : List Text) (o : Option Arguments) → turn_fault (runs needed name) [] w x ≡ [] → walked (rules needed name) [] w x ≡ v → Fate v xs o → Fate w (x ∷ xs) o
   fate_on w v x xs o t e (refused r n) = refused (subst IsRefused (sym (faults_on (runs needed name) w x xs t ∙ ap (λ (u : Walk). faults_of (runs needed name) u xs) e)) r) n
   fate_on w v x xs o t e (accepted a b c d n k q m) =
-      accepted a b c d n (faults_on (runs needed name) w x xs t ∙ ap (λ (u : Walk). faults_of (runs needed name) u xs) e ∙ k) (subst (λ (u : Walk). Tells (rows_of_walk (runs needed name) u xs) a (Some b) (Some c) d n) (sym e) q) m
+      accepted a b c d n (faults_on (runs needed name) w x xs t ∙ ap (λ (u : Walk). faults_of (runs needed name) u xs) e ∙ k)
+      (subst (λ (u : Walk). Tells (rows_of_walk (runs needed name) u xs) a (Some b) (Some c) d n) (sym e) q) m
 
   fate_not : (w : Walk) (x : Text) (xs : List Text) (o : Option Arguments) → IsRefused (turn_fault (runs needed name) [] w x) → working_by needed o ≡ None → Fate w (x ∷ xs) o
   fate_not w x xs o r n = refused (fits_not (runs needed name) w x xs r) n
@@ -254,14 +312,19 @@ module _ (x : Text) (xs : List Text) (e : is_escape x ≡ false) where
 
 module _ (needed : Bool) (name : Text) where
   -- a plain word
-  taken : (p : ℕ) (id : Text) → Takes needed name p id → (h : Held) (rs : List Row) (t : Bool) (x : Text) (xs : List Text) (o : Option Arguments) → Stands needed name h rs → turn_fault (runs needed name) [] (at h p t) x ≡ step_fault (runs needed name) p h value
-      → walked (rules needed name) [] (at h p t) x ≡ to_positional (rules needed name) (arg_by_index (rules needed name) p) x (at h p t) h → Fate needed name (at (pend id (x ∷ []) rs) (suc p) t) xs o → Fate needed name (at h p t) (x ∷ xs) o
+  taken : (p : ℕ) (id : Text) → Takes needed name p id
+      → (h : Held) (rs : List Row) (t : Bool) (x : Text) (xs : List Text) (o : Option Arguments) → Stands needed name h rs
+      → turn_fault (runs needed name) [] (at h p t) x ≡ step_fault (runs needed name) p h value
+      → walked (rules needed name) [] (at h p t) x ≡ to_positional (rules needed name) (arg_by_index (rules needed name) p) x (at h p t) h
+      → Fate needed name (at (pend id (x ∷ []) rs) (suc p) t) xs o → Fate needed name (at h p t) (x ∷ xs) o
   taken p id k h rs t x xs o s turn moves f = fate_on needed name (at h p t) (at (pend id (x ∷ []) rs) (suc p) t) x xs o (turn ∙ k.faults h ∙ s.passes) (moves ∙ k.goes h rs x t s.settles) f
 
   module _ (h : Held) (rs : List Row) (us : List Text) (t : Bool) (x : Text) (xs : List Text) (rest : Option Arguments) (s : Stands needed name h rs)
       (on : (g : Held) (qs : List Row) (ps : List Text) → Stands needed name g qs → Holds qs ps us → Fate needed name (at g (pos ps) t) xs (behind (given ps us) rest)) where
     plain_taken : (ps : List Text) → Holds rs ps us → turn_fault (runs needed name) [] (at h (pos ps) t) x ≡ step_fault (runs needed name) (pos ps) h value
-        → walked (rules needed name) [] (at h (pos ps) t) x ≡ to_positional (rules needed name) (arg_by_index (rules needed name) (pos ps)) x (at h (pos ps) t) h → Fate needed name (at h (pos ps) t) (x ∷ xs) (behind (given ps us) (with_plain x rest))
+        → walked (rules needed name) [] (at h (pos ps) t) x
+        ≡ to_positional (rules needed name) (arg_by_index (rules needed name) (pos ps)) x (at h (pos ps) t) h
+        → Fate needed name (at h (pos ps) t) (x ∷ xs) (behind (given ps us) (with_plain x rest))
     plain_taken [] k turn moves =
         (fate_as needed name) _ _ _ _ (behind_plain (given [] us) x rest) (taken 1 (codes "first") (takes1 needed name) h rs t x xs _ s turn moves
         (on (pend (codes "first") (x ∷ []) rs) (more (codes "first") x rs) (x ∷ []) (stands_first needed name x rs k.first) (add_first rs x us k)))
@@ -278,7 +341,8 @@ module _ (needed : Bool) (name : Text) where
     plain_taken (a ∷ b ∷ c ∷ d ∷ e ∷ es) k turn moves = absurd k.few
 
   -- after `--` each word is plain
-  ended : (ws : List Text) (h : Held) (rs : List Row) (ps us : List Text) → Stands needed name h rs → Holds rs ps us → Fate needed name (at h (pos ps) true) ws (behind (given ps us) (Some (given ws [])))
+  ended : (ws : List Text) (h : Held) (rs : List Row) (ps us : List Text) → Stands needed name h rs → Holds rs ps us
+      → Fate needed name (at h (pos ps) true) ws (behind (given ps us) (Some (given ws [])))
   ended [] h rs ps us s k = at_end name h rs true needed ps us s k
   ended (x ∷ xs) h rs ps us s k =
       plain_taken h rs us true x xs (Some (given xs [])) s (λ g qs vs. ended xs g qs vs us) ps k (turn_value (runs needed name) h (pos ps) x) (walked_value (runs needed name) h (pos ps) x)
@@ -296,15 +360,19 @@ module _ (needed : Bool) (name : Text) where
   unfolding walk_fault
   bad_end w bad = refused_first (settle_fault (rules needed name) false w.held) _ bad
 
-  bad_behind : (h : Held) (ps : List Text) (on : Waiting) (ws : List Text) → AreAtMostFour ps → IsRefused (settle_fault (rules needed name) false h) → IsRefused (faults_of (runs needed name) (ending_at h (pos ps) on) ws)
+  bad_behind : (h : Held) (ps : List Text) (on : Waiting) (ws : List Text) → AreAtMostFour ps
+      → IsRefused (settle_fault (rules needed name) false h) → IsRefused (faults_of (runs needed name) (ending_at h (pos ps) on) ws)
   bad_behind h ps on [] l bad = bad_end (ending_at h (pos ps) on) bad
   bad_behind h ps on (x ∷ xs) l bad = fits_not (runs needed name) (ending_at h (pos ps) on) x xs (bad_step h ps l bad)
 
-  bad_on : (h : Held) (ps : List Text) (ws : List Text) → AreAtMostFour ps → h.skip ≡ 0 → AreTexts ws → IsRefused (settle_fault (rules needed name) false h) → IsRefused (faults_of (runs needed name) (at h (pos ps) false) ws)
+  bad_on : (h : Held) (ps : List Text) (ws : List Text) → AreAtMostFour ps → h.skip ≡ 0 → AreTexts ws
+      → IsRefused (settle_fault (rules needed name) false h) → IsRefused (faults_of (runs needed name) (at h (pos ps) false) ws)
   bad_on h ps [] l z u bad = bad_end (at h (pos ps) false) bad
   bad_on h ps (x ∷ xs) l z u bad =
       elim (two_ways (is_escape x)) [
-        | inl e ↦ subst IsRefused (sym (faults_on (runs needed name) (at h (pos ps) false) x xs (turn_escape (runs needed name) h (pos ps) x e) ∙ ap (λ (w : Walk). faults_of (runs needed name) w xs) (walked_escape (runs needed name) h (pos ps) x e))) (bad_behind h ps idle xs l bad)
+        | inl e ↦ subst IsRefused (sym (faults_on (runs needed name) (at h (pos ps) false) x xs
+            (turn_escape (runs needed name) h (pos ps) x e)
+            ∙ ap (λ (w : Walk). faults_of (runs needed name) w xs) (walked_escape (runs needed name) h (pos ps) x e))) (bad_behind h ps idle xs l bad)
         | inr e ↦ elim (two_ways (is_dashed x)) [
           | inl d ↦ fits_not (runs needed name) (at h (pos ps) false) x xs (dashed_shows needed name h (pos ps) idle x bad refl z u.0 e d)
           | inr d ↦ fits_not (runs needed name) (at h (pos ps) false) x xs (subst IsRefused (sym (turn_plain (runs needed name) h (pos ps) x e d)) (bad_step h ps l bad))
@@ -327,7 +395,8 @@ module _ (needed : Bool) (name : Text) where
   walked_value_escape rs p x e = rw e refl
 
   module _ (x : Text) (xs : List Text) (u : IsUtf8 x) (us_texts : AreTexts xs) (free : Reads false xs) where
-    value_taken : (rs : List Row) (ps us : List Text) → Holds rs ps us → Fate needed name (at (pend (codes "workers") (x ∷ []) rs) (pos ps) false) xs (behind (given ps us) (with_workers x (arguments_of true false xs)))
+    value_taken : (rs : List Row) (ps us : List Text) → Holds rs ps us
+        → Fate needed name (at (pend (codes "workers") (x ∷ []) rs) (pos ps) false) xs (behind (given ps us) (with_workers x (arguments_of true false xs)))
     value_taken rs ps [] k =
         (fate_as needed name) _ _ _ _ (behind_workers (given ps []) x (arguments_of true false xs))
         (free _ (more (codes "workers") x rs) ps (x ∷ []) (pend (codes "workers") (x ∷ []) rs, refl, (stands_workers needed name) x rs k.workers) (add_workers rs x ps k))
@@ -338,13 +407,17 @@ module _ (needed : Bool) (name : Text) where
     awaited_word : (rs : List Row) (ps us : List Text) → Holds rs ps us → Fate needed name (waits rs (pos ps)) (x ∷ xs) (behind (given ps us) (with_workers x (arguments_of true false xs)))
     awaited_word rs ps us k =
         elim (two_ways (is_escape x)) [
-          | inl e ↦ refused (subst IsRefused (sym (faults_on (runs needed name) (waits rs (pos ps)) x xs (value_escape rs (pos ps) x e) ∙ ap (λ (w : Walk). faults_of (runs needed name) w xs) (walked_value_escape rs (pos ps) x e)))
+          | inl e ↦ refused (subst IsRefused
+              (sym (faults_on (runs needed name) (waits rs (pos ps)) x xs (value_escape rs (pos ps) x e)
+              ∙ ap (λ (w : Walk). faults_of (runs needed name) w xs) (walked_value_escape rs (pos ps) x e)))
               (bad_behind (pend (codes "workers") [] rs) ps (option (codes "workers")) xs k.few (none_refused needed name rs)))
               (bad_value_none needed ps us x (arguments_of true false xs) k.once (dashed_no_number x (escape_dashed x e)))
           | inr e ↦ elim (two_ways (is_dashed x)) [
-            | inl d ↦ fate_not needed name (waits rs (pos ps)) x xs _ (dashed_shows needed name (pend (codes "workers") [] rs) (pos ps) (option (codes "workers")) x (none_refused needed name rs) refl refl u e d)
+            | inl d ↦ fate_not needed name (waits rs (pos ps)) x xs _
+                (dashed_shows needed name (pend (codes "workers") [] rs) (pos ps) (option (codes "workers")) x (none_refused needed name rs) refl refl u e d)
                 (bad_value_none needed ps us x (arguments_of true false xs) k.once (dashed_no_number x d))
-            | inr d ↦ fate_on needed name (waits rs (pos ps)) (at (pend (codes "workers") (x ∷ []) rs) (pos ps) false) x xs _ (turn_awaited needed name rs (pos ps) x e d) (walked_awaited needed name rs (pos ps) x e d) (value_taken rs ps us k)
+            | inr d ↦ fate_on needed name (waits rs (pos ps)) (at (pend (codes "workers") (x ∷ []) rs) (pos ps) false) x xs _
+                (turn_awaited needed name rs (pos ps) x e d) (walked_awaited needed name rs (pos ps) x e d) (value_taken rs ps us k)
           ]
         ]
 
@@ -352,10 +425,13 @@ module _ (needed : Bool) (name : Text) where
     abbrev so : List Text → List Text → Option Arguments → Option Arguments
     so ps us o = behind (given ps us) o
 
-    joined_word : (ps us : List Text) (v : Text) → Holds rs ps us → x ≡ codes "--workers=" ++ v → Fate needed name (at h (pos ps) false) (x ∷ xs) (so ps us (with_workers v (arguments_of true false xs)))
+    joined_word : (ps us : List Text) (v : Text) → Holds rs ps us → x ≡ codes "--workers=" ++ v
+        → Fate needed name (at h (pos ps) false) (x ∷ xs) (so ps us (with_workers v (arguments_of true false xs)))
     joined_word ps [] v k e =
-        (fate_as needed name) _ _ _ _ (behind_workers (given ps []) v (arguments_of true false xs)) (subst (λ (y : Text). Fate needed name (at h (pos ps) false) (y ∷ xs) (so ps (v ∷ []) (arguments_of true false xs))) (sym e)
-        (fate_on needed name (at h (pos ps) false) (at (bare (more (codes "workers") v rs)) (pos ps) false) (codes "--workers=" ++ v) xs _ (joined_passes needed name h rs (pos ps) v s k.workers) (walked_joined needed name h rs (pos ps) v s.settles k.workers)
+        (fate_as needed name) _ _ _ _ (behind_workers (given ps []) v (arguments_of true false xs))
+        (subst (λ (y : Text). Fate needed name (at h (pos ps) false) (y ∷ xs) (so ps (v ∷ []) (arguments_of true false xs))) (sym e)
+        (fate_on needed name (at h (pos ps) false) (at (bare (more (codes "workers") v rs)) (pos ps) false) (codes "--workers=" ++ v) xs _
+        (joined_passes needed name h rs (pos ps) v s k.workers) (walked_joined needed name h rs (pos ps) v s.settles k.workers)
         (free _ (more (codes "workers") v rs) ps (v ∷ []) (bare (more (codes "workers") v rs), refl, (stands_bare needed name) (more (codes "workers") v rs)) (add_workers rs v ps k))))
     joined_word ps (w ∷ []) v k e =
         subst (λ (y : Text). Fate needed name (at h (pos ps) false) (y ∷ xs) (so ps (w ∷ []) (with_workers v (arguments_of true false xs)))) (sym e)
@@ -365,9 +441,11 @@ module _ (needed : Bool) (name : Text) where
     option_word : (ps us : List Text) → Holds rs ps us → x ≡ codes "--workers" → Fate needed name (at h (pos ps) false) (x ∷ xs) (so ps us (arguments_of true true xs))
     option_word ps us k e =
         subst (λ (y : Text). Fate needed name (at h (pos ps) false) (y ∷ xs) (so ps us (arguments_of true true xs))) (sym e)
-        (fate_on needed name (at h (pos ps) false) (waits rs (pos ps)) (codes "--workers") xs _ (turn_option needed name h (pos ps) ∙ s.passes) (walked_option needed name h rs (pos ps) s.settles) (waiting (waits rs (pos ps)) rs ps us refl k))
+        (fate_on needed name (at h (pos ps) false) (waits rs (pos ps)) (codes "--workers") xs _
+        (turn_option needed name h (pos ps) ∙ s.passes) (walked_option needed name h rs (pos ps) s.settles) (waiting (waits rs (pos ps)) rs ps us refl k))
 
-    plain_word : (ps us : List Text) → Holds rs ps us → is_escape x ≡ false → is_dashed x ≡ false → Fate needed name (at h (pos ps) false) (x ∷ xs) (so ps us (with_plain x (arguments_of true false xs)))
+    plain_word : (ps us : List Text) → Holds rs ps us → is_escape x ≡ false → is_dashed x ≡ false
+        → Fate needed name (at h (pos ps) false) (x ∷ xs) (so ps us (with_plain x (arguments_of true false xs)))
     plain_word ps us k e d =
         plain_taken h rs us false x xs (arguments_of true false xs) s (λ g qs vs t l. free (at g (pos vs) false) qs vs us (g, refl, t) l) ps k
         (turn_plain (runs needed name) h (pos ps) x e d) (walked_plain (runs needed name) h (pos ps) x e d)
@@ -375,13 +453,17 @@ module _ (needed : Bool) (name : Text) where
     free_word : (ps us : List Text) → Holds rs ps us → Fate needed name (at h (pos ps) false) (x ∷ xs) (so ps us (arguments_of true false (x ∷ xs)))
     free_word ps us k =
         elim (two_ways (is_escape x)) [
-          | inl e ↦ fate_as needed name _ _ _ _ (ap (so ps us) (says_ended x xs e)) (fate_on needed name (at h (pos ps) false) (at h (pos ps) true) x xs _ (turn_escape (runs needed name) h (pos ps) x e) (walked_escape (runs needed name) h (pos ps) x e) (ended xs h rs ps us s k))
+          | inl e ↦ fate_as needed name _ _ _ _ (ap (so ps us) (says_ended x xs e))
+              (fate_on needed name (at h (pos ps) false) (at h (pos ps) true) x xs _ (turn_escape (runs needed name) h (pos ps) x e)
+              (walked_escape (runs needed name) h (pos ps) x e) (ended xs h rs ps us s k))
           | inr e ↦ elim (two_ways (bytes_eq x (codes "--workers"))) [
             | inl n ↦ fate_as needed name _ _ _ _ (ap (so ps us) (says_option x xs e n)) (option_word ps us k ((bytes_eq-Decides x (codes "--workers")).0 n))
             | inr n ↦ elim (two_ways (is_joined x)) [
               | inl j ↦ fate_as needed name _ _ _ _ (ap (so ps us) (says_joined x xs e n j)) (joined_word ps us (drop 10 x) k (joined_is x j))
               | inr j ↦ elim (two_ways (is_dashed x)) [
-                | inl d ↦ fate_as needed name _ _ _ _ (ap (so ps us) (says_none x xs e n j d)) (fate_not needed name (at h (pos ps) false) x xs _ (other_dashed needed name h (pos ps) idle x refl s.unskipped u e d n j) (nothing_none needed))
+                | inl d ↦ fate_as needed name _ _ _ _ (ap (so ps us) (says_none x xs e n j d))
+                    (fate_not needed name (at h (pos ps) false) x xs _
+                    (other_dashed needed name h (pos ps) idle x refl s.unskipped u e d n j) (nothing_none needed))
                 | inr d ↦ fate_as needed name _ _ _ _ (ap (so ps us) (says_plain x xs e n j d)) (plain_word ps us k e d)
               ]
             ]
@@ -389,12 +471,15 @@ module _ (needed : Bool) (name : Text) where
         ]
 
   reads : (awaited : Bool) (ws : List Text) → AreTexts ws → Reads awaited ws
-  reads true [] u w rs ps us b k = subst (λ (v : Walk). Fate needed name v [] (behind (given ps us) None)) (sym b) (refused (bad_end (waits rs (pos ps)) (none_refused needed name rs)) (nothing_none needed))
+  reads true [] u w rs ps us b k =
+      subst (λ (v : Walk). Fate needed name v [] (behind (given ps us) None)) (sym b)
+      (refused (bad_end (waits rs (pos ps)) (none_refused needed name rs)) (nothing_none needed))
   reads true (x ∷ xs) u w rs ps us b k =
       subst (λ (v : Walk). Fate needed name v (x ∷ xs) (behind (given ps us) (arguments_of true true (x ∷ xs)))) (sym b) (awaited_word x xs u.0 u.1 (reads false xs u.1) rs ps us k)
   reads false [] u w rs ps us b k = subst (λ (v : Walk). Fate needed name v [] (behind (given ps us) (Some (given [] [])))) (sym b.1) (at_end name b.0 rs false needed ps us b.2 k)
   reads false (x ∷ xs) u w rs ps us b k =
-      subst (λ (v : Walk). Fate needed name v (x ∷ xs) (behind (given ps us) (arguments_of true false (x ∷ xs)))) (sym b.1) (free_word x xs u.0 (reads false xs u.1) (reads true xs u.1) b.0 rs b.2 ps us k)
+      subst (λ (v : Walk). Fate needed name v (x ∷ xs) (behind (given ps us) (arguments_of true false (x ∷ xs)))) (sym b.1)
+      (free_word x xs u.0 (reads false xs u.1) (reads true xs u.1) b.0 rs b.2 ps us k)
 
   -- the words after the name
   pub working_read : (ws : List Text) → AreTexts ws → Fate needed name (at nothing_held 1 false) ws (behind (given [] []) (arguments_of true false ws))

@@ -61,7 +61,8 @@ pub walked_value : (s : Shape) (h : Held) (p : ℕ) (x : Text) → walked s.rule
 unfolding walked
 walked_value s h p x = refl
 
-pub walked_plain : (s : Shape) (h : Held) (p : ℕ) (x : Text) → is_escape x ≡ false → is_dashed x ≡ false → walked s.rules [] (at h p false) x ≡ to_positional s.rules (arg_by_index s.rules p) x (at h p false) h
+pub walked_plain : (s : Shape) (h : Held) (p : ℕ) (x : Text) → is_escape x ≡ false → is_dashed x ≡ false
+    → walked s.rules [] (at h p false) x ≡ to_positional s.rules (arg_by_index s.rules p) x (at h p false) h
 unfolding walked
 walked_plain s h p x e d = rw (met_plain s.rules p x h e d) refl
 
@@ -76,7 +77,8 @@ pub record Takes (s : Shape) (h : Held) (p : ℕ) (next : Text → Held) : Type 
 
 module _ (s : Shape) (h : Held) (p : ℕ) (f : List Text → Option (List Row)) (free : NoOptions s) (unskipped : h.skip ≡ 0) (ends : (t : Bool) → Fits s (at h p t) [] (f [])) where
   -- a positional stands at this place, and what is after it is read as g says
-  pub stage : (next : Text → Held) (g : Text → List Text → Option (List Row)) → Takes s h p next → ((x : Text) (us : List Text) → f (x ∷ us) ≡ g x us) → ((x : Text) → Reads s (next x) (suc p) (g x)) → Reads s h p f
+  pub stage : (next : Text → Held) (g : Text → List Text → Option (List Row)) → Takes s h p next
+      → ((x : Text) (us : List Text) → f (x ∷ us) ≡ g x us) → ((x : Text) → Reads s (next x) (suc p) (g x)) → Reads s h p f
   stage next g k eq r true [] u = ends true
   stage next g k eq r false [] u = ends false
   stage next g k eq r true (x ∷ xs) u =
@@ -87,7 +89,8 @@ module _ (s : Shape) (h : Held) (p : ℕ) (f : List Text → Option (List Row)) 
         | inr e ↦ elim (two_ways (is_dashed x)) [
           | inl d ↦ rw (e, d) (fits_not s (at h p false) x xs (turn_dashed s h p x free unskipped u.0 e d))
           | inr d ↦ rw (e, d) (subst (λ (o : Option (List Row)). Fits s (at h p false) (x ∷ xs) o) (sym (shift x (plain_from false xs)))
-              (fits_on s (at h p false) (at (next x) (suc p) false) x xs (option_and_then (g x) (plain_from false xs)) (turn_plain s h p x e d ∙ k.passes x) (walked_plain s h p x e d ∙ k.goes x false) (r x false xs u.1)))
+              (fits_on s (at h p false) (at (next x) (suc p) false) x xs (option_and_then (g x) (plain_from false xs))
+              (turn_plain s h p x e d ∙ k.passes x) (walked_plain s h p x e d ∙ k.goes x false) (r x false xs u.1)))
         ]
       ]
     where

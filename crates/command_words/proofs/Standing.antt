@@ -1,7 +1,27 @@
 -- What clap holds between two words of a command that takes workers, and what one word more does.
 use Rattle.std.proofs.Common.{◌≡◌, ◌∙◌, ℕ, suc, List, [], ◌∷◌, ◌++◌, Bool, true, false, ◌&&◌, Option, Some, None, inl, inr, refl, sym, subst, ap, ap₂, codes, if◌then◌else◌}
 use Rattle.std.specs.Prelude.{fold, unwrap_or, drop}
-use Rattle.clap.specs.Walk.{Held, Row, Rule, Walk, Waiting, option, value, used, pushed, walked, settled, is_pending, arg_by_id, arg_by_index, arg_by_long, to_positional, with_default, has_row, subcommand_met}
+use Rattle.clap.specs.Walk.{
+  Held,
+  Row,
+  Rule,
+  Walk,
+  Waiting,
+  option,
+  value,
+  used,
+  pushed,
+  walked,
+  settled,
+  is_pending,
+  arg_by_id,
+  arg_by_index,
+  arg_by_long,
+  to_positional,
+  with_default,
+  has_row,
+  subcommand_met,
+}
 use Rattle.clap.specs.Simple.{Shape}
 use Rattle.std.specs.Str.{bytes_eq, IsUtf8}
 use Rattle.std.proofs.lemmas.Slice.Eq.{bytes_eq-Decides}
@@ -167,7 +187,14 @@ module _ (needed : Bool) (name : Text) where
 
   pub walked_option : (h : Held) (rs : List Row) (p : ℕ) → settled rules h ≡ bare rs → walked rules [] (at h p false) (codes "--workers") ≡ waits rs p
   unfolding walked
-  walked_option h rs p e = ap (λ (g : Held). record { held = record g { pending = Some (codes "workers", []) }; waiting = option (codes "workers"); position = p; is_trailing = false; stopped = None }) e
+  walked_option h rs p e = ap (λ (g : Held). record {
+    held = record g { pending = Some (codes "workers", []) };
+    waiting =
+        option (codes "workers");
+    position = p;
+    is_trailing = false;
+    stopped = None;
+  }) e
 
   pub turn_joined : (h : Held) (p : ℕ) (v : Text) → turn_fault runs [] (at h p false) (codes "--workers=" ++ v) ≡ joined_kinds (settle_fault rules false h) (settled rules h)
   turn_joined h p v = or_none (joined_kinds (settle_fault rules false h) (settled rules h))
@@ -177,10 +204,12 @@ module _ (needed : Bool) (name : Text) where
 
   pub joined_refused : (h : Held) (rs : List Row) (p : ℕ) (u v : Text) → Stands h rs → Has (codes "workers") rs (Some u) → IsRefused (turn_fault runs [] (at h p false) (codes "--workers=" ++ v))
   joined_refused h rs p u v s n =
-      let e : turn_fault runs [] (at h p false) (codes "--workers=" ++ v) ≡ kind.ArgumentConflict ∷ [] = turn_joined h p v ∙ ap₂ joined_kinds s.passes s.settles ∙ rw (has_value (codes "workers") u rs n) refl in
+      let e : turn_fault runs [] (at h p false) (codes "--workers=" ++ v) ≡ kind.ArgumentConflict ∷ [] = turn_joined h p v
+      ∙ ap₂ joined_kinds s.passes s.settles ∙ rw (has_value (codes "workers") u rs n) refl in
       λ b. cc
 
-  pub walked_joined : (h : Held) (rs : List Row) (p : ℕ) (v : Text) → settled rules h ≡ bare rs → Has (codes "workers") rs None → walked rules [] (at h p false) (codes "--workers=" ++ v) ≡ at (bare (more (codes "workers") v rs)) p false
+  pub walked_joined : (h : Held) (rs : List Row) (p : ℕ) (v : Text) → settled rules h ≡ bare rs → Has (codes "workers") rs None
+      → walked rules [] (at h p false) (codes "--workers=" ++ v) ≡ at (bare (more (codes "workers") v rs)) p false
   unfolding walked
   walked_joined h rs p v e n =
       ap (λ (g : Held). at (record g { rows = used (unwrap_or (arg_by_id rules (codes "workers")) (argument [] true)) (v ∷ []) g.rows; pending = None }) p false) e
@@ -239,22 +268,26 @@ module _ (needed : Bool) (name : Text) where
 
   module _ (h : Held) (p : ℕ) (on : Waiting) (x : Text) (no_name : subcommand_met [] on x ≡ None) (z : h.skip ≡ 0) (u : IsUtf8 x) (e : is_escape x ≡ false) (d : is_dashed x ≡ true) where
     pub other_dashed : bytes_eq x (codes "--workers") ≡ false → is_joined x ≡ false → IsRefused (turn_fault runs [] (between h p on) x)
-    other_dashed n j = refused_first (word_fault runs [] false on x h) _ (let k : word_fault runs [] false on x h ≡ kind.UnknownArgument ∷ [] = word_unknown runs x h on no_name z e (no_option x n j) u d in λ b. cc)
+    other_dashed n j = refused_first (word_fault runs [] false on x h) _
+        (let k : word_fault runs [] false on x h ≡ kind.UnknownArgument ∷ [] = word_unknown runs x h on no_name z e (no_option x n j) u d in λ b. cc)
 
   option_after : (h : Held) (on : Waiting) (x : Text) → subcommand_met [] on x ≡ None → x ≡ codes "--workers" → word_fault runs [] false on x h ≡ settle_fault rules false h
   option_after h on x n e = ap (λ (o : Option Text). other_fault runs o x h) n ∙ ap (λ (w : Text). other_fault runs None w h) e
 
-  joined_after : (h : Held) (on : Waiting) (x v : Text) → subcommand_met [] on x ≡ None → x ≡ codes "--workers=" ++ v → word_fault runs [] false on x h ≡ joined_kinds (settle_fault rules false h) (settled rules h)
+  joined_after : (h : Held) (on : Waiting) (x v : Text) → subcommand_met [] on x ≡ None → x ≡ codes "--workers=" ++ v
+      → word_fault runs [] false on x h ≡ joined_kinds (settle_fault rules false h) (settled rules h)
   joined_after h on x v n e = ap (λ (o : Option Text). other_fault runs o x h) n ∙ ap (λ (w : Text). other_fault runs None w h) e
 
   -- where something is wrong, any word that begins with `-` shows it
-  pub dashed_shows : (h : Held) (p : ℕ) (on : Waiting) (x : Text) → IsRefused (settle_fault rules false h) → subcommand_met [] on x ≡ None → h.skip ≡ 0 → IsUtf8 x → is_escape x ≡ false → is_dashed x ≡ true
+  pub dashed_shows : (h : Held) (p : ℕ) (on : Waiting) (x : Text) → IsRefused (settle_fault rules false h) → subcommand_met [] on x ≡ None
+      → h.skip ≡ 0 → IsUtf8 x → is_escape x ≡ false → is_dashed x ≡ true
       → IsRefused (turn_fault runs [] (between h p on) x)
   dashed_shows h p on x bad no_name z u e d =
       elim (two_ways (bytes_eq x (codes "--workers"))) [
         | inl w ↦ refused_first (word_fault runs [] false on x h) _ (subst IsRefused (sym (option_after h on x no_name ((bytes_eq-Decides x (codes "--workers")).0 w))) bad)
         | inr w ↦ elim (two_ways (is_joined x)) [
-          | inl j ↦ refused_first (word_fault runs [] false on x h) _ (subst IsRefused (sym (joined_after h on x (drop 10 x) no_name (joined_is x j))) (refused_first (settle_fault rules false h) _ bad))
+          | inl j ↦ refused_first (word_fault runs [] false on x h) _
+              (subst IsRefused (sym (joined_after h on x (drop 10 x) no_name (joined_is x j))) (refused_first (settle_fault rules false h) _ bad))
           | inr j ↦ other_dashed h p on x no_name z u e d w j
         ]
       ]
@@ -262,11 +295,19 @@ module _ (needed : Bool) (name : Text) where
 -- A fourth plain argument has to be there where it is needed.
 pub no_fourth : (name : Text) (rs : List Row) (x y z : Text) → Has (codes "first") rs (Some x) → Has (codes "second") rs (Some y) → Has (codes "third") rs (Some z) → Has (codes "fourth") rs None
     → IsRefused (check_fault (runs true name) rs false)
-no_fourth name rs x y z a b c d = refused_missing _ (rw (value_given (codes "first") x rs a, value_given (codes "second") y rs b, value_given (codes "third") z rs c, none_given (codes "fourth") rs d) refl)
+no_fourth name rs x y z a b c d =
+    refused_missing _ (rw (
+      value_given (codes "first") x rs a,
+      value_given (codes "second") y rs b,
+      value_given (codes "third") z rs c,
+      none_given (codes "fourth") rs d,
+    ) refl)
 
-pub three_there : (name : Text) (rs : List Row) (x y z : Text) → Has (codes "first") rs (Some x) → Has (codes "second") rs (Some y) → Has (codes "third") rs (Some z) → check_fault (runs false name) rs false ≡ []
+pub three_there : (name : Text) (rs : List Row) (x y z : Text) → Has (codes "first") rs (Some x) → Has (codes "second") rs (Some y)
+    → Has (codes "third") rs (Some z) → check_fault (runs false name) rs false ≡ []
 three_there name rs x y z a b c = rw (value_given (codes "first") x rs a, value_given (codes "second") y rs b, value_given (codes "third") z rs c) refl
 
-pub four_there : (name : Text) (rs : List Row) (x y z v : Text) → Has (codes "first") rs (Some x) → Has (codes "second") rs (Some y) → Has (codes "third") rs (Some z) → Has (codes "fourth") rs (Some v)
+pub four_there : (name : Text) (rs : List Row) (x y z v : Text) → Has (codes "first") rs (Some x) → Has (codes "second") rs (Some y)
+    → Has (codes "third") rs (Some z) → Has (codes "fourth") rs (Some v)
     → check_fault (runs true name) rs false ≡ []
 four_there name rs x y z v a b c d = rw (value_given (codes "first") x rs a, value_given (codes "second") y rs b, value_given (codes "third") z rs c, value_given (codes "fourth") v rs d) refl

@@ -45,7 +45,8 @@ module _ {Z : Type 0} where
   texts [] = tt
   texts (w ∷ ws) = (IsUtf8-string_bytes w, texts ws)
 
-gives : (words : List Text) (name a : Text) (b c d w : Option Text) → command_of words ≡ command_named name (plain_words a b c d) w → (r : Option Given) → IsSomeAnd r (Is name a b c d w) → Gives words r
+gives : (words : List Text) (name a : Text) (b c d w : Option Text) → command_of words ≡ command_named name (plain_words a b c d) w
+    → (r : Option Given) → IsSomeAnd r (Is name a b c d w) → Gives words r
 gives words name a b c d w e None h = absurd h
 gives words name a b c d w e (Some g) h = e ∙ rw (sym h.0, sym h.1, sym h.2, sym h.3, sym h.4, sym h.5) refl
 

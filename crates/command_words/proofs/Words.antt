@@ -33,7 +33,8 @@ plainest = refl
 checks : (of (codes "check" ∷ a ∷ []) ≡ Some (plain (check a None))) × (of (codes "check" ∷ a ∷ h ∷ []) ≡ Some (plain (check a (Some h)))) × (of (codes "check" ∷ a ∷ h ∷ s ∷ []) ≡ None)
 checks = (refl, refl, refl)
 
-others : (of (codes "flat" ∷ a ∷ []) ≡ Some (plain (algorithm_text Listing a))) × (of (codes "chart" ∷ a ∷ h ∷ []) ≡ Some (plain (schedule_text Chart a h))) × (of (codes "code" ∷ a ∷ h ∷ []) ≡ Some (plain (schedule_text Code a h)))
+others : (of (codes "flat" ∷ a ∷ []) ≡ Some (plain (algorithm_text Listing a)))
+    × (of (codes "chart" ∷ a ∷ h ∷ []) ≡ Some (plain (schedule_text Chart a h))) × (of (codes "code" ∷ a ∷ h ∷ []) ≡ Some (plain (schedule_text Code a h)))
 others = (refl, refl, refl)
 
 -- no abbreviation, and no other spelling
@@ -71,7 +72,8 @@ ended = (refl, refl)
 hyphens : (of (codes "sim" ∷ codes "-" ∷ [] ∷ []) ≡ Some (plain (sim (codes "-") []))) × (of (codes "sim" ∷ codes "-a" ∷ s ∷ []) ≡ None)
 hyphens = (refl, refl)
 
-loads : (of (codes "load" ∷ codes "1000" ∷ []) ≡ Some (job (load 1000))) × (of (codes "load" ∷ codes "0001" ∷ []) ≡ Some (job (load 1))) × (of (codes "load" ∷ codes "0" ∷ []) ≡ None) × (of (codes "load" ∷ codes "1001" ∷ []) ≡ None)
+loads : (of (codes "load" ∷ codes "1000" ∷ []) ≡ Some (job (load 1000))) × (of (codes "load" ∷ codes "0001" ∷ []) ≡ Some (job (load 1)))
+    × (of (codes "load" ∷ codes "0" ∷ []) ≡ None) × (of (codes "load" ∷ codes "1001" ∷ []) ≡ None)
 loads = (refl, refl, refl, refl)
 
 -- macro-code takes workers as a run does, and needs four files
@@ -79,7 +81,8 @@ abbrev c : Bytes
 c = codes "c"
 
 execs : (of (codes "exec" ∷ a ∷ h ∷ c ∷ s ∷ []) ≡ Some (job (exec a h c s None))) × (of (codes "exec" ∷ a ∷ codes "--workers" ∷ codes "80" ∷ h ∷ c ∷ s ∷ []) ≡ Some (job (exec a h c s (Some 80))))
-    × (of (codes "exec" ∷ a ∷ h ∷ c ∷ s ∷ codes "--workers=007" ∷ []) ≡ Some (job (exec a h c s (Some 7)))) × (of (codes "exec" ∷ a ∷ h ∷ codes "--" ∷ codes "-" ∷ codes "--workers" ∷ []) ≡ Some (job (exec a h (codes "-") (codes "--workers") None)))
+    × (of (codes "exec" ∷ a ∷ h ∷ c ∷ s ∷ codes "--workers=007" ∷ []) ≡ Some (job (exec a h c s (Some 7))))
+    × (of (codes "exec" ∷ a ∷ h ∷ codes "--" ∷ codes "-" ∷ codes "--workers" ∷ []) ≡ Some (job (exec a h (codes "-") (codes "--workers") None)))
 execs = (refl, refl, refl, refl)
 
 no_execs : (of (codes "exec" ∷ a ∷ h ∷ s ∷ []) ≡ None) × (of (codes "exec" ∷ a ∷ h ∷ c ∷ s ∷ c ∷ []) ≡ None) × (of (codes "exec" ∷ a ∷ h ∷ c ∷ s ∷ codes "--workers=81" ∷ []) ≡ None)
@@ -91,6 +94,7 @@ dated : (of (codes "dates" ∷ a ∷ h ∷ h ∷ codes "2" ∷ []) ≡ Some (pla
     × (of (codes "dates" ∷ a ∷ h ∷ h ∷ codes "0" ∷ []) ≡ None) × (of (codes "dates" ∷ a ∷ h ∷ h ∷ codes "1001" ∷ []) ≡ None)
 dated = (refl, refl, refl, refl)
 
-not_dated : (of (codes "dates" ∷ a ∷ h ∷ codes "2" ∷ []) ≡ None) × (of (codes "dates" ∷ a ∷ h ∷ h ∷ codes "2" ∷ s ∷ []) ≡ None) × (of (codes "dates" ∷ a ∷ h ∷ h ∷ codes "2" ∷ codes "--workers=1" ∷ []) ≡ None)
+not_dated : (of (codes "dates" ∷ a ∷ h ∷ codes "2" ∷ []) ≡ None) × (of (codes "dates" ∷ a ∷ h ∷ h ∷ codes "2" ∷ s ∷ []) ≡ None)
+    × (of (codes "dates" ∷ a ∷ h ∷ h ∷ codes "2" ∷ codes "--workers=1" ∷ []) ≡ None)
     × (of (codes "dates" ∷ a ∷ h ∷ h ∷ codes "-2" ∷ []) ≡ None)
 not_dated = (refl, refl, refl, refl)

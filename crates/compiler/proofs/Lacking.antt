@@ -9,7 +9,7 @@ use Rattle.check_laws.specs.Tests.{cause}
 use Rattle.macro_check.specs.Causes.{Refuses}
 use Rattle.macro_check.specs.declared.cause.CheckError.{CheckError}
 use Rattle.macro_check.specs.declared.cause.CheckError.TheVariants.{Refused, OutOfMemory}
-use Rattle.top_plans.specs.ReadText.{program_in}
+use Rattle.macro_code.specs.ReadText.{program_in}
 use Rattle.compiler.specs.Checked.{GivesChecked, lacks}
 
 pub lacking : (text : List ℕ) (g : Graph) (a : Architecture) (p : Program) → program_in text g a ≡ Ok p → (e : CheckError)

@@ -1,5 +1,5 @@
 pub mod Lacking
 pub mod Sizes
-pub mod Steps
-pub mod Architectures
+pub mod Refused
 pub mod Tables
+pub mod Built

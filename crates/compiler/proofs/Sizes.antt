@@ -8,7 +8,7 @@ use Rattle.algo_laws.specs.declared.Def.{Def}
 use Rattle.algo_laws.specs.declared.Defs.{Defs}
 use Rattle.algo_laws.specs.declared.Body.{Body}
 use Rattle.algo_laws.specs.declared.Body.TheVariants.{Sensor, Actuator, Constant, Delay, Function, Graph, Switch, Repeat}
-use Rattle.top_plans.specs.Shelf.{file_bound}
+use Rattle.outside.specs.Shelf.{file_bound}
 
 pub few_lines : (text : Bytes) → length text ≤ file_bound → length (lines_of text) ≤ 4000000000
 few_lines text h = omega (arith, h, lines_at_most text)

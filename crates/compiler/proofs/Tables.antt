@@ -9,14 +9,15 @@ use Rattle.syn_base.specs.Rows.{Reactions}
 use Rattle.syn_base.specs.declared.limits.LimitKind.TheVariants as limit
 use Rattle.algo_laws.specs.Tree.{Vertex}
 use Rattle.algo_laws.specs.Ends.{sensor_lengths}
-use Rattle.top_plans.specs.Accepted.{TablesFit}
-use Rattle.top_plans.specs.SensorAnswers.{Gives}
-use Rattle.top_plans.specs.SensorTable.{Record, Row, refused, with_value, with_error, before, row_in, too_many, row_of, rows_from, reactions_of, is_header, rows_of}
-use Rattle.top_plans.specs.declared.SensorCause.TheVariants.{BadHeader}
-use Rattle.top_plans.specs.declared.SensorError.{SensorError}
-use Rattle.compiler.specs.Reads.{MakesTable}
+use Rattle.accepted_laws.specs.Accepted.{TablesFit}
+use Rattle.sensor_table.specs.Answers.{Gives}
+use Rattle.sensor_table.specs.SensorTable.{Record, Row, refused, with_value, with_error, before, row_in, too_many, row_of, rows_from, reactions_of, is_header, rows_of}
+use Rattle.sensor_table.specs.declared.fault.SensorCause.TheVariants.{BadHeader}
+use Rattle.sensor_table.specs.declared.fault.SensorError.{SensorError}
+use Rattle.compiler.specs.Tables.{MakesTable}
 
-pub made_table : (main : Vertex) (table : Bytes) (answer : Result Reactions SensorError) → TablesFit → Gives answer (rows_of main (records default_config (strip_bom table))) → MakesTable main table answer
+pub made_table : (main : Vertex) (table : Bytes) (answer : Result Reactions SensorError) → TablesFit
+    → Gives answer (rows_of main (records default_config (strip_bom table))) → MakesTable main table answer
 made_table main table (Ok rows) fit h = (h, (fit main (records default_config (strip_bom table)) rows h).0)
 made_table main table (Err e) fit h = h
 
@@ -54,7 +55,8 @@ few_from lens k (fields ∷ records) rows h e =
     let same = ap length (sym w.4) in
     omega (arith, rest, same)
 
-few_in : (header : Bool) (lens : List ℕ) (records : List Record) (rows : Reactions) → (if header then reactions_of lens records else Err (refused 0 BadHeader)) ≡ Ok rows → length rows.reactions ≤ 10000
+few_in : (header : Bool) (lens : List ℕ) (records : List Record) (rows : Reactions)
+    → (if header then reactions_of lens records else Err (refused 0 BadHeader)) ≡ Ok rows → length rows.reactions ≤ 10000
 few_in false lens records rows e = absurd (not_ok (refused 0 BadHeader) rows e)
 few_in true lens records rows e =
     let w = was_ok (λ (rs : List Row). record { lens = lens; reactions = rs }) (rows_from lens 0 records) rows e in

@@ -11,8 +11,8 @@ use Rattle.check_laws.specs.Tests.{cause}
 use Rattle.macro_check.specs.Causes.{cause_of}
 use Rattle.macro_check.specs.declared.cause.CheckError.{CheckError}
 use Rattle.macro_check.specs.declared.cause.CheckError.TheVariants as check
-use Rattle.top_plans.specs.ReadText.{program_in}
-use Rattle.top_plans.specs.declared.CheckCause.{CheckCause}
+use Rattle.macro_code.specs.ReadText.{program_in}
+use Rattle.macro_check.specs.declared.CheckCause.{CheckCause}
 use Rattle.compiler.specs.declared.checked_error.CheckedError.{CheckedError}
 use Rattle.compiler.specs.declared.checked_error.CheckedError.TheVariants.{Text, Lacks}
 

@@ -1,4 +1,7 @@
 pub mod Checked
 pub mod Compiles
-pub mod Reads
+pub mod Schedules
 pub mod Builds
+pub mod Executions
+pub mod Outputs
+pub mod Tables

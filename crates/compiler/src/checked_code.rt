@@ -7,9 +7,9 @@ ghost use Rattle.compiler.specs.Checked.{GivesChecked};
 use crate::checked_error::CheckedError;
 use code_reader::read_code;
 use macro_check::{loops_are_short, macro_check};
+use macro_code::CodeError;
 use sequence_build_laws::{Archi, Flat, Program};
 use std::alloc::Global;
-use top_plans::CodeError;
 
 /// The program of a text of macro-code, if it is well formed for a flat graph and an architecture. A loop that no
 /// memory holds is want of memory.

@@ -3,8 +3,8 @@ ghost use Rattle.std.specs.Prelude.{◌≡◌};
 ghost use Rattle.compiler.specs.Checked.{lacks};
 ghost use Rattle.compiler.specs.declared.checked_error.CheckedError.TheVariants.{Text as InText};
 
-use macro_check::CheckError;
-use top_plans::{CheckCause, CodeError};
+use macro_check::{CheckCause, CheckError};
+use macro_code::CodeError;
 
 /// The first refusal of a text, or of the check of its program.
 #[derive(Drop)]

@@ -1,7 +1,7 @@
 //! How large an output would be, and whether it is within its bound: for whoever runs an algorithm.
 ghost use Rattle.std.specs.Prelude.{◌≡◌, ◌*◌, sum, IfOk};
 ghost use Rattle.algo_laws.specs.Ends.{actuator_lengths};
-ghost use Rattle.top_plans.specs.Plans.{excess};
+ghost use Rattle.compiler.specs.Outputs.{excess};
 
 use algo_laws::Tree;
 use std::alloc::Global;

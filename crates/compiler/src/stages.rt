@@ -10,33 +10,33 @@
 //! 5. `find_schedule`: durations → least routes → the schedule of the pressure run. `chart` ends here.
 //! 6. `build_program`: the schedule → its program, for `code`, `dates`, `run` and `load`.
 //!
-//! `compile_to_durations` is stages 2 to 4 one after another, and `compile_to_program` is stages 5 and 6.
+//! `compile_to_durations` is stages 3, 2 and 4 one after another, and `compile_to_program` is stages 5 and 6.
 ghost use Rattle.std.specs.Prelude.{◌≡◌, ◌≤◌, IfOk, IsTrue, length};
 ghost use Rattle.archi_reader.specs.Given.{Gives};
-ghost use Rattle.algo_laws.specs.Bounded.{HasBounds};
-ghost use Rattle.algo_laws.specs.Named.{HasNames};
 ghost use Rattle.sequence_build_laws.specs.Text.{description_of};
 ghost use Rattle.sequence_build_laws.specs.DurationLines.{AreDurations};
 ghost use Rattle.sequence_build_laws.specs.Table.{entry_in};
 ghost use Rattle.sequence_build_laws.specs.ScheduleValid.{is_valid};
 ghost use Rattle.compiler.specs.Builds.{BuildsProgram};
-ghost use Rattle.compiler.specs.Compiles.{FindsDurations, HasDurations, MakesAlgorithm, MakesCompilation};
-ghost use Rattle.top_plans.specs.FlatOf.{flat_of};
-ghost use Rattle.top_plans.specs.Shelf.{file_bound};
-ghost use Rattle.top_plans.specs.Plans.{schedule_of};
+ghost use Rattle.compiler.specs.Compiles.{FindsDurations, HasDurations, MakesAlgorithm, MakesProblem};
+ghost use Rattle.accepted_laws.specs.FlatOf.{flat_of};
+ghost use Rattle.outside.specs.Shelf.{file_bound};
+ghost use Rattle.compiler.specs.Schedules.{schedule_of};
 
+use accepted_laws::elaborate;
 use algo_laws::{AlgoError, Defs, Tree, accepted_are_well_read, accepted_have_periods};
 use algo_print::canonical_text_reads_back;
 use algo_reader::read_algo;
 use archi_reader::read_archi;
 use hierarchy::flatten;
+use pressure_heuristic::{adequation, routes_are_least};
+use sequence_build::{BuildError, build};
 use sequence_build_laws::{
     ArchiError, ArchiText, Durations, Flat, Program, Schedule, accepted_are_durations,
     durations_fit, durations_of,
 };
 use std::alloc::Global;
 use syn_base::OutOfMemory;
-use top_plans::{BuildError, Status, adequation, build, elaborate, routes_are_least};
 
 /// What a text defines, and the tree that its definitions mean.
 pub struct Algorithm {
@@ -62,18 +62,18 @@ impl Algorithm {
     }
 }
 
-/// What a compilation has made before its schedule: the flat graph of an algorithm, what the text of an architecture
+/// What a problem has made before its schedule: the flat graph of an algorithm, what the text of an architecture
 /// describes, and how long each operation lasts by that text.
-pub struct Compilation {
+pub struct Problem {
     pub text: ArchiText,
     pub flat: Flat,
     pub durations: Durations,
 }
 
 /// Written by hand, as that of an algorithm.
-impl Drop for Compilation {
+impl Drop for Problem {
     fn drop(self) {
-        let Compilation {
+        let Problem {
             text: _,
             flat: _,
             durations: _,
@@ -81,13 +81,13 @@ impl Drop for Compilation {
     }
 }
 
-impl Compilation {
+impl Problem {
     /// Its flat graph and its text, without the durations.
     pub fn into_parts(self) -> (Flat, ArchiText)
         ensures flat { result.0 ≡ self.flat }
         ensures text { result.1 ≡ self.text }
     {
-        let Compilation {
+        let Problem {
             text,
             flat,
             durations: _,
@@ -111,8 +111,6 @@ pub fn parse_algorithm(alloc: Global, text: &[u8]) -> Result<Algorithm, AlgoErro
 
 /// Stage 2: the flat graph of a tree, which is its operations alone, without repetitions, cases and levels.
 pub fn flatten_tree(alloc: Global, tree: &Tree) -> Result<Flat, OutOfMemory>
-    requires names { HasNames tree.now }
-    requires bounds { HasBounds tree.now }
     ensures { IfOk result (λ flat. flat ≡ flat_of tree.now) }
 {
     flatten(alloc, tree)
@@ -129,76 +127,67 @@ pub fn parse_architecture(alloc: Global, text: &[u8]) -> Result<ArchiText, Archi
 }
 
 /// Stage 4: how long each operation of a flat graph lasts on each operator by a text, or the first refusal.
-pub fn find_durations(alloc: Global, flat: Flat, text: ArchiText) -> Result<Compilation, ArchiError>
+pub fn find_durations(alloc: Global, flat: Flat, text: ArchiText) -> Result<Problem, ArchiError>
     requires { AreDurations (length text.archi.operators) text.lines }
     ensures { FindsDurations flat text result }
 {
     let durations = durations_of(alloc, &flat, &text)?;
-    Ok(Compilation {
+    Ok(Problem {
         text,
         flat,
         durations,
     })
 }
 
-/// Stages 2 to 4: from a tree and the text of an architecture to the durations, or the first refusal.
-pub fn compile_to_durations(
-    alloc: Global,
-    text: &[u8],
-    tree: &Tree,
-) -> Result<Compilation, ArchiError>
-    requires short { length text.now ≤ file_bound }
-    requires names { HasNames tree.now }
-    requires bounds { HasBounds tree.now }
-    ensures { MakesCompilation tree.now text.now result }
+/// Stages 2 to 4: from a tree and the text of an architecture to the durations, or the first refusal. The text is read
+/// before the tree is made flat, so that a refused text costs no flat graph.
+pub fn compile_to_durations(alloc: Global, text: &[u8], tree: &Tree) -> Result<Problem, ArchiError>
+    requires { length text.now ≤ file_bound }
+    ensures { MakesProblem tree.now text.now result }
 {
+    let text = parse_architecture(alloc, text)?;
     let Ok(flat) = flatten_tree(alloc, tree) else {
         return Err(ArchiError::OutOfMemory);
     };
-    let text = parse_architecture(alloc, text)?;
     find_durations(alloc, flat, text)
 }
 
 /// Stage 5: the schedule of the pressure run, for which `adequation` first finds the least routes between operators.
-pub fn find_schedule(alloc: Global, compilation: &Compilation) -> Result<Schedule, OutOfMemory>
-    requires { HasDurations compilation.now }
-    ensures run { IfOk result (λ s. s ≡ schedule_of compilation.now.flat
-        compilation.now.text.archi compilation.now.durations) }
-    ensures valid { IfOk result (λ s. IsTrue (is_valid compilation.now.flat
-        compilation.now.text.archi (entry_in compilation.now.durations) s)) }
+pub fn find_schedule(alloc: Global, problem: &Problem) -> Result<Schedule, OutOfMemory>
+    requires { HasDurations problem.now }
+    ensures run { IfOk result (λ s. s ≡ schedule_of problem.now.flat
+        problem.now.text.archi problem.now.durations) }
+    ensures valid { IfOk result (λ s. IsTrue (is_valid problem.now.flat
+        problem.now.text.archi (entry_in problem.now.durations) s)) }
 {
-    let flat = &compilation.flat;
-    let archi = &compilation.text.archi;
+    let flat = &problem.flat;
+    let archi = &problem.text.archi;
     // By this call the proof knows that the architecture is valid, which the law of the least routes asks for.
     let _operators = archi.operators();
     durations_fit();
     routes_are_least();
-    adequation(alloc, flat, archi, &compilation.durations)
+    adequation(alloc, flat, archi, &problem.durations)
 }
 
 /// Stage 6: the program of a valid schedule, or the first limit that refuses it.
 pub fn build_program(
     alloc: Global,
-    compilation: &Compilation,
+    problem: &Problem,
     schedule: &Schedule,
-) -> Result<Program, Status>
-    requires { IsTrue (is_valid compilation.now.flat compilation.now.text.archi
-        (entry_in compilation.now.durations) schedule.now) }
-    ensures { BuildsProgram compilation.now.flat compilation.now.text.archi schedule.now result }
+) -> Result<Program, BuildError>
+    requires { IsTrue (is_valid problem.now.flat problem.now.text.archi
+        (entry_in problem.now.durations) schedule.now) }
+    ensures { BuildsProgram problem.now.flat problem.now.text.archi schedule.now result }
 {
-    match build(alloc, &compilation.flat, &compilation.text.archi, schedule) {
-        Ok(program) => Ok(program),
-        Err(BuildError::Limit(limit)) => Err(Status::Limit(limit)),
-        Err(BuildError::OutOfMemory) => Err(Status::OutOfMemory),
-    }
+    build(alloc, &problem.flat, &problem.text.archi, schedule)
 }
 
 /// Stages 5 and 6: from the durations to the program, or the first limit that refuses it.
-pub fn compile_to_program(alloc: Global, compilation: &Compilation) -> Result<Program, Status>
-    requires { HasDurations compilation.now }
-    ensures { BuildsProgram compilation.now.flat compilation.now.text.archi
-        (schedule_of compilation.now.flat compilation.now.text.archi compilation.now.durations) result }
+pub fn compile_to_program(alloc: Global, problem: &Problem) -> Result<Program, BuildError>
+    requires { HasDurations problem.now }
+    ensures { BuildsProgram problem.now.flat problem.now.text.archi
+        (schedule_of problem.now.flat problem.now.text.archi problem.now.durations) result }
 {
-    let schedule = find_schedule(alloc, compilation)?;
-    build_program(alloc, compilation, &schedule)
+    let schedule = find_schedule(alloc, problem)?;
+    build_program(alloc, problem, &schedule)
 }

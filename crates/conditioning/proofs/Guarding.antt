@@ -33,7 +33,8 @@ all_cases : (gs : List Guard) (m : ℕ) (values : List ℤ) (i : ℕ) (us : List
 all_cases gs m values i [] = refl
 all_cases gs m values i (u ∷ us) = ap (and_vertex (guarded (gs ++ guard_for m values i ∷ []) m (view u))) (all_cases gs m values (suc i) us)
 
-all_merges : (d : List ℕ) (gs : List Guard) (m : ℕ) (values : List ℤ) (k : ℕ) (lens : List ℕ) (q : ℕ) (names : List (List ℕ)) → vertices_of (merges_listed d gs m values k lens q names) ≡ merges d gs m values k lens q names
+all_merges : (d : List ℕ) (gs : List Guard) (m : ℕ) (values : List ℤ) (k : ℕ) (lens : List ℕ) (q : ℕ) (names : List (List ℕ))
+    → vertices_of (merges_listed d gs m values k lens q names) ≡ merges d gs m values k lens q names
 all_merges d gs m values k lens q [] = refl
 all_merges d gs m values k lens q (x ∷ names) = ap (and_vertex (merge_of d gs m values k q x (slice_index_or lens q 0))) (all_merges d gs m values k lens (suc q) names)
 
@@ -42,12 +43,14 @@ count_view [] = refl
 count_view (u ∷ us) = ap suc (count_view us)
 
 guarded_out : (gs : List Guard) (n : ℕ) (u : Declared)
-    → guarded gs n (view u) ≡ guarded_by gs n (label_view (out-Vertex u)) (kind_view (out-Vertex u).kind) (vertices_view (inner_of u)) (λ inside m. guarded_all inside m (vertices_view (inner_of u))) (λ inside m values. guarded_cases inside m values 0 (vertices_view (inner_of u)))
+    → guarded gs n (view u) ≡ guarded_by gs n (label_view (out-Vertex u)) (kind_view (out-Vertex u).kind) (vertices_view (inner_of u))
+    (λ inside m. guarded_all inside m (vertices_view (inner_of u))) (λ inside m values. guarded_cases inside m values 0 (vertices_view (inner_of u)))
 guarded_out gs n u = ap (guarded gs n) (view_out u)
 
 -- an operation
 operation_at : (gs : List Guard) (n : ℕ) (l : Label) (k : declared.Kind) (us : Vertices) (inner : List Guard → ℕ → Vertices) (cases : List Guard → ℕ → List ℤ → Vertices)
-    → ((outs : List Source) → k ≡ Graph outs → ⊥) → ((values : List ℤ) (names : List (List ℕ)) → k ≡ Switch values names → ⊥) → operation_under gs n l (kind_view k) ≡ guarded_by gs n l (kind_view k) us inner cases
+    → ((outs : List Source) → k ≡ Graph outs → ⊥) → ((values : List ℤ) (names : List (List ℕ)) → k ≡ Switch values names → ⊥)
+    → operation_under gs n l (kind_view k) ≡ guarded_by gs n l (kind_view k) us inner cases
 operation_at gs n l (Graph outs) us inner cases a b = absurd (a outs refl)
 operation_at gs n l (Switch values names) us inner cases a b = absurd (b values names refl)
 operation_at gs n l _ us inner cases a b = refl
@@ -66,17 +69,22 @@ graph_made gs own n h u outs os vs kind own_is h_is inside os_is =
     ap₂ (λ ss us. graph_under gs n l ss (vertices_of us)) os_is inside
     ∙ ap₂ (λ m gs'. graph_under gs n l (map (shift m) outs) (vertices_of (map (λ v. guarded gs' m (view v)) (inner_of u)))) h_is own_is
     ∙ ap (graph_under gs n l (map (shift (length gs)) outs)) (all_guarded (own_guards 0 gs) (length gs) (inner_of u))
-    ∙ ap (λ k. guarded_by gs n l (kind_view k) (vertices_view (inner_of u)) (λ inside m. guarded_all inside m (vertices_view (inner_of u))) (λ inside m values. guarded_cases inside m values 0 (vertices_view (inner_of u)))) (sym kind)
+    ∙ ap (λ k. guarded_by gs n l (kind_view k) (vertices_view (inner_of u)) (λ inside m. guarded_all inside m (vertices_view (inner_of u)))
+    (λ inside m values. guarded_cases inside m values 0 (vertices_view (inner_of u)))) (sym kind)
     ∙ sym (guarded_out gs n u)
 
-pub graph_answered : (gs own : List Guard) (n h : ℕ) (u : Declared) (outs os : List Source) (vs : List Declared) (r : Result Declared OutOfMemory) → (out-Vertex u).kind ≡ Graph outs → own ≡ own_guards 0 gs → h ≡ length gs
-    → map view vs ≡ map (λ v. guarded own h (view v)) (inner_of u) → os ≡ map (shift h) outs → IfOk r (λ w. view w ≡ graph_under gs n (label_view (out-Vertex u)) os (vertices_view vs)) → IfOk r (λ w. view w ≡ guarded gs n (view u))
+pub graph_answered : (gs own : List Guard) (n h : ℕ) (u : Declared) (outs os : List Source) (vs : List Declared)
+    (r : Result Declared OutOfMemory) → (out-Vertex u).kind ≡ Graph outs → own ≡ own_guards 0 gs → h ≡ length gs
+    → map view vs ≡ map (λ v. guarded own h (view v)) (inner_of u) → os ≡ map (shift h) outs
+    → IfOk r (λ w. view w ≡ graph_under gs n (label_view (out-Vertex u)) os (vertices_view vs)) → IfOk r (λ w. view w ≡ guarded gs n (view u))
 graph_answered gs own n h u outs os vs (Ok w) kind own_is h_is inside os_is is = is ∙ graph_made gs own n h u outs os vs kind own_is h_is inside os_is
 graph_answered gs own n h u outs os vs (Err e) kind own_is h_is inside os_is is = tt
 
 -- a switch
-switch_made : (gs own : List Guard) (n h k : ℕ) (u : Declared) (values : List ℤ) (names : List (List ℕ)) (os : List Source) (vs : List Vertex) → (out-Vertex u).kind ≡ Switch values names → own ≡ own_guards 0 gs → h ≡ length gs
-    → k ≡ length (inner_of u) → vs ≡ cases_listed own h values 0 (map view (inner_of u)) ++ merges_listed (out-Vertex u).definition own h values k (out-Vertex u).outs 0 names → os ≡ merge_sources k (length names)
+switch_made : (gs own : List Guard) (n h k : ℕ) (u : Declared) (values : List ℤ) (names : List (List ℕ)) (os : List Source)
+    (vs : List Vertex) → (out-Vertex u).kind ≡ Switch values names → own ≡ own_guards 0 gs → h ≡ length gs
+    → k ≡ length (inner_of u) → vs ≡ cases_listed own h values 0 (map view (inner_of u))
+    ++ merges_listed (out-Vertex u).definition own h values k (out-Vertex u).outs 0 names → os ≡ merge_sources k (length names)
     → graph_under gs n (label_view (out-Vertex u)) os (vertices_of vs) ≡ guarded gs n (view u)
 switch_made gs own n h k u values names os vs kind own_is h_is k_is inside os_is =
     let l = label_view (out-Vertex u) in let us = vertices_view (inner_of u) in
@@ -90,7 +98,8 @@ switch_made gs own n h k u values names os vs kind own_is h_is k_is inside os_is
     ∙ ap (λ x. guarded_by gs n l (kind_view x) us (λ inside m. guarded_all inside m us) (λ inside m ws. guarded_cases inside m ws 0 us)) (sym kind)
     ∙ sym (guarded_out gs n u)
 
-pub switch_answered : (gs own own' : List Guard) (n h k : ℕ) (u : Declared) (d lens : List ℕ) (values : List ℤ) (names : List (List ℕ)) (os : List Source) (ws : List Vertex) (zs : List Declared) (r : Result Declared OutOfMemory)
+pub switch_answered : (gs own own' : List Guard) (n h k : ℕ) (u : Declared) (d lens : List ℕ) (values : List ℤ) (names : List (List ℕ))
+    (os : List Source) (ws : List Vertex) (zs : List Declared) (r : Result Declared OutOfMemory)
     → (out-Vertex u).kind ≡ Switch values names → own ≡ own_guards 0 gs → own' ≡ own_guards 0 gs → d ≡ (out-Vertex u).definition → lens ≡ (out-Vertex u).outs → h ≡ length gs
     → k ≡ length (inner_of u) → ws ≡ cases_listed own h values 0 (map view (inner_of u)) → map view zs ≡ ws ++ merges_listed d own' h values k lens 0 names
     → os ≡ merge_sources k (length names) → IfOk r (λ w. view w ≡ graph_under gs n (label_view (out-Vertex u)) os (vertices_view zs)) → IfOk r (λ w. view w ≡ guarded gs n (view u))
@@ -120,14 +129,16 @@ cases_more gs h values us i k inside u w old new lt at long case_is inside_is is
     ap (λ vs. map view vs ++ rest) new_is ∙ ap (λ vs. vs ++ rest) (map-append view old (w ∷ [])) ∙ append_assoc (map view old) (view w ∷ []) rest ∙ ap (λ vs. map view old ++ vs) (sym next) ∙ so_far
 
 -- one merge more
-pub merges_more : (d : List ℕ) (gs : List Guard) (m : ℕ) (values : List ℤ) (k : ℕ) (outs : List ℕ) (names : List (List ℕ)) (i place q len : ℕ) (name text : List ℕ) (w : Declared) (old new : List Declared) (all : List Vertex)
+pub merges_more : (d : List ℕ) (gs : List Guard) (m : ℕ) (values : List ℤ) (k : ℕ) (outs : List ℕ) (names : List (List ℕ))
+    (i place q len : ℕ) (name text : List ℕ) (w : Declared) (old new : List Declared) (all : List Vertex)
     → i < length names → name ≡ get_or names i name → place ≡ i → q ≡ place → len ≡ slice_index_or outs place 0 → text ≡ name → view w ≡ merge_of d gs m values k q text len → new ≡ old ++ w ∷ []
     → map view old ++ merges_listed d gs m values k outs place (drop i names) ≡ all → map view new ++ merges_listed d gs m values k outs (place + 1) (drop (i + 1) names) ≡ all
 merges_more d gs m values k outs names i place q len name text w old new all lt at number q_is len_is text_is is new_is so_far =
     let one : suc i ≡ i + 1 = omega arith in
     let next_place : suc place ≡ place + 1 = omega arith in
     let split : drop i names ≡ name ∷ drop (i + 1) names = drop-cons names i name lt ∙ ap₂ (λ x j. x ∷ drop j names) (sym at) one in
-    let made : view w ≡ merge_of d gs m values k place name (slice_index_or outs place 0) = is ∙ ap₂ (λ p t. merge_of d gs m values k p t len) q_is text_is ∙ ap (merge_of d gs m values k place name) len_is in
+    let made : view w ≡ merge_of d gs m values k place name (slice_index_or outs place 0) = is
+    ∙ ap₂ (λ p t. merge_of d gs m values k p t len) q_is text_is ∙ ap (merge_of d gs m values k place name) len_is in
     let rest = merges_listed d gs m values k outs (place + 1) (drop (i + 1) names) in
     let next : merges_listed d gs m values k outs place (drop i names) ≡ view w ∷ rest =
     ap (merges_listed d gs m values k outs place) split ∙ ap₂ (λ v j. v ∷ merges_listed d gs m values k outs j (drop (i + 1) names)) (sym made) next_place in

@@ -3,7 +3,6 @@ ghost use Rattle.std.specs.Prelude.{◌≡◌, [], IfOk, map};
 ghost use Rattle.algo_tree.specs.declared.vertex.Vertex.{out-Vertex};
 ghost use Rattle.algo_tree.specs.Counted.{operations};
 ghost use Rattle.algo_tree.specs.View.{view};
-ghost use Rattle.algo_tree.specs.Named.{HasNames};
 ghost use Rattle.algo_tree.specs.SameMeaning.{KeepsMeaning};
 ghost use Rattle.algo_tree.specs.NoRepeat.{HasNoRepeat};
 ghost use Rattle.flat_laws.specs.Guarded.{guard as guarded_tree, guarded};
@@ -27,7 +26,6 @@ pub fn guard(alloc: Global, tree: &Tree) -> Result<Tree, OutOfMemory>
     ensures cases { IfOk result (λ t. HasNoCase t) }
     ensures repeats { IfOk result (λ t. HasNoRepeat t) }
     ensures count { IfOk result (λ t. operations t ≡ operations tree.now) }
-    ensures names { HasNames tree.now → IfOk result (λ t. HasNames t) }
 {
     let main = tree.main();
     Ok(Tree::new(guard_main(alloc, main)?))

@@ -1,5 +1,42 @@
 -- What an accepted text gives is no longer than stated, entry by entry.
-use Rattle.std.proofs.Common.{◌≡◌, ℕ, zero, suc, ◌+◌, ◌-◌, ◌*◌, ◌<◌, ◌≤◌, Bool, true, false, ◌&&◌, ◌||◌, not, cond, List, [], ◌∷◌, ◌++◌, map, take, length, replicate, Option, Some, None, Result, Ok, Err, refl, sym, ap, arith, ◌∙◌, length-append}
+use Rattle.std.proofs.Common.{
+  ◌≡◌,
+  ℕ,
+  zero,
+  suc,
+  ◌+◌,
+  ◌-◌,
+  ◌*◌,
+  ◌<◌,
+  ◌≤◌,
+  Bool,
+  true,
+  false,
+  ◌&&◌,
+  ◌||◌,
+  not,
+  cond,
+  List,
+  [],
+  ◌∷◌,
+  ◌++◌,
+  map,
+  take,
+  length,
+  replicate,
+  Option,
+  Some,
+  None,
+  Result,
+  Ok,
+  Err,
+  refl,
+  sym,
+  ap,
+  arith,
+  ◌∙◌,
+  length-append,
+}
 use Rattle.std.specs.Prelude.{slice_get, option_map, unwrap_or, nat_lt, ◌==◌, if◌then◌else◌}
 use Rattle.std.specs.List.{find, range_with_len, count_by, list_any}
 use Rattle.std.specs.Str.{bytes_eq}
@@ -31,7 +68,28 @@ use Rattle.self_timed.specs.Told.{HaveEntries, entries_of}
 use Rattle.actual_defs.specs.declared.fault.ActualFault.{ActualFault}
 use Rattle.actual_defs.specs.declared.fault.ActualFault.TheVariants.{Differs, Longer}
 use Rattle.actual_defs.specs.declared.fault.ActualError.TheVariants.{Refused}
-use Rattle.actual_durations.specs.Actual.{same_medium, same_architecture, is_slower, slower_medium, slower_operation, duration_fault, operation_fault, or_else, operator_of, operators_of, first_fault, operation_ticks, operations_ticks, carrying_ticks, transfer_ticks, entries_ticks, unless_fault, actual_by, actual_of, if_described}
+use Rattle.actual_durations.specs.Actual.{
+  same_medium,
+  same_architecture,
+  is_slower,
+  slower_medium,
+  slower_operation,
+  duration_fault,
+  operation_fault,
+  or_else,
+  operator_of,
+  operators_of,
+  first_fault,
+  operation_ticks,
+  operations_ticks,
+  carrying_ticks,
+  transfer_ticks,
+  entries_ticks,
+  unless_fault,
+  actual_by,
+  actual_of,
+  if_described,
+}
 use Rattle.dates_text.specs.Within.{ActualAreWithin}
 use Rattle.dates_text.proofs.Counting.{count_carry, count_run, counted}
 
@@ -168,7 +226,8 @@ abbrev operator_in : Act → ℕ
 operator_in (run d) = d.operator
 operator_in (carry t) = 0
 
-later : (v : ℕ) (c : Decision) (ds : List Decision) (d : Decision) → d.op ≡ v → (k : ℕ) → slice_get (run c ∷ acts_of ds) k ≡ Some (run d) → ((j : ℕ) → slice_get (acts_of ds) j ≡ Some (run d) → Found v ds) → (c.op == v) ≡ false → Found v ds
+later : (v : ℕ) (c : Decision) (ds : List Decision) (d : Decision) → d.op ≡ v → (k : ℕ) → slice_get (run c ∷ acts_of ds) k ≡ Some (run d)
+    → ((j : ℕ) → slice_get (acts_of ds) j ≡ Some (run d) → Found v ds) → (c.op == v) ≡ false → Found v ds
 later v c ds d same zero h go other = absurd (false≢true (sym other ∙ eq-eqb c.op v (ap op_in (same_Some (run c) (run d) h) ∙ same)))
 later v c ds d same (suc k) h go other = go k h
 
@@ -219,7 +278,8 @@ accepted g a t s text ticks h = by (description_of text) h
     by_fault d same (Some f) e h = cc
     by_fault d same None e h = record { d = d; same = same; none = e; is = cc }
 
-    by_same : (d : Described) (b : Bool) → same_architecture a d.archi ≡ b → (if b then unless_fault (first_fault g a t s d) (entries_ticks g s d) else Err (Refused Differs)) ≡ Ok ticks → IsAccepted g a t s ticks
+    by_same : (d : Described) (b : Bool) → same_architecture a d.archi ≡ b
+        → (if b then unless_fault (first_fault g a t s d) (entries_ticks g s d) else Err (Refused Differs)) ≡ Ok ticks → IsAccepted g a t s ticks
     by_same d false e h = cc
     by_same d true e h = by_fault d e (first_fault g a t s d) refl h
 
@@ -256,14 +316,16 @@ module _ (g : Graph) (a : Architecture) (t : Table) (s : Schedule) (valid : is_v
       let on : slice_get (operators_of s.decisions (length g.vertices)) d.op ≡ Some (Some d.operator)
       = ranged (operator_of s.decisions) 0 (length g.vertices) d.op low ∙ ap (λ (n : ℕ). Some (operator_of s.decisions n)) zero_more ∙ ap (λ (o : Option ℕ). Some o) (operator_is i d e) in
       let none : operation_fault t x.d.durations d.op r.vertex (Some d.operator) ≡ None
-      = sym (ap (λ (n : ℕ). operation_fault t x.d.durations n r.vertex (Some d.operator)) zero_more) ∙ no_fault t x.d.durations 0 g.vertices os operations_are d.op r.vertex (Some d.operator) r.there on in
+      = sym (ap (λ (n : ℕ). operation_fault t x.d.durations n r.vertex (Some d.operator)) zero_more)
+      ∙ no_fault t x.d.durations 0 g.vertices os operations_are d.op r.vertex (Some d.operator) r.there on in
       let act = (right_at g a (entry_in t) s valid i (run d) e).act in
       let free = and_parts _ (have_ended (is_on d.operator) (take i (acts s)) d.start) act in
       let new = and_parts _ (not (list_any (runs d.op) (take i (acts s)))) free.0 in
       let long = and_parts _ (lasts (entry_in t d.op d.operator) d.start d.end) new.0 in
       let at = ticks_at x.d.durations g.vertices os d.op r.vertex (Some d.operator) r.there on in
       let here : slice_get ticks d.op ≡ Some (unwrap_or (entry x.d.durations r.vertex d.operator) 0)
-      = ap (λ (l : List ℕ). slice_get l d.op) (sym x.is) ∙ at_front (operations_ticks x.d.durations g.vertices os) (map (transfer_ticks g.vertices x.d.archi.media) (transfers_of s.decisions)) d.op _ at in
+      = ap (λ (l : List ℕ). slice_get l d.op) (sym x.is)
+      ∙ at_front (operations_ticks x.d.durations g.vertices os) (map (transfer_ticks g.vertices x.d.archi.media) (transfers_of s.decisions)) d.op _ at in
       let is : number_or 0 (slice_get ticks d.op) ≡ unwrap_or (entry x.d.durations r.vertex d.operator) 0 = ap (number_or 0) here in
       let within = in_time r.vertex.def (entry_in t d.op d.operator) (entry x.d.durations r.vertex d.operator) none d.start d.end long.1 in
       omega arith
@@ -285,7 +347,8 @@ module _ (g : Graph) (a : Architecture) (t : Table) (s : Schedule) (valid : is_v
       let c = count_by is_transfer (take i (acts s)) in
       let at = mapped f (transfers_of s.decisions) c u (carried_at s.decisions u i e) in
       let here : slice_get ticks (length g.vertices + c) ≡ Some (f u)
-      = ap (λ (l : List ℕ). slice_get l (length g.vertices + c)) (sym x.is) ∙ ap (λ (n : ℕ). slice_get (ops ++ map f (transfers_of s.decisions)) (n + c)) (sym many) ∙ at_back ops (map f (transfers_of s.decisions)) c ∙ at in
+      = ap (λ (l : List ℕ). slice_get l (length g.vertices + c)) (sym x.is)
+      ∙ ap (λ (n : ℕ). slice_get (ops ++ map f (transfers_of s.decisions)) (n + c)) (sym many) ∙ at_back ops (map f (transfers_of s.decisions)) c ∙ at in
       let is : number_or 0 (slice_get ticks (length g.vertices + c)) ≡ f u = ap (number_or 0) here in
       let act = (right_at g a (entry_in t) s valid i (carry u) e).act in
       let parts = and_parts (is_carried (slice_get a.media u.medium) (len_of g.vertices u.source) u && have_ended (is_over u.medium) (take i (acts s)) u.start) _ act in
@@ -300,7 +363,9 @@ module _ (g : Graph) (a : Architecture) (t : Table) (s : Schedule) (valid : is_v
       let w = run_within i d e in
       omega arith
   within i (carry u) e =
-      let at : entry_of g.vertices (acts s) i ≡ length g.vertices + count_by is_transfer (take i (acts s)) = ap (λ (o : Option Act). with_act o (entry_at (length g.vertices) (count_by is_transfer (take i (acts s))))) e in
+      let at : entry_of g.vertices (acts s) i
+      ≡ length g.vertices + count_by is_transfer (take i (acts s)) =
+      ap (λ (o : Option Act). with_act o (entry_at (length g.vertices) (count_by is_transfer (take i (acts s))))) e in
       let same = ap (λ (n : ℕ). number_or 0 (slice_get ticks n)) at in
       let w = carry_within i u e in
       omega arith

@@ -27,7 +27,8 @@ module _ (g : Graph) (s : Schedule) (reactions : List (List Span)) (when : ℕ �
   abbrev pub Agree : ℕ → Type 0
   Agree k = (i : ℕ) (x : Act) → slice_get (acts s) i ≡ Some x → span_at reactions k (entry_of g.vertices (acts s) i) ≡ when k i x
 
-  entry_is : (pre : List Act) (x : Act) (ys : List Act) (next : ℕ) → acts s ≡ pre ++ x ∷ ys → next ≡ length g.vertices + count_by is_transfer pre → entry_of g.vertices (acts s) (length pre) ≡ entry_after next x
+  entry_is : (pre : List Act) (x : Act) (ys : List Act) (next : ℕ) → acts s ≡ pre ++ x ∷ ys → next
+      ≡ length g.vertices + count_by is_transfer pre → entry_of g.vertices (acts s) (length pre) ≡ entry_after next x
   entry_is pre x ys next e c =
       ap (λ (xs : List Act). entry_of g.vertices xs (length pre)) e
       ∙ ap (λ (o : Option Act). with_act o (entry_at (length g.vertices) (count_by is_transfer (take (length pre) (pre ++ x ∷ ys))))) (seam pre x ys)

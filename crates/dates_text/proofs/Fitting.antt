@@ -14,7 +14,8 @@ use Rattle.actual_durations.proofs.Placed.{ops_there}
 use Rattle.dates_text.specs.Printed.{EachFits, Fit, HaveSpans}
 use Rattle.dates_text.proofs.Counting.{count_run, counted}
 
-fits : (operations entries next : ℕ) (ds : List Decision) → All (λ (d : Decision). d.op < operations) ds → operations ≤ entries → next + count_by is_transfer (acts_of ds) ≤ entries → Fit entries next ds
+fits : (operations entries next : ℕ) (ds : List Decision) → All (λ (d : Decision). d.op < operations) ds → operations ≤ entries
+    → next + count_by is_transfer (acts_of ds) ≤ entries → Fit entries next ds
 fits operations entries next [] ops low room = tt
 fits operations entries next (d ∷ ds) ops low room =
     let z = counted d.transfers (run d ∷ acts_of ds) in

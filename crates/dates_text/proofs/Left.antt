@@ -62,7 +62,8 @@ module _ (g : Graph) (a : Architecture) where
   pub one : (old now : Bytes) (d : Dated) → now ≡ old ++ line_text (dated_line g a d) → Appends g a old now (end_in_date d) (d ∷ [])
   one old now d is = record { text = is ∙ ap (λ (l : Bytes). old ++ l) (sym (append-nil (line_text (dated_line g a d)))); latest = omega arith }
 
-  pub both : (old mid now : Bytes) (first second end : ℕ) (ds es : List Dated) → Appends g a old mid first ds → Appends g a mid now second es → end ≡ max second first → Appends g a old now end (ds ++ es)
+  pub both : (old mid now : Bytes) (first second end : ℕ) (ds es : List Dated) → Appends g a old mid first ds
+      → Appends g a mid now second es → end ≡ max second first → Appends g a old now end (ds ++ es)
   both old mid now first second end ds es x y is = record {
     text = y.text ∙ ap (λ (l : Bytes). l ++ lines_text g a es) x.text ∙ append_assoc old (lines_text g a ds) (lines_text g a es) ∙ ap (λ (l : Bytes). old ++ l) (sym (lines-append g a ds es));
     latest = (let z = latest-append ds es in let p = x.latest in let q = y.latest in omega arith);
@@ -71,7 +72,8 @@ module _ (g : Graph) (a : Architecture) where
   pub begins : (old : Bytes) (all : List Dated) → IsLeft g a old old 0 all all
   begins old all = record { text = refl; end = omega arith }
 
-  pub goes_on : (old now later : Bytes) (latest end after : ℕ) (ds left next all : List Dated) → IsLeft g a old now latest left all → left ≡ ds ++ next → Appends g a now later end ds → after ≡ max end latest → IsLeft g a old later after next all
+  pub goes_on : (old now later : Bytes) (latest end after : ℕ) (ds left next all : List Dated) → IsLeft g a old now latest left all → left
+      ≡ ds ++ next → Appends g a now later end ds → after ≡ max end latest → IsLeft g a old later after next all
   goes_on old now later latest end after ds left next all l e x is = record {
     text = ap (λ (b : Bytes). b ++ lines_text g a next) x.text ∙ append_assoc now (lines_text g a ds) (lines_text g a next)
         ∙ ap (λ (b : Bytes). now ++ b) (sym (lines-append g a ds next) ∙ ap (λ (b : List Dated). lines_text g a b) (sym e)) ∙ l.text;

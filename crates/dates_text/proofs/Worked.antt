@@ -3,6 +3,7 @@ use Rattle.std.proofs.Common.{◌≡◌, ℕ, false, List, [], ◌∷◌, None, 
 use Rattle.std.specs.Fmt.{decimal}
 use Rattle.syn_base.specs.Bytes.{Bytes}
 use Rattle.timing_chart.specs.Chart.{Line}
+use Rattle.self_timed.specs.declared.MediumKind.TheVariants.{PointToPoint}
 use Rattle.self_timed.specs.declared.Source.{Source}
 use Rattle.self_timed.specs.declared.Vertex.{Vertex}
 use Rattle.self_timed.specs.declared.Kind.{Kind}
@@ -51,7 +52,7 @@ plain_lines = refl
 abbrev bus_archi : ℕ → Architecture
 bus_archi depth = record {
   operators = codes "P" ∷ codes "Q" ∷ [];
-  media = record { name = codes "bus"; multi = false; fixed = 1; per = 1; stands = 0 ∷ 1 ∷ [] } ∷ [];
+  media = record { name = codes "bus"; kind = PointToPoint; fixed = 1; per = 1; stands = 0 ∷ 1 ∷ [] } ∷ [];
   depth = depth;
 }
 

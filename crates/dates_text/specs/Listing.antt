@@ -32,7 +32,7 @@ latest_end ds = greatest (map end_in_date ds)
 
 -- Act i of reaction k, which is x, takes `when k i x`.
 module _ (when : ℕ → ℕ → Act → Span) where
-  -- these acts in reaction k, of which the first has number i
+  -- These acts with their dates in reaction k, of which the first has number i.
   abbrev pub dated_from : ℕ → ℕ → List Act → List Dated
   dated_from k i [] = []
   dated_from k i (x ∷ xs) = dated k (when k i x) x ∷ dated_from k (suc i) xs

@@ -220,7 +220,7 @@ frontier_text def (Join given outer) = give_text def (word_text word.Join) given
 abbrev pub frontiers_text : Bytes → List FrontierLine → Bytes
 frontiers_text def ls = flat_map (λ l. frontier_text def l.frontier) ls
 
--- the copies
+-- The node that says how many copies of a definition a repetition has.
 abbrev pub copies_text : Bytes → ℕ → Bytes → Bytes
 copies_text def copies of =
     node_text (rest_id def) (decimal copies ++ (word_text word.Copies ++ (of ++

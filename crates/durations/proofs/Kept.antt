@@ -1,5 +1,40 @@
 -- What each line of a text keeps of the durations, and so what they are in every text that is accepted.
-use Rattle.std.proofs.Common.{◌≡◌, ℕ, ◌+◌, ◌≤◌, ◌<◌, Bool, not, true, false, cond, ◌||◌, ◌&&◌, ◌==◌, if◌then◌else◌, List, [], ◌∷◌, ◌++◌, length, Option, Some, None, Result, Ok, Err, ℤ, pos, negsuc, position, nat_le, nat_lt, refl, subst, arith}
+use Rattle.std.proofs.Common.{
+  ◌≡◌,
+  ℕ,
+  ◌+◌,
+  ◌≤◌,
+  ◌<◌,
+  Bool,
+  not,
+  true,
+  false,
+  cond,
+  ◌||◌,
+  ◌&&◌,
+  ◌==◌,
+  if◌then◌else◌,
+  List,
+  [],
+  ◌∷◌,
+  ◌++◌,
+  length,
+  Option,
+  Some,
+  None,
+  Result,
+  Ok,
+  Err,
+  ℤ,
+  pos,
+  negsuc,
+  position,
+  nat_le,
+  nat_lt,
+  refl,
+  subst,
+  arith,
+}
 use Rattle.std.specs.Prelude.{codes, is_some, slice_index_or}
 use Rattle.std.specs.List.{list_any, position_or_len}
 use Rattle.std.specs.Str.{bytes_eq}
@@ -15,7 +50,37 @@ use Rattle.archi_defs.specs.declared.Medium.{Medium}
 use Rattle.archi_defs.specs.Refusals.{ArchiRefusal}
 use Rattle.archi_defs.specs.declared.fault.ArchiCause.TheVariants.{BadLine, BadName}
 use Rattle.syn_base.specs.Bytes.{Bytes}
-use Rattle.archi_defs.specs.Text.{Described, Reading, start, version_of, depth_of, depth_line, all_names, up_to, place_of, is_taken, medium_names, no_medium, version_line, operator_line, medium_line, connected, connect_line, duration_line, described_line, line_by, next_line, has_stands, media_are_right, all_joined, apart, whole_of, whole, rest_of, description_of}
+use Rattle.archi_defs.specs.Text.{
+  Described,
+  Reading,
+  start,
+  version_of,
+  depth_of,
+  depth_line,
+  all_names,
+  up_to,
+  place_of,
+  is_taken,
+  medium_names,
+  no_medium,
+  version_line,
+  operator_line,
+  medium_line,
+  connected,
+  connect_line,
+  duration_line,
+  described_line,
+  line_by,
+  next_line,
+  has_stands,
+  media_are_right,
+  all_joined,
+  apart,
+  whole_of,
+  whole,
+  rest_of,
+  description_of,
+}
 use Rattle.text_lines.specs.Refusals.{refused, with_some, and_then, is_above}
 use Rattle.durations.specs.Lines.{IsDuration, AreDurations}
 

@@ -1,6 +1,7 @@
 -- Tables computed for worked graphs: a column of get halves that says something else, or a row for a kind that is timed otherwise, breaks one of these.
 use Rattle.std.proofs.Common.{◌≡◌, ℕ, zero, suc, false, List, [], ◌∷◌, ◌++◌, Option, Some, None, Ok, pos, lit<, refl}
 use Rattle.std.specs.Prelude.{codes, slice_index_or, IsTrue}
+use Rattle.archi_defs.specs.declared.MediumKind.TheVariants.{PointToPoint}
 use Rattle.flat_graph.specs.declared.vertex.Kind.{Kind}
 use Rattle.flat_graph.specs.declared.vertex.Kind.TheVariants.{Sensor, Actuator, Get, Set}
 use Rattle.flat_graph.specs.declared.vertex.Source.{Source}
@@ -36,7 +37,7 @@ graph vertices = record { vertices = vertices; bodies = [] }
 abbrev described : Described
 described = record {
   version = 1;
-  archi = record { operators = codes "P" ∷ codes "Q" ∷ []; media = record { name = codes "bus"; multi = false; fixed = 1; per = 1; stands = 0 ∷ 1 ∷ [] } ∷ []; depth = 1 };
+  archi = record { operators = codes "P" ∷ codes "Q" ∷ []; media = record { name = codes "bus"; kind = PointToPoint; fixed = 1; per = 1; stands = 0 ∷ 1 ∷ [] } ∷ []; depth = 1 };
   durations = record { def = codes "s"; operator = 0; ticks = 3 } ∷ record { def = codes "a"; operator = 1; ticks = 5 } ∷ [];
 }
 

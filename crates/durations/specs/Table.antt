@@ -82,7 +82,7 @@ get_half_of x = half_by x.kind x.twin
 abbrev pub table : List Vertex → ℕ → List DurationLine → Table
 table vertices operators lines = of_columns operators (map (row operators lines) vertices) (map get_half_of vertices)
 
--- its definition has no duration on any operator, and needs one
+-- An operation lacks its duration: it needs one, and its definition has none on any operator.
 abbrev pub is_missing : List DurationLine → Vertex → Bool
 is_missing lines x = is_timed x.kind && not (is_given lines x.def)
 

@@ -20,6 +20,6 @@ pub use table::Durations;
 
 // What the clauses here speak of: flat graphs and architectures.
 pub use archi_defs::{
-    Archi, ArchiCause, ArchiError, ArchiText, DurationLine, Hop, Medium, Seq, is_archi,
+    Archi, ArchiCause, ArchiError, ArchiText, DurationLine, Hop, Medium, MediumKind, Seq, is_archi,
 };
 pub use flat_graph::{Flat, Guard, Kind, Source, Vertex, is_flat, len_of};

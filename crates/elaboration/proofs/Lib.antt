@@ -4,5 +4,7 @@ pub mod Trees
 pub mod Walks
 pub mod Worked
 pub mod Resolved
-pub mod Bounded
+pub mod PrunedMarks
+pub mod PrunedMeaning
+pub mod Answered
 pub mod Whole

@@ -3,6 +3,7 @@ use Rattle.std.proofs.Common.{◌≡◌, ℕ, ◌+◌, ◌<◌, Bool, true, fals
 use Rattle.std.specs.Prelude.{slice_get}
 use Rattle.std.proofs.lemmas.List.{get_or-map}
 use Rattle.syn_base.specs.Bytes.{Bytes}
+use Rattle.algo_laws.specs.Refusals.{AlgoError}
 use Rattle.algo_check.specs.Placing.{places_of}
 use Rattle.algo_check.proofs.Firsts.{one_told}
 use Rattle.algo_check.proofs.Fresh.{from_here}
@@ -13,7 +14,6 @@ use Rattle.algo_laws.specs.declared.Edge.{Edge}
 use Rattle.algo_laws.specs.declared.Body.{Body}
 use Rattle.algo_laws.specs.declared.Body.TheVariants.{Graph}
 use Rattle.algo_laws.specs.declared.Port.{Port}
-use Rattle.algo_laws.specs.declared.AlgoError.{AlgoError}
 use Rattle.algo_laws.specs.declared.AlgoCause.TheVariants.{BadEvery}
 use Rattle.algo_laws.specs.RuleLinks.{fault, first_of, definition, mentions_in}
 use Rattle.algo_laws.specs.Returned.{Tells}

@@ -1,64 +1,78 @@
 -- The tree of an accepted text.
-use Rattle.std.proofs.Common.{◌≡◌, ℕ, ◌≤◌, Bool, true, false, List, get_or, Option, Some, None, Result, Ok, Err, refl, subst, nat_lt, if◌then◌else◌}
+use Rattle.std.proofs.Common.{◌≡◌, ℕ, ◌≤◌, Bool, true, false, List, get_or, Option, Some, None, Result, Ok, Err, refl, subst, ◌∙◌, nat_lt, if◌then◌else◌}
 use Rattle.std.specs.List.{All}
 use Rattle.std.proofs.lemmas.Bool.{ltb-false}
+use Rattle.syn_base.specs.declared.limits.LimitFault.{LimitFault}
 use Rattle.syn_base.specs.declared.limits.LimitKind.TheVariants.{Operations}
 use Rattle.syn_base.specs.Limits.{bound_of}
+use Rattle.text_lines.specs.Refusals.{Limit}
+use Rattle.algo_laws.specs.Refusals.{AlgoRefusal}
 use Rattle.algo_laws.specs.Tree.{Vertex}
 use Rattle.algo_laws.specs.Counted.{operations}
 use Rattle.algo_laws.specs.declared.Def.{Def}
 use Rattle.algo_laws.specs.declared.Reference.{Reference}
-use Rattle.algo_laws.specs.declared.AlgoError.{AlgoError}
-use Rattle.algo_laws.specs.declared.AlgoError.TheVariants as error
 use Rattle.algo_laws.specs.Resolved.{resolution_of}
 use Rattle.algo_laws.specs.WellRead.{AreWellRead}
 use Rattle.algo_laws.specs.Periods as text
 use Rattle.algo_laws.proofs.Lines.{accepted_well}
 use Rattle.algo_laws.proofs.Marks.{accepted_marked}
-use Rattle.multi_period.specs.declared.fault.PeriodError.TheVariants.{Limit}
 use Rattle.multi_period.specs.declared.mark.Mark.{Mark}
 use Rattle.multi_period.specs.Periods.{periods}
 use Rattle.multi_period.proofs.Main.{periods-keep}
-use Rattle.multi_period.proofs.Names.{names-keep, bounds-keep}
 use Rattle.multi_period.proofs.Trees.{tree-made}
 use Rattle.elaboration.specs.Marking.{marking_of}
 use Rattle.elaboration.specs.Stand.{IsPeriod, HavePeriods}
 use Rattle.elaboration.proofs.Trees.{marks_stand}
 use Rattle.elaboration.specs.Elaborated.{made_by, marked_by, resolved_by}
 use Rattle.elaboration.specs.Laws.{AcceptedAreElaborated, IsElaborated}
-use Rattle.elaboration.proofs.Resolved.{not_given, same_tree, sound}
+use Rattle.wiring_laws.specs.Pruned.{pruned}
+use Rattle.wiring_laws.proofs.Valid.{tree-pruned}
+use Rattle.elaboration.proofs.PrunedMarks.{stand-pruned}
+use Rattle.elaboration.proofs.PrunedMeaning.{acts-pruned}
+use Rattle.elaboration.proofs.Resolved.{not_given, resolved_tree, same_tree}
 use Rattle.algo_laws.specs.Periods.{references_of}
+
+-- the made tree, or so many operations, which are too many
+abbrev within : Vertex → Result Vertex LimitFault
+within made = Ok made
+
+abbrev above : ℕ → Result Vertex LimitFault
+above count = Err (record { which = Operations; count = count; bound = bound_of Operations })
 
 module _ (ds : List Def) (read : AreWellRead ds) (have : HavePeriods ds) where
   module _ (resolved : Vertex) (marks : List Mark) (r : resolution_of ds ≡ Ok resolved) (m : marking_of ds ≡ Ok marks) where
-    whole : operations (periods marks resolved) ≤ 2048 → IsElaborated ds (periods marks resolved)
+    abbrev tree : Vertex
+    tree = pruned resolved
+
+    whole : operations (periods marks tree) ≤ 2048 → IsElaborated ds (periods marks tree)
     whole few =
-        let s = sound ds resolved read r in
-        let stand = marks_stand ds resolved marks read have r m in
+        let whole-tree = resolved_tree ds resolved read r in
+        let cut = tree-pruned resolved whole-tree in
+        let may = marks_stand ds resolved marks read have r m in
+        let stand = stand-pruned marks resolved may in
         record {
           resolved = resolved;
           marks = marks;
           resolves = r;
           marked = m;
-          may = stand.may;
+          may = may;
           made_is = refl;
-          meaning = periods-keep marks resolved s.tree stand.may.stand;
-          tree = tree-made marks resolved s.tree stand.may.stand few;
-          named = names-keep marks resolved stand.may.stand stand.named s.named;
-          bounded = bounds-keep marks resolved s.bounded;
+          meaning = λ rows k. periods-keep marks tree cut stand.stand rows k ∙ acts-pruned marks resolved whole-tree rows k;
+          tree = tree-made marks tree cut stand.stand few;
         }
 
-    by_size : (made : Vertex) (b : Bool) → nat_lt 2048 (operations (periods marks resolved)) ≡ b
-        → made_by (if b then Err (Limit (record { which = Operations; count = operations (periods marks resolved); bound = bound_of Operations })) else Ok (periods marks resolved)) ≡ Ok made
+    by_size : (made : Vertex) (b : Bool) → nat_lt 2048 (operations (periods marks tree)) ≡ b
+        → made_by (if b then above (operations (periods marks tree)) else within (periods marks tree)) ≡ Ok made
         → IsElaborated ds made
-    by_size made true t e = absurd (not_given (error.Limit (record { which = Operations; count = operations (periods marks resolved); bound = bound_of Operations })) made e)
-    by_size made false f e = subst (IsElaborated ds) (same_tree (periods marks resolved) made e) (whole (ltb-false 2048 (operations (periods marks resolved)) f))
+    by_size made true t e = absurd (not_given (Limit (record { which = Operations; count = operations (periods marks tree); bound = bound_of Operations })) made e)
+    by_size made false f e = subst (IsElaborated ds) (same_tree (periods marks tree) made e) (whole (ltb-false 2048 (operations (periods marks tree)) f))
 
-  by_marks : (resolved : Vertex) → resolution_of ds ≡ Ok resolved → (o : Result (List Mark) AlgoError) → marking_of ds ≡ o → (made : Vertex) → marked_by resolved o ≡ Ok made → IsElaborated ds made
-  by_marks resolved r (Ok marks) m made e = by_size resolved marks r m made (nat_lt 2048 (operations (periods marks resolved))) refl e
+  by_marks : (resolved : Vertex) → resolution_of ds ≡ Ok resolved → (o : Result (List Mark) AlgoRefusal) → marking_of ds ≡ o
+      → (made : Vertex) → marked_by (pruned resolved) o ≡ Ok made → IsElaborated ds made
+  by_marks resolved r (Ok marks) m made e = by_size resolved marks r m made (nat_lt 2048 (operations (periods marks (pruned resolved)))) refl e
   by_marks resolved r (Err fault) m made e = absurd (not_given fault made e)
 
-  by_tree : (o : Result Vertex AlgoError) → resolution_of ds ≡ o → (made : Vertex) → resolved_by ds o ≡ Ok made → IsElaborated ds made
+  by_tree : (o : Result Vertex AlgoRefusal) → resolution_of ds ≡ o → (made : Vertex) → resolved_by ds o ≡ Ok made → IsElaborated ds made
   by_tree (Ok resolved) r made e = by_marks resolved r (marking_of ds) refl made e
   by_tree (Err fault) r made e = absurd (not_given fault made e)
 

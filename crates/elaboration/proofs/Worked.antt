@@ -1,9 +1,9 @@
 -- Worked texts: a sensor and a function in `main`, and another graph that refers to the function before it.
 use Rattle.std.proofs.Common.{◌≡◌, ℕ, List, [], ◌∷◌, Option, Some, None, refl}
 use Rattle.std.specs.Prelude.{Ok, Err, codes}
+use Rattle.text_lines.specs.Refusals.{Refused}
 use Rattle.algo_laws.specs.declared.Def.{Def}
 use Rattle.algo_laws.specs.declared.Body.TheVariants.{Sensor, Function, Graph, Delay}
-use Rattle.algo_laws.specs.declared.AlgoError.TheVariants.{Refused}
 use Rattle.algo_laws.specs.declared.AlgoCause.TheVariants.{BadEvery}
 use Rattle.elaboration.specs.Marking.{marking_of}
 

@@ -22,10 +22,10 @@ use Rattle.std.specs.Prelude.{
 }
 use Rattle.std.specs.List.{flat_map}
 use Rattle.syn_base.specs.Bytes.{Bytes}
+use Rattle.algo_laws.specs.Refusals.{AlgoRefusal}
 use Rattle.multi_period.specs.declared.mark.Mark.{Mark}
 use Rattle.algo_laws.specs.declared.Def.{Def}
 use Rattle.algo_laws.specs.declared.Reference.{Reference}
-use Rattle.algo_laws.specs.declared.AlgoError.{AlgoError}
 use Rattle.algo_laws.specs.declared.AlgoCause.TheVariants.{BadEvery}
 use Rattle.algo_laws.specs.RuleLinks.{fault, first_of, definition, is_main, may_be_inner}
 use Rattle.algo_laws.specs.Periods.{references_of}
@@ -45,11 +45,11 @@ abbrev pub may_stand : Bytes → Reference → Option Def → Bool
 may_stand owner r o = may_stand_by (is_main owner && may_be_marked o) r.every
 
 -- The refusal of a reference in this definition, at its line, if it has a mark and may have none.
-abbrev pub bad_by : List Def → Bytes → Reference → Option AlgoError
+abbrev pub bad_by : List Def → Bytes → Reference → Option AlgoRefusal
 bad_by ds owner r = if may_stand owner r (definition ds r.def) then None else fault r.line (BadEvery r.name)
 
 -- The first reference with a mark that may have none: one outside `main`, or to what may have no mark.
-abbrev pub bad_every : List Def → Option AlgoError
+abbrev pub bad_every : List Def → Option AlgoRefusal
 bad_every ds = first_of (flat_map (λ d. map (bad_by ds d.name) (references_of d.body)) ds)
 
 -- A list that holds the mark of reference k, or nothing if it has none.
@@ -69,10 +69,10 @@ marks_in None = []
 marks_in (Some d) = marks_from 0 (references_of d.body)
 
 -- The marks of the main graph, or this refusal, if there is one.
-abbrev pub marking_by : List Def → Option AlgoError → Result (List Mark) AlgoError
+abbrev pub marking_by : List Def → Option AlgoRefusal → Result (List Mark) AlgoRefusal
 marking_by ds None = Ok (marks_in (definition ds (codes "main")))
 marking_by ds (Some e) = Err e
 
 -- The marks of the definitions of a text, or their first refusal.
-abbrev pub marking_of : List Def → Result (List Mark) AlgoError
+abbrev pub marking_of : List Def → Result (List Mark) AlgoRefusal
 marking_of ds = marking_by ds (bad_every ds)

@@ -1,11 +1,10 @@
 -- Accepted marks may stand in the tree that the definitions resolve to.
 use Rattle.std.specs.Prelude.{◌≡◌, ℕ, ◌≤◌, List, Option, Some, None, Ok, All}
 use Rattle.multi_period.specs.declared.mark.Mark.{Mark}
-use Rattle.multi_period.specs.Marks.{mark_at, MayHaveMarks}
-use Rattle.multi_period.specs.Named.{AreNamed}
+use Rattle.multi_period.specs.Marks.{MayHaveMarks}
 use Rattle.elaboration.specs.Marking.{marking_of}
+use Rattle.wiring_laws.specs.Pruned.{pruned}
 use Rattle.algo_laws.specs.Tree.{Vertex}
-use Rattle.algo_laws.specs.Meaning.{vertices_in}
 use Rattle.algo_laws.specs.declared.Def.{Def}
 use Rattle.algo_laws.specs.Resolved.{resolution_of}
 use Rattle.algo_laws.specs.WellRead.{AreWellRead}
@@ -20,15 +19,10 @@ IsPeriod (Some n) = (1 ≤ n) × (n ≤ 16)
 abbrev pub HavePeriods : List Def → Type 0
 HavePeriods ds = All (λ d. All (λ r. IsPeriod r.every) (references_of d.body)) ds
 
--- The marks are on references that may have them, whose outputs have names.
-pub record Stand (marks : List Mark) (main : Vertex) : Type 0 where
-  pub may : MayHaveMarks marks main
-  pub named : AreNamed (mark_at marks) (vertices_in main)
-
--- If well-read definitions resolve to a tree and their marks, numbers from 1 to 16, are accepted,
--- then the marks are on references of that tree that may have them and whose outputs have names.
+-- If well-read definitions resolve to a tree and their marks, numbers from 1 to 16, are accepted, then the marks are on
+-- references of that tree that may have them, and so they are in the pruned tree.
 abbrev pub AcceptedMarksStand : Type 0
 AcceptedMarksStand =
     (ds : List Def) (main : Vertex) (marks : List Mark) →
     AreWellRead ds → HavePeriods ds → resolution_of ds ≡ Ok main → marking_of ds ≡ Ok marks →
-    Stand marks main
+    MayHaveMarks marks main × MayHaveMarks marks (pruned main)

@@ -1,5 +1,6 @@
-//! Makes the tree that an algorithm text means: the one to which its definitions resolve, with a graph in the
-//! place of each reference that runs in every nth reaction.
+//! Makes the tree that an algorithm text means: the one to which its definitions resolve, pruned of what is
+//! inside units that stand for no operation, with a graph in the place of each reference that runs in every nth
+//! reaction.
 //!
 //! `elaborate` makes it of the definitions that were read, and the law says what the tree of an accepted text
 //! is. `syndex_program` calls it, and `accepted_laws` stands on the law.
@@ -15,35 +16,27 @@ mod standing;
 
 ghost use Rattle.std.specs.Prelude.{◌≡◌, ◌≤◌, IfOk, length};
 ghost use Rattle.syn_base.specs.Limits.{most_in_text};
-ghost use Rattle.algo_laws.specs.Returned.{Gives};
+ghost use Rattle.text_lines.specs.Refusals.{Gives};
 ghost use Rattle.algo_laws.specs.WellRead.{AreWellRead};
-ghost use Rattle.algo_laws.specs.Size.{vertices_made};
-ghost use Rattle.algo_laws.specs.Bounded.{HasBounds};
-ghost use Rattle.algo_laws.specs.Named.{HasNames};
 ghost use Rattle.elaboration.specs.Stand.{HavePeriods};
-ghost use Rattle.elaboration.specs.Elaborated.{bounded_elaboration, of_periods};
+ghost use Rattle.elaboration.specs.Elaborated.{elaboration_of, of_periods};
 ghost use Rattle.elaboration.specs.Laws.{AcceptedAreElaborated};
 
-use algo_laws::{AlgoError, Defs, Tree, is_large};
+use algo_laws::{AlgoError, Defs, Tree};
 use algo_resolve::resolve;
 pub use mark_laws::accepted_marks_stand;
 pub use marking::marks;
 use multi_period::{PeriodError, periods};
 use std::alloc::Global;
 
-/// The tree of the definitions of a text, or their first refusal: those of resolving, the bound on vertices
-/// as its last one; then a mark where none may stand; then the limit on the operations of the tree in which
-/// the marked references have become graphs; and then the bound on the vertices of that tree, so that every
-/// tree that is answered is one that `simulate` and `unroll` take. OutOfMemory may come in place of any
-/// result, where memory runs out.
+/// The tree of the definitions of a text, or their first refusal: those of resolving; then a mark where none
+/// may stand; and then the limit on the operations of the tree in which the marked references have become
+/// graphs. OutOfMemory may come in place of any result, where memory runs out.
 pub fn elaborate(alloc: Global, defs: &Defs) -> Result<Tree, AlgoError>
     requires read { AreWellRead defs.now.defs }
     requires periods { HavePeriods defs.now.defs }
     requires few { length defs.now.defs ≤ most_in_text }
-    ensures gives { Gives result (bounded_elaboration defs.now) }
-    ensures named { IfOk result (λ t. HasNames t) }
-    ensures bounded { IfOk result (λ t. HasBounds t) }
-    ensures few { IfOk result (λ t. vertices_made t ≤ 262144) }
+    ensures { Gives result (elaboration_of defs.now) }
 {
     let tree = resolve(alloc, defs)?;
     let marks = marks(alloc, defs)?;
@@ -53,12 +46,7 @@ pub fn elaborate(alloc: Global, defs: &Defs) -> Result<Tree, AlgoError>
     // That the marks may stand in the tree, which `periods` asks for.
     accepted_marks_stand();
     match periods(alloc, &tree, &marks) {
-        Ok(made) => {
-            if is_large(made.main()) {
-                return Err(AlgoError::TooLarge);
-            }
-            Ok(made)
-        }
+        Ok(made) => Ok(made),
         Err(error) => Err(refusal_of(error)),
     }
 }
@@ -73,8 +61,8 @@ fn refusal_of(error: PeriodError) -> AlgoError
     }
 }
 
-/// The tree of an accepted text is a tree, with names and bounds, and its actuators take what the meaning of
-/// the tree that the definitions resolve to says with their marks: in a reaction that its number does not divide
+/// The tree of an accepted text is a tree, and its actuators take what the meaning of
+/// the whole tree that the definitions resolve to says with their marks: in a reaction that its number does not divide
 /// a marked reference gives what it gave in the last that it divides, and its delays stand still.
 pub fn accepted_are_elaborated()
     ensures { AcceptedAreElaborated }

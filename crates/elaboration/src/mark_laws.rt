@@ -2,7 +2,7 @@
 ghost use Rattle.elaboration.specs.Stand.{AcceptedMarksStand};
 
 /// Of definitions as an accepted text has them, that resolve to a tree and whose marks are accepted, each mark
-/// is on a reference of the main graph that may have one, and the outputs of these references have names.
+/// is on a reference of the main graph that may have one; in the pruned tree too.
 pub fn accepted_marks_stand()
     ensures { AcceptedMarksStand }
 {}

@@ -1,11 +1,11 @@
 //! The marks on the references of `main`: `marks`, which `elaboration` calls.
 ghost use Rattle.std.specs.Prelude.{◌≡◌, ◌≤◌, IfOk, None, codes, length, map};
 ghost use Rattle.syn_base.specs.Limits.{most_in_text};
+ghost use Rattle.text_lines.specs.Refusals.{GivesList};
 ghost use Rattle.elaboration.specs.Marking.{marking_of, marks_from, marks_in};
 ghost use Rattle.algo_laws.specs.Well.{AreDistinctNames};
 ghost use Rattle.algo_laws.specs.RuleLinks.{definition};
 ghost use Rattle.algo_laws.specs.Resolved.{refusal};
-ghost use Rattle.algo_laws.specs.Returned.{GivesList};
 ghost use Rattle.algo_laws.specs.Periods.{references_of};
 
 use crate::standing::check_marks;

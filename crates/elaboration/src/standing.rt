@@ -8,19 +8,17 @@ ghost use Rattle.algo_laws.specs.Returned.{Tells};
 ghost use Rattle.elaboration.specs.Marking.{may_be_marked, may_stand as stands};
 ghost use Rattle.elaboration.specs.Walked.{bad_all, bad_in, bad_of, places_in};
 
-use algo_laws::{AlgoCause, AlgoError, AlgoFault, Body, Def, Reference};
+use algo_laws::{AlgoCause, AlgoError, Body, Def, Reference};
 use std::alloc::Global;
 use syn_base::{Items, Name};
+use text_lines::refused_at;
 
 /// The refusal of the mark of this reference, or want of memory for its name.
 fn bad_every(alloc: Global, line: u32, name: &Name) -> AlgoError
     ensures { Tells result (fault line (BadEvery name.now)) }
 {
     match name.copy(alloc) {
-        Ok(name) => AlgoError::Refused(AlgoFault {
-            line,
-            cause: AlgoCause::BadEvery(name),
-        }),
+        Ok(name) => refused_at(line, AlgoCause::BadEvery(name)),
         Err(_) => AlgoError::OutOfMemory,
     }
 }

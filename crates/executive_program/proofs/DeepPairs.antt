@@ -1,5 +1,38 @@
 -- In a well-formed program the looks of one reaction are two for each pair of a buffer of several places, and these pairs are those that the prologues open several times.
-use Rattle.std.proofs.Common.{◌≡◌, ℕ, zero, suc, ◌+◌, ◌*◌, ◌<◌, ◌≤◌, ◌⊎◌, inl, inr, Bool, true, false, cond, nat_eq, nat_lt, List, [], ◌∷◌, ◌++◌, length, Option, Some, None, refl, sym, ap, subst, arith, ◌∙◌, zero-add}
+use Rattle.std.proofs.Common.{
+  ◌≡◌,
+  ℕ,
+  zero,
+  suc,
+  ◌+◌,
+  ◌*◌,
+  ◌<◌,
+  ◌≤◌,
+  ◌⊎◌,
+  inl,
+  inr,
+  Bool,
+  true,
+  false,
+  cond,
+  nat_eq,
+  nat_lt,
+  List,
+  [],
+  ◌∷◌,
+  ◌++◌,
+  length,
+  Option,
+  Some,
+  None,
+  refl,
+  sym,
+  ap,
+  subst,
+  arith,
+  ◌∙◌,
+  zero-add,
+}
 use Rattle.std.specs.Prelude.{slice_get}
 use Rattle.std.specs.List.{sum_by}
 use Rattle.std.proofs.lemmas.Bool.{cases_eq, cases_lt, eq-eqb, ne_eqb, lt-ltb}
@@ -55,12 +88,16 @@ opened_new n zero last again h = refl
 opened_new n (suc zero) last again h = rw (not_last n last h) refl
 opened_new n (suc (suc k)) last again h = rw (not_last n last h, is_same n) (let e = counted n k in let t : several (suc (suc k)) ≡ 1 = rw (lt-ltb 1 (suc (suc k)) (omega arith)) refl in omega arith)
 
-opened_more : (n k : ℕ) (last : Option ℕ) (again : Bool) (xs : List Instr) → LastBelow n last → OpensBelow n xs → opened_after last again (xs ++ repeated (Pre0 n) k) ≡ opened_after last again xs + several k
+opened_more : (n k : ℕ) (last : Option ℕ) (again : Bool) (xs : List Instr) → LastBelow n last → OpensBelow n xs
+    → opened_after last again (xs ++ repeated (Pre0 n) k) ≡ opened_after last again xs + several k
 opened_more n k last again [] l h = opened_new n k last again l ∙ sym (zero-add (several k))
 opened_more n k last again (Pre0 q ∷ xs) l h = by (opened_more n k last true xs l h.1) (opened_more n k (Some q) false xs h.0 h.1) (is_last q last) again
   where
-    by : opened_after last true (xs ++ repeated (Pre0 n) k) ≡ opened_after last true xs + several k → opened_after (Some q) false (xs ++ repeated (Pre0 n) k) ≡ opened_after (Some q) false xs + several k
-        → (b c : Bool) → cond b (cond c 0 1 + opened_after last true (xs ++ repeated (Pre0 n) k)) (opened_after (Some q) false (xs ++ repeated (Pre0 n) k)) ≡ cond b (cond c 0 1 + opened_after last true xs) (opened_after (Some q) false xs) + several k
+    by : opened_after last true (xs ++ repeated (Pre0 n) k) ≡ opened_after last true xs + several k
+        → opened_after (Some q) false (xs ++ repeated (Pre0 n) k) ≡ opened_after (Some q) false xs + several k
+        → (b c : Bool) → cond b (cond c 0 1 + opened_after last true (xs ++ repeated (Pre0 n) k))
+        (opened_after (Some q) false (xs ++ repeated (Pre0 n) k))
+        ≡ cond b (cond c 0 1 + opened_after last true xs) (opened_after (Some q) false xs) + several k
     by e f true true = omega arith
     by e f true false = omega arith
     by e f false c = f
@@ -180,7 +217,9 @@ module _ (p : Program) (g : Graph) (seqs : List Seq) (media : ℕ) (order : List
     all_once : (home at : ℕ → ℕ) → ((q : ℕ) → q < P → IsOnly p (home q) (at q) (take q)) → sum_below (λ s. sum_by (λ x. sum_below (λ q. cond (takes q x) (D q) 0) P) (turn p s)) S ≡ sum_below D P
     all_once home at only =
         same_below (λ s. sum_by (λ x. sum_below (λ q. cond (takes q x) (D q) 0) P) (turn p s)) (λ s. sum_below (λ q. cond (nat_eq (home q) s) (D q) 0) P) S
-        (λ s l. summed (λ q x. cond (takes q x) (D q) 0) P (turn p s) ∙ same_below (λ q. sum_by (λ x. cond (takes q x) (D q) 0) (turn p s)) (λ q. cond (nat_eq (home q) s) (D q) 0) P (λ q k. once q (home q) (at q) s (only q k)))
+        (λ s l. summed (λ q x. cond (takes q x) (D q) 0) P (turn p s)
+        ∙ same_below (λ q. sum_by (λ x. cond (takes q x) (D q) 0) (turn p s)) (λ q. cond (nat_eq (home q) s) (D q) 0) P
+        (λ q k. once q (home q) (at q) s (only q k)))
         ∙ swapped (λ s q. cond (nat_eq (home q) s) (D q) 0) S P
         ∙ same_below (λ q. sum_below (λ s. cond (nat_eq (home q) s) (D q) 0) S) D P (λ q k. picked (λ s. D q) S (home q) (there (home q) (at q) (take q) (only q k).stands))
 
@@ -238,7 +277,8 @@ module _ (p : Program) (g : Graph) (seqs : List Seq) (media : ℕ) (order : List
   deep_are =
       sym (by_place (λ (o : Option SeqCode). opened_after None false (prologue_of o)) (λ (q : SeqCode). opened_after None false q.prologue) (λ q. refl) p.seqs)
       ∙ same_below (λ s. opened_after None false (prologue p s)) (λ s. sum_below (λ q. cond (nat_eq (reader p q).sequence s) (D q) 0) P) S
-      (λ s l. ap (opened_after None false) (prologue_is s l) ∙ opened_all (opening_signals p s) P ∙ same_below (λ q. several (opening_signals p s q)) (λ q. cond (nat_eq (reader p q).sequence s) (D q) 0) P (λ q k. opens q s k))
+      (λ s l. ap (opened_after None false) (prologue_is s l) ∙ opened_all (opening_signals p s) P
+      ∙ same_below (λ q. several (opening_signals p s q)) (λ q. cond (nat_eq (reader p q).sequence s) (D q) 0) P (λ q k. opens q s k))
       ∙ swapped (λ s q. cond (nat_eq (reader p q).sequence s) (D q) 0) S P
       ∙ same_below (λ q. sum_below (λ s. cond (nat_eq (reader p q).sequence s) (D q) 0) S) D P
       (λ q k. picked (λ s. D q) S (reader p q).sequence (there (pair p q).reader (pair p q).take_full (Suc1 q) (formed.pairs q k).take_full.stands))
@@ -247,7 +287,9 @@ module _ (p : Program) (g : Graph) (seqs : List Seq) (media : ℕ) (order : List
   pub looks_in_prologues : prologue_looks p ≡ 0
   looks_in_prologues =
       sym (by_place (λ (o : Option SeqCode). looks_in (pair_depth p) (prologue_of o)) (λ (q : SeqCode). looks_in (pair_depth p) q.prologue) (λ q. refl) p.seqs)
-      ∙ none_below (λ s. looks_in (pair_depth p) (prologue p s)) S (λ s l. ap (looks_in (pair_depth p)) (prologue_is s l) ∙ no_looks (pair_depth p) P (blocks (signals_of p s) P) (signals_below (opening_signals p s) P))
+      ∙ none_below (λ s. looks_in (pair_depth p) (prologue p s)) S
+      (λ s l. ap (looks_in (pair_depth p)) (prologue_is s l)
+      ∙ no_looks (pair_depth p) P (blocks (signals_of p s) P) (signals_below (opening_signals p s) P))
 
   pub looks_in_turns : turn_looks p ≡ 2 * deep_pairs p
   looks_in_turns = let a = looks_are in let b = deep_are in omega arith

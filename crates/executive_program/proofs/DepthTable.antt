@@ -21,7 +21,9 @@ module _ (p : Program) where
       more : suc (count_by (waits_for b) qs) ≡ 1 + count_by (waits_for b) qs
       more = omega arith
 
-      by : (t : Bool) → map places_of (cond t (record { buffer = b; sequence = s } ∷ readers_from (suc s) qs b) (readers_from (suc s) qs b)) ≡ replicate (cond t 1 0 + count_by (waits_for b) qs) (depth_of p b)
+      by : (t : Bool) → map places_of
+          (cond t (record { buffer = b; sequence = s } ∷ readers_from (suc s) qs b) (readers_from (suc s) qs b))
+          ≡ replicate (cond t 1 0 + count_by (waits_for b) qs) (depth_of p b)
       by true = ap (λ (l : List ℕ). depth_of p b ∷ l) rest ∙ ap (λ (n : ℕ). replicate n (depth_of p b)) more
       by false = rest ∙ ap (λ (n : ℕ). replicate n (depth_of p b)) (sym (zero-add (count_by (waits_for b) qs)))
 

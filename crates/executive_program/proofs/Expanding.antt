@@ -51,11 +51,13 @@ module _ (p : Program) (v loads micros : ℕ) where
       one = ap (λ (l : ℕ). blocks (store_step v loads micros b first) l) n ∙ ap (λ (r : ℕ). blocks (store_step v loads micros b r) (len_of p b)) f
           ∙ ap (store_steps p v loads micros (loads + sum_below (len_at p outs) k)) (sym s)
 
-pub same_call : (p : Program) (v : ℕ) (ins inputs outs outputs : List ℕ) (out new : List MicroStep) → ins ≡ inputs → outs ≡ outputs → new ≡ out ++ call_steps p v ins outs → new ≡ out ++ call_steps p v inputs outputs
+pub same_call : (p : Program) (v : ℕ) (ins inputs outs outputs : List ℕ) (out new : List MicroStep) → ins ≡ inputs → outs ≡ outputs → new
+    ≡ out ++ call_steps p v ins outs → new ≡ out ++ call_steps p v inputs outputs
 same_call p v ins inputs outs outputs out new a b e = e ∙ (λ i. out ++ call_steps p v (a i) (b i))
 
 -- one more instruction of a list, with the communications before it
-pub instr_more : (p : Program) (m : ℕ) (xs : List Instr) (k o n t : ℕ) (x : Instr) (start out new : List MicroStep) → slice_get xs k ≡ Some x → o ≡ m → n ≡ count_by is_communication xs → t ≡ count_by is_communication (take_list k xs)
+pub instr_more : (p : Program) (m : ℕ) (xs : List Instr) (k o n t : ℕ) (x : Instr) (start out new : List MicroStep) → slice_get xs k
+    ≡ Some x → o ≡ m → n ≡ count_by is_communication xs → t ≡ count_by is_communication (take_list k xs)
     → out ≡ start ++ blocks (steps_at p m xs) k → new ≡ out ++ steps_of p o n t x → new ≡ start ++ blocks (steps_at p m xs) (k + 1)
 instr_more p m xs k o n t x start out new s b a e h q = blocks_more (steps_at p m xs) k start out new h
     (q ∙ (λ i. out ++ steps_of p (b i) (a i) (e i) x) ∙ ap (λ (y : Option Instr). out ++ steps_in p m (count_by is_communication xs) (count_by is_communication (take_list k xs)) y) (sym s))

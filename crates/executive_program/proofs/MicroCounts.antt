@@ -10,7 +10,27 @@ use Rattle.executive_program.specs.declared.program.Instr.{Instr}
 use Rattle.executive_program.specs.declared.program.Instr.TheVariants.{Suc0, Suc1, Pre0, Pre1, Call, Send, Recv, Sync}
 use Rattle.executive_program.specs.Blocks.{blocks}
 use Rattle.executive_program.specs.Instructions.{is_communication, number_or, len_of, pair_depth, len_by}
-use Rattle.executive_program.specs.Steps.{take_steps, len_at, elements_in, load_step, store_step, load_steps, store_steps, input_steps, output_steps, call_steps, send_step, receive_step, steps_of, steps_in, steps_at, steps_in_list, steps_by, all_prologues, all_turns}
+use Rattle.executive_program.specs.Steps.{
+  take_steps,
+  len_at,
+  elements_in,
+  load_step,
+  store_step,
+  load_steps,
+  store_steps,
+  input_steps,
+  output_steps,
+  call_steps,
+  send_step,
+  receive_step,
+  steps_of,
+  steps_in,
+  steps_at,
+  steps_in_list,
+  steps_by,
+  all_prologues,
+  all_turns,
+}
 use Rattle.executive_program.proofs.Expanding.{blocks_length}
 use Rattle.executive_program.specs.Sizes.{looks_at, looks_of, looks_in, plain_of, plain_in, plain_prologues, plain_turns, prologue_looks, turn_looks, pair_depths}
 use Rattle.executive_program.proofs.DepthTable.{pair_depth_is}

@@ -66,7 +66,8 @@ from_readers s (q ∷ qs) b i x e = by (waits_for b q) refl i e (λ i. from_read
     by true t (suc i) e r = rest (r i e)
     by false t i e r = rest (r i e)
 
-pub to_readers : (s : ℕ) (qs : List SeqCode) (b k : ℕ) (q : SeqCode) → slice_get qs k ≡ Some q → waits_for b q ≡ true → (i : ℕ) × (slice_get (readers_from s qs b) i ≡ Some (record { buffer = b; sequence = s + k }))
+pub to_readers : (s : ℕ) (qs : List SeqCode) (b k : ℕ) (q : SeqCode) → slice_get qs k ≡ Some q → waits_for b q ≡ true → (i : ℕ)
+    × (slice_get (readers_from s qs b) i ≡ Some (record { buffer = b; sequence = s + k }))
 to_readers s [] b k q e h = absurd cc
 to_readers s (y ∷ ys) b zero q e h = let t : waits_for b y ≡ true = ap (waits_for b) (same_Some y q e) ∙ h in
     (0, rw t (ap (λ (r : Reader). Some r) (reader_is b s (s + 0) (omega arith))))

@@ -75,7 +75,7 @@ module _ (p : Program) where
   abbrev pub Stands : ℕ → ℕ → Instr → Type 0
   Stands s a x = slice_get (turn p s) a ≡ Some x
 
-  -- it stands there and nowhere else
+  -- Instruction a of sequence s is this one, and no other instruction is.
   pub record IsOnly (s a : ℕ) (x : Instr) : Type 0 where
     pub stands : Stands s a x
     pub only : (t b : ℕ) → Stands t b x → (t ≡ s) × (b ≡ a)
@@ -178,7 +178,8 @@ module _ (p : Program) where
             of None = ⊥
             of (Some v) = slice_get v.outs x.port ≡ Some n
 
-        -- these buffers carry these sources, in their lengths
+        -- Buffers with these numbers are there, carry these sources in this order, and have their
+        -- lengths.
         abbrev pub CarryInOrder : List ℕ → List Source → Type 0
         CarryInOrder [] [] = Unit {0}
         CarryInOrder (b ∷ bs) (x ∷ xs) = (b < length p.buffers) × (carried b ≡ x) × HasLength x (len_of p b) ×
@@ -186,7 +187,8 @@ module _ (p : Program) where
         CarryInOrder [] (x ∷ xs) = ⊥
         CarryInOrder (b ∷ bs) [] = ⊥
 
-        -- these buffers carry the outputs of operation v from `port` on, whose lengths are these
+        -- Buffers with these numbers carry the outputs of operation v from `port` on, and have
+        -- these lengths.
         abbrev pub CarryOutputs : ℕ → ℕ → List ℕ → List ℕ → Type 0
         CarryOutputs v port [] [] = Unit {0}
         CarryOutputs v port (b ∷ bs) (n ∷ ns) = (carried b ≡ record { vertex = v; port = port }) ×

@@ -22,5 +22,5 @@ pub use steps::{MicroStep, OnLoad, OnStore, Place};
 pub use wires::wire_len;
 
 // What the clauses here speak of: flat graphs, architectures and interleavings.
-pub use archi_graph::{Archi, Medium, Seq};
+pub use archi_graph::{Archi, Medium, MediumKind, Seq};
 pub use flat_graph::{Flat, Guard, Ins, Kind, Source, Vertex, fire, len_of};

@@ -1,5 +1,40 @@
 -- One micro-step more of a sequence, and what tries answer.
-use Rattle.std.proofs.Common.{◌≡◌, ◌≢◌, ℕ, suc, zero, ◌+◌, ◌*◌, ◌/◌, ◌%◌, ◌<◌, ◌≤◌, inl, inr, Bool, true, false, cond, List, [], ◌∷◌, length, get_or, set, min, refl, sym, subst, ap, ◌∙◌, arith, below_more, Option, Some, None}
+use Rattle.std.proofs.Common.{
+  ◌≡◌,
+  ◌≢◌,
+  ℕ,
+  suc,
+  zero,
+  ◌+◌,
+  ◌*◌,
+  ◌/◌,
+  ◌%◌,
+  ◌<◌,
+  ◌≤◌,
+  inl,
+  inr,
+  Bool,
+  true,
+  false,
+  cond,
+  List,
+  [],
+  ◌∷◌,
+  length,
+  get_or,
+  set,
+  min,
+  refl,
+  sym,
+  subst,
+  ap,
+  ◌∙◌,
+  arith,
+  below_more,
+  Option,
+  Some,
+  None,
+}
 use Rattle.std.proofs.Math.Nat.{lt_of_mul-lt-mul_right, mul-le-mul_right, suc-mul}
 use Rattle.std.proofs.lemmas.Bool.{cases_lt}
 use Rattle.std.proofs.lemmas.List.{get_or-set_other, length-set}
@@ -145,7 +180,8 @@ short_more old new n (suc w) v k e l f counts was there now =
     let short = was (omega arith) in record {
       seq = short.seq;
       there = subst (λ (x : FabricData). short.seq < length x.job.program.seqs) (sym f) short.there;
-      more = subst (λ (c : List ℕ). get_or c short.seq 0 < full new.fabric.job short.seq) (sym counts) (subst (λ (x : FabricData). get_or old.counts short.seq 0 < full x.job short.seq) (sym f) short.more);
+      more = subst (λ (c : List ℕ). get_or c short.seq 0 < full new.fabric.job short.seq) (sym counts)
+          (subst (λ (x : FabricData). get_or old.counts short.seq 0 < full x.job short.seq) (sym f) short.more);
     }
 
 -- no other sequence of the driver stands before the next one of its group

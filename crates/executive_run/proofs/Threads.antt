@@ -77,4 +77,16 @@ Place-sync a = declared_sync (Place.the_type a) (search (sendable, std.crosses, 
 
 pub Crew-send : (e a : NamedLft) (R G : RattleType) → IsSync R → IsSync G → IsSend (Crew.the_row e a R G)
 Crew-send e a R G r y =
-    declared_send (Crew.the_type e a R G) (search sendable depth 10, (search (sendable, Fabric-sync) depth 10, (search sendable depth 10, (search (sendable, std.crosses, Place-sync) depth 20, (search (sendable, std.crosses) depth 20, (search (sendable, std.crosses) depth 20, tt))))))
+    declared_send (Crew.the_type e a R G) (
+      search sendable depth 10,
+      (
+        search (sendable, Fabric-sync) depth 10,
+        (
+          search sendable depth 10,
+          (
+            search (sendable, std.crosses, Place-sync) depth 20,
+            (search (sendable, std.crosses) depth 20, (search (sendable, std.crosses) depth 20, tt)),
+          ),
+        ),
+      ),
+    )

@@ -97,7 +97,8 @@ pub for_choice : (ports : List Span) (len : ℕ) (old one two last new : Straigh
     → Compiled ports len old one q pq → Compiled ports len one two a pa → Compiled ports len two last b pb → Pushed last new len (Choose pq pa pb) at
     → Compiled ports len old new (select q a b) at
 for_choice ports len old one two last new q a b pq pa pb at c d f p =
-    grown ports len old last new (Choose pq pa pb) (select q a b) at (f.from ∙ (d.from ∙ c.from)) (omega (arith, c.longer, d.longer, f.longer)) (λ store r. c.before store (d.before store (f.before store r))) p
+    grown ports len old last new (Choose pq pa pb) (select q a b) at (f.from ∙ (d.from ∙ c.from))
+    (omega (arith, c.longer, d.longer, f.longer)) (λ store r. c.before store (d.before store (f.before store r))) p
     (λ store ins r carries j h.
     let r2 = f.before store r in
     ap₂ (λ x y. chosen (word (take at store) (pq + j)) x y)

@@ -37,7 +37,8 @@ module _ {A : Type 0} where
 
   -- one line more, from the back
   pub one_more : (xs ys lent : List A) (now : A → Feed) (feeds : List Feed) (left p : ℕ) (x : A) (g : Feed) → map now xs ≡ in_line_order (drop left feeds) → lent ≡ xs → ys ≡ insert xs p x → now x ≡ g
-      → insert (map now lent) p g ≡ put_line g (map now lent) → in_line_order (drop (left - 1) feeds) ≡ put_line g (in_line_order (drop left feeds)) → map now ys ≡ in_line_order (drop (left - 1) feeds)
+      → insert (map now lent) p g ≡ put_line g (map now lent) → in_line_order (drop (left - 1) feeds)
+      ≡ put_line g (in_line_order (drop left feeds)) → map now ys ≡ in_line_order (drop (left - 1) feeds)
   one_more xs ys lent now feeds left p x g so_far same is seen put next =
       ap (map now) is ∙ map-insert xs now p x ∙ ap (insert (map now xs) p) seen ∙ subst (λ zs. insert (map now zs) p g ≡ put_line g (map now zs)) same put ∙ ap (put_line g) so_far ∙ sym next
 
@@ -46,6 +47,7 @@ line_at [] k x lt is = absurd (omega arith)
 line_at (f ∷ feeds) zero x lt is = ap (λ g. put_line g (in_line_order feeds)) (sym is)
 line_at (f ∷ feeds) (suc k) x lt is = line_at feeds k x (omega arith) is
 
-pub next_line : (feeds : List Feed) (left : ℕ) (x : Feed) → 0 < left → left ≤ length feeds → x ≡ get_or feeds (left - 1) x → in_line_order (drop (left - 1) feeds) ≡ put_line x (in_line_order (drop left feeds))
+pub next_line : (feeds : List Feed) (left : ℕ) (x : Feed) → 0 < left → left ≤ length feeds → x ≡ get_or feeds (left - 1) x
+    → in_line_order (drop (left - 1) feeds) ≡ put_line x (in_line_order (drop left feeds))
 next_line feeds left x some le is =
     let e : suc (left - 1) ≡ left = omega arith in line_at feeds (left - 1) x (omega arith) is ∙ ap (λ k. put_line x (in_line_order (drop k feeds))) e

@@ -9,72 +9,79 @@ use Rattle.syn_base.specs.declared.memory.OutOfMemory.{OutOfMemory}
 use Rattle.algo_tree.specs.declared.Feed.{Feed}
 use Rattle.algo_tree.specs.declared.Give.{Give}
 use Rattle.algo_tree.specs.Tree.{Label, Kind, graph, repeat, Vertex, vertex, Vertices, no_vertices, and_vertex}
+use Rattle.algo_tree.specs.declared.Guard.{Guard}
+use Rattle.algo_tree.specs.Counted.{operations, operations_by, operations_in}
 use Rattle.algo_tree.specs.Meaning.{vertices_in}
 use Rattle.algo_tree.specs.Typed.{label_of}
 use Rattle.algo_tree.specs.View.{view, kind_view, label_view, vertices_of, vertices_view}
-use Rattle.algo_tree.specs.Well.{fork_names, join_names, IsOne, IsWell, AllWell}
+use Rattle.algo_tree.specs.Well.{fork_names, join_names, IsEmpty, IsKindWell, IsOne, IsWell, AllWell}
 use Rattle.algo_tree.specs.declared.vertex.Vertex.{Vertex as Declared, out-Vertex}
 use Rattle.algo_tree.specs.declared.vertex.Kind as declared
-use Rattle.algo_tree.specs.declared.vertex.Kind.TheVariants.{Repeat}
+use Rattle.algo_tree.specs.declared.vertex.Kind.TheVariants.{Sensor, Actuator, Constant, Delay, Function, Explode, Implode, Merge, Switch, Repeat}
+use Rattle.algo_tree.specs.declared.vertex.Kind.TheVariants.{Graph as DeclaredGraph}
 use Rattle.algo_tree.proofs.Views.{view_out}
 use Rattle.flat_laws.specs.Lines.{in_line_order}
 use Rattle.algo_tree.specs.Relabelled.{with_kind}
 use Rattle.flat_laws.specs.Unrolled.{explodes, copy, copies, implodes, give_sources, unrolled_inside, unrolled_at, unroll, unroll_all}
-use Rattle.algo_tree.specs.Size.{made_by, vertices_made, vertices_made_in}
 use Rattle.syn_base.specs.Numbers.{numbers_below}
 
 abbrev pub inner_of : Declared → List Declared
 inner_of u = (out-Vertex u).inner.items
 
--- sizes
-made_some : (k : Kind) (m : ℕ) → 0 < made_by k m
-made_some (repeat n feeds gives) m = omega arith
-made_some _ m = omega arith
-
-some_made : (us : Vertices) → IsOne us → 0 < vertices_made_in us
-some_made no_vertices h = absurd h
-some_made (and_vertex (vertex l vs) us) h = let s = made_some l.kind (vertices_made_in vs) in omega (arith, s)
-
-pub made_out : (u : Declared) → vertices_made (view u) ≡ made_by (kind_view (out-Vertex u).kind) (vertices_made_in (vertices_view (inner_of u)))
-made_out u = ap vertices_made (view_out u)
+-- counts
+pub counted_out : (u : Declared) → operations (view u) ≡ operations_by (kind_view (out-Vertex u).kind) (operations_in (vertices_view (inner_of u)))
+counted_out u = ap operations (view_out u)
 
 pub record IsBounded (u : Declared) (n : ℕ) (feeds : List Feed) (gives : List Give) : Type 0 where
   pub some : 0 < n
   pub one : IsOne (vertices_view (inner_of u))
   pub well : AllWell (vertices_view (inner_of u))
-  pub forks : length (fork_names feeds) ≤ 262144
-  pub joins : length (join_names gives) ≤ 262144
-  pub bodies : vertices_made_in (vertices_view (inner_of u)) ≤ 262144
-  pub ends : length (fork_names feeds) + n ≤ 262144
+  pub forks : length (fork_names feeds) ≤ 2048
+  pub joins : length (join_names gives) ≤ 2048
+  pub bodies : operations_in (vertices_view (inner_of u)) ≤ 2048
 
-pub bounded : (u : Declared) (n : ℕ) (feeds : List Feed) (gives : List Give) → (out-Vertex u).kind ≡ Repeat n feeds gives → IsWell (view u) → vertices_made (view u) ≤ 262144 → IsBounded u n feeds gives
-bounded u n feeds gives is well small =
-    let m = vertices_made_in (vertices_view (inner_of u)) in
-    let size : vertices_made (view u) ≡ suc (length (fork_names feeds) + n * m + length (join_names gives)) = made_out u ∙ ap (λ k. made_by (kind_view k) m) is in
+pub bounded : (u : Declared) (n : ℕ) (feeds : List Feed) (gives : List Give) → (out-Vertex u).kind ≡ Repeat n feeds gives → IsWell (view u) → operations (view u) ≤ 2048 → IsBounded u n feeds gives
+bounded u n feeds gives is well few =
+    let m = operations_in (vertices_view (inner_of u)) in
+    let count : operations (view u) ≡ length (fork_names feeds) + n * m + length (join_names gives) = counted_out u ∙ ap (λ k. operations_by (kind_view k) m) is in
     let at = subst IsWell (view_out u) well in
     let here = rw is at at.0 in
     let some : 0 < n = here.1.0.0 in
-    let one = here.1.0.1 in
-    let body : 0 < m = some_made (vertices_view (inner_of u)) one in
-    let many : n ≤ n * m = le-mul_of_pos_right n body in
     let whole : m ≤ n * m = subst (λ x. m ≤ x) (mul_comm m n) (le-mul_of_pos_right m some) in
     record {
       some = some;
-      one = one;
+      one = here.1.0.1;
       well = at.1;
-      forks = omega (arith, size, small);
-      joins = omega (arith, size, small);
-      bodies = omega (arith, size, small, whole);
-      ends = omega (arith, size, small, many);
+      forks = omega (arith, count, few);
+      joins = omega (arith, count, few);
+      bodies = omega (arith, count, few, whole);
     }
 
 -- a vertex of another kind
-made_more : (k : declared.Kind) (m : ℕ) → ((n : ℕ) (f : List Feed) (o : List Give) → k ≡ Repeat n f o → ⊥) → made_by (kind_view k) m ≡ suc m
-made_more (Repeat n feeds gives) m not = absurd (not n feeds gives refl)
-made_more _ m not = refl
+none_inside : (us : Vertices) → IsEmpty us → operations_in us ≤ 2048
+none_inside no_vertices h = omega arith
+none_inside (and_vertex u us) h = absurd h
 
-pub inner_bounded : (u : Declared) → ((n : ℕ) (f : List Feed) (o : List Give) → (out-Vertex u).kind ≡ Repeat n f o → ⊥) → vertices_made (view u) ≤ 262144 → vertices_made_in (vertices_view (inner_of u)) ≤ 262144
-inner_bounded u not small = let size = made_out u ∙ made_more (out-Vertex u).kind (vertices_made_in (vertices_view (inner_of u))) not in omega (arith, size, small)
+few_inside : (k : declared.Kind) (gs : List Guard) (us : Vertices) → ((n : ℕ) (f : List Feed) (o : List Give) → k ≡ Repeat n f o → ⊥)
+    → IsKindWell (kind_view k) gs us → operations_by (kind_view k) (operations_in us) ≤ 2048 → operations_in us ≤ 2048
+few_inside (Repeat n feeds gives) gs us not well few = absurd (not n feeds gives refl)
+few_inside (DeclaredGraph outs) gs us not well few = few
+few_inside (Switch values names) gs us not well few = omega (arith, few)
+few_inside (Sensor n) gs us not well few = none_inside us well
+few_inside (Actuator n) gs us not well few = none_inside us well
+few_inside (Constant v) gs us not well few = none_inside us well
+few_inside (Delay groups) gs us not well few = none_inside us well
+few_inside (Function b) gs us not well few = none_inside us well
+few_inside Explode gs us not well few = none_inside us well
+few_inside Implode gs us not well few = none_inside us well
+few_inside (Merge values) gs us not well few = none_inside us well
+
+pub inner_bounded : (u : Declared) → ((n : ℕ) (f : List Feed) (o : List Give) → (out-Vertex u).kind ≡ Repeat n f o → ⊥) → IsWell (view u)
+    → operations (view u) ≤ 2048 → operations_in (vertices_view (inner_of u)) ≤ 2048
+inner_bounded u not well few =
+    let at = subst IsWell (view_out u) well in
+    let count = counted_out u in
+    few_inside (out-Vertex u).kind (out-Vertex u).guards (vertices_view (inner_of u)) not at.0 (omega (arith, count, few))
 
 pub inner_well : (u : Declared) → IsWell (view u) → AllWell (vertices_view (inner_of u))
 inner_well u h = (subst IsWell (view_out u) h).1
@@ -85,10 +92,10 @@ well_at [] r u h lt = absurd (omega arith)
 well_at (v ∷ us) zero u h lt = h.0
 well_at (v ∷ us) (suc r) u h lt = well_at us r u h.1 (omega arith)
 
-pub made_at : (us : List Declared) (r : ℕ) (u : Declared) → r < length us → vertices_made (view (get_or us r u)) ≤ vertices_made_in (vertices_view us)
-made_at [] r u lt = absurd (omega arith)
-made_at (v ∷ us) zero u lt = omega arith
-made_at (v ∷ us) (suc r) u lt = let more = made_at us r u (omega arith) in omega (arith, more)
+pub counted_at : (us : List Declared) (r : ℕ) (u : Declared) → r < length us → operations (view (get_or us r u)) ≤ operations_in (vertices_view us)
+counted_at [] r u lt = absurd (omega arith)
+counted_at (v ∷ us) zero u lt = omega arith
+counted_at (v ∷ us) (suc r) u lt = let more = counted_at us r u (omega arith) in omega (arith, more)
 
 -- the answers
 pub all_unrolled : (us : List Declared) → vertices_of (map (λ v. unroll (view v)) us) ≡ unroll_all (vertices_view us)
@@ -121,11 +128,13 @@ pub repeat_unrolled : (u : Declared) (n b : ℕ) (feeds : List Feed) (gives : Li
 repeat_unrolled u n b feeds gives vs w is from inside made =
     let l = label_view (out-Vertex u) in
     let us = unroll_all (vertices_view (inner_of u)) in
-    let there : map view vs ≡ unrolled_inside l.definition n feeds gives l.outs us = inside ∙ ap (λ v. unrolled_inside (label_of v).definition n feeds gives (label_of v).outs (unroll_all (vertices_in v))) (view_out u) in
+    let there : map view vs ≡ unrolled_inside l.definition n feeds gives l.outs us = inside
+    ∙ ap (λ v. unrolled_inside (label_of v).definition n feeds gives (label_of v).outs (unroll_all (vertices_in v))) (view_out u) in
     made ∙ ap₂ (λ c xs. vertex (with_kind l (graph (give_sources c n 0 gives))) (vertices_of xs)) from there
     ∙ ap (λ k. unrolled_at l (kind_view k) us) (sym is) ∙ sym (unroll_out u)
 
-pub inside_made : (u : Declared) (n b : ℕ) (feeds : List Feed) (gives : List Give) (d outs : List ℕ) (e x y : List Vertex) → b ≡ length (fork_names feeds) → d ≡ (out-Vertex u).definition → outs ≡ (out-Vertex u).outs
+pub inside_made : (u : Declared) (n b : ℕ) (feeds : List Feed) (gives : List Give) (d outs : List ℕ) (e x y : List Vertex) → b
+    ≡ length (fork_names feeds) → d ≡ (out-Vertex u).definition → outs ≡ (out-Vertex u).outs
     → e ≡ explodes d n (in_line_order feeds) → x ≡ e ++ copies b feeds n (unroll_all (vertices_view (inner_of u))) → y ≡ x ++ implodes d b n outs 0 gives → y ≡ inside_now u n feeds gives
 inside_made u n b feeds gives d outs e x y from d_is outs_is first then last =
     let l = label_view (out-Vertex u) in

@@ -7,9 +7,13 @@ ghost use Rattle.flat_laws.specs.Unrolled.{made as vertex_made, explode_of, impl
 ghost use Rattle.syn_base.specs.Numbers.{numbers_below};
 
 use crate::lines::place_of;
-use algo_tree::{Feed, Give, Kind, MOST_VERTICES, Part, Source, Vertex, copy_bytes};
+use algo_tree::{Feed, Give, Kind, Part, Source, Vertex, copy_bytes};
 use std::alloc::Global;
 use syn_base::{OutOfMemory, Shared, len_at};
+
+/// The most vertices that stand before the implodes of a repetition, so that each of them has a number of 32
+/// bits: an implode is an operation, of which a tree has at most 2,048.
+pub const MOST_COPIES: u32 = u32::MAX - 2048;
 
 /// The copies of a repetition: the number of the first, and how many there are.
 #[derive(Clone, Copy)]
@@ -88,7 +92,7 @@ pub fn explodes(
 
 /// The number of fork lines: the number of the first copy.
 pub fn begin_of(feeds: &[Feed]) -> u32
-    requires { length (fork_names feeds.now) ≤ MOST_VERTICES }
+    requires { length (fork_names feeds.now) ≤ 2048 }
     ensures { result ≡ length (fork_names feeds.now) }
 {
     let mut count = 0;
@@ -103,7 +107,7 @@ pub fn begin_of(feeds: &[Feed]) -> u32
 /// The source of an iterated input of copy `i`: the outer input for copy 0, and the body's output for
 /// the copies after it.
 fn iterated_source(copies: Copies, i: u32, input: u32, output: u32) -> Source
-    requires { copies.begin + i ≤ MOST_VERTICES }
+    requires { copies.begin + i ≤ MOST_COPIES }
     ensures { result ≡ (if i == 0 then Source.Own input else Source.Of (copies.begin + (i - 1)) output) }
 {
     if i == 0 {
@@ -121,8 +125,8 @@ pub fn copy_ins(
     feeds: &[Feed],
     lines: &[&Feed],
 ) -> Result<Vec<Source>, OutOfMemory>
-    requires few { length (fork_names (map (λ f. f.now) lines.now)) ≤ MOST_VERTICES }
-    requires small { copies.begin + i ≤ MOST_VERTICES }
+    requires few { length (fork_names (map (λ f. f.now) lines.now)) ≤ 2048 }
+    requires small { copies.begin + i ≤ MOST_COPIES }
     ensures { IfOk result (λ ins. ins.items ≡ copy_sources copies.begin i (map (λ f. f.now) lines.now) feeds.now) }
 {
     let mut all = Vec::new(alloc);
@@ -138,7 +142,7 @@ pub fn copy_ins(
 
 /// Output `output` of each of the copies, in order.
 fn outputs_of(alloc: Global, copies: Copies, output: u32) -> Result<Vec<Source>, OutOfMemory>
-    requires { copies.begin + copies.count ≤ MOST_VERTICES }
+    requires { copies.begin + copies.count ≤ MOST_COPIES }
     ensures { IfOk result (λ ins. ins.items ≡
         map (λ i. Source.Of (copies.begin + i) output) (numbers_below copies.count)) }
 {
@@ -158,7 +162,7 @@ fn implode(
     output: u32,
     len: u32,
 ) -> Result<Vertex, OutOfMemory>
-    requires { copies.begin + copies.count ≤ MOST_VERTICES }
+    requires { copies.begin + copies.count ≤ MOST_COPIES }
     ensures { IfOk result (λ u. view u ≡ implode_of definition.now copies.begin copies.count name.now output len) }
 {
     let ins = outputs_of(alloc, copies, output)?;
@@ -175,7 +179,7 @@ pub fn add_implodes(
     gives: &[Give],
     all: &mut Vec<Vertex>,
 ) -> Result<(), OutOfMemory>
-    requires { copies.begin + copies.count ≤ MOST_VERTICES }
+    requires { copies.begin + copies.count ≤ MOST_COPIES }
     ensures { OnOk result (map view all.new.items ≡ map view all.old.items ++
         imploded definition.now copies.begin copies.count outs.now 0 gives.now) }
 {
@@ -198,8 +202,8 @@ pub fn give_sources(
     gives: &[Give],
 ) -> Result<Vec<Source>, OutOfMemory>
     requires some { 0 < copies.count }
-    requires few { length (join_names gives.now) ≤ MOST_VERTICES }
-    requires small { copies.begin + copies.count ≤ MOST_VERTICES }
+    requires few { length (join_names gives.now) ≤ 2048 }
+    requires small { copies.begin + copies.count ≤ MOST_COPIES }
     ensures { IfOk result (λ sources. sources.items ≡ sources_given copies.begin copies.count 0 gives.now) }
 {
     let mut all = Vec::new(alloc);

@@ -5,7 +5,7 @@ ghost use Rattle.std.specs.List.{insert};
 ghost use Rattle.algo_tree.specs.Well.{fork_names};
 ghost use Rattle.flat_laws.specs.Lines.{fork_place, in_line_order as ordered, outer_of as outer_input, put_line};
 
-use algo_tree::{Feed, MOST_VERTICES};
+use algo_tree::Feed;
 use std::alloc::Global;
 use syn_base::OutOfMemory;
 
@@ -48,7 +48,7 @@ pub fn in_line_order(alloc: Global, feeds: &[Feed]) -> Result<Vec<&Feed>, OutOfM
 
 /// The number of the fork line of this outer port among the fork lines.
 pub fn place_of(name: &[u8], lines: &[&Feed]) -> u32
-    requires { length (fork_names (map (λ f. f.now) lines.now)) ≤ MOST_VERTICES }
+    requires { length (fork_names (map (λ f. f.now) lines.now)) ≤ 2048 }
     ensures { result ≡ fork_place name.now (map (λ f. f.now) lines.now) }
 {
     let mut place = 0;

@@ -1,54 +1,41 @@
 //! The pass over a tree, which replaces each repetition by a graph of its copies. `hierarchy` calls it.
-ghost use Rattle.std.specs.Prelude.{◌≡◌, ◌<◌, ◌≤◌, ◌+◌, ◌++◌, IfOk, OnOk, true, length, map};
+ghost use Rattle.std.specs.Prelude.{◌≡◌, ◌<◌, ◌≤◌, ◌+◌, ◌++◌, IfOk, OnOk, length, map};
 ghost use Rattle.algo_tree.specs.declared.vertex.Vertex.{out-Vertex};
 ghost use Rattle.algo_tree.specs.Tree.{and_vertex, no_vertices};
-ghost use Rattle.algo_tree.specs.Counted.{operations};
+ghost use Rattle.algo_tree.specs.Counted.{operations, operations_in};
 ghost use Rattle.algo_tree.specs.Meaning.{vertices_in};
 ghost use Rattle.algo_tree.specs.Typed.{label_of};
 ghost use Rattle.algo_tree.specs.View.{view, vertices_view};
 ghost use Rattle.algo_tree.specs.Well.{fork_names, IsOne, IsWell, AllWell};
-ghost use Rattle.algo_tree.specs.Named.{HasNames};
 ghost use Rattle.algo_tree.specs.SameMeaning.{KeepsMeaning};
 ghost use Rattle.algo_tree.specs.NoRepeat.{HasNoRepeat};
 ghost use Rattle.flat_laws.specs.Lines.{in_line_order as ordered};
 ghost use Rattle.flat_laws.specs.Unrolled.{copies as copied, unroll as unrolled, unroll_all, unrolled_inside};
-ghost use Rattle.algo_tree.specs.Size.{is_large as large, size, vertices_made, vertices_made_in};
 
-use crate::frontier::{Copies, add_implodes, begin_of, explodes};
+use crate::frontier::{Copies, MOST_COPIES, add_implodes, begin_of, explodes};
 use crate::lines::in_line_order;
 use crate::vertices::{as_copy, as_graph};
-use algo_tree::{
-    Feed, Give, Kind, MOST_VERTICES, SizeError, Tree, Vertex, is_large, share_vertex, with_inside,
-};
+use algo_tree::{Feed, Give, Kind, Tree, Vertex, share_vertex, with_inside};
 use std::alloc::Global;
 use syn_base::OutOfMemory;
 
 /// The tree without repetitions, of the same meaning: each is replaced by a graph of its copies, with
-/// an explode for each fork line before them and an implode for each join line after them. `TooLarge`
-/// comes exactly where that tree would have more than `MOST_VERTICES` vertices, before any memory is
-/// taken, and `OutOfMemory` only where memory runs out.
-pub fn unroll(alloc: Global, tree: &Tree) -> Result<Tree, SizeError>
+/// an explode for each fork line before them and an implode for each join line after them. `OutOfMemory`
+/// comes only where memory runs out.
+pub fn unroll(alloc: Global, tree: &Tree) -> Result<Tree, OutOfMemory>
     ensures same { IfOk result (λ t. t ≡ unrolled tree.now) }
     ensures kept { IfOk result (λ t. KeepsMeaning tree.now t) }
     ensures flat { IfOk result (λ t. HasNoRepeat t) }
     ensures count { IfOk result (λ t. operations t ≡ operations tree.now) }
-    ensures names { HasNames tree.now → IfOk result (λ t. HasNames t) }
-    ensures few { IfOk result (λ t. size t ≤ MOST_VERTICES) }
-    ensures large { large tree.now ≡ true → result ≡ Err SizeError.TooLarge }
-    ensures only_large { result ≡ Err SizeError.TooLarge → large tree.now ≡ true }
 {
-    let main = tree.main();
-    if is_large(main) {
-        return Err(SizeError::TooLarge);
-    }
-    Ok(Tree::new(unroll_vertex(alloc, main)?))
+    Ok(Tree::new(unroll_vertex(alloc, tree.main())?))
 }
 
 /// The vertex without repetitions.
 #[cycle(unroll)]
 fn unroll_vertex(alloc: Global, vertex: &Vertex) -> Result<Vertex, OutOfMemory>
     requires well { IsWell (view vertex.now) }
-    requires small { vertices_made (view vertex.now) ≤ MOST_VERTICES }
+    requires few { operations (view vertex.now) ≤ 2048 }
     ensures { IfOk result (λ u. view u ≡ unrolled (view vertex.now)) }
 {
     match &vertex.kind {
@@ -66,7 +53,7 @@ fn unroll_vertex(alloc: Global, vertex: &Vertex) -> Result<Vertex, OutOfMemory>
 #[cycle(unroll)]
 fn unroll_each(alloc: Global, vertices: &Vec<Vertex>) -> Result<Vec<Vertex>, OutOfMemory>
     requires well { AllWell (vertices_view vertices.now.items) }
-    requires small { vertices_made_in (vertices_view vertices.now.items) ≤ MOST_VERTICES }
+    requires few { operations_in (vertices_view vertices.now.items) ≤ 2048 }
     ensures { IfOk result (λ us. map view us.items ≡ map (λ v. unrolled (view v)) vertices.now.items) }
 {
     let mut all = Vec::new(alloc);
@@ -87,13 +74,14 @@ fn unroll_repeat(
 ) -> Result<Vertex, OutOfMemory>
     requires kind { (out-Vertex vertex.now).kind ≡ Kind.Repeat count feeds.now gives.now }
     requires well { IsWell (view vertex.now) }
-    requires small { vertices_made (view vertex.now) ≤ MOST_VERTICES }
+    requires few { operations (view vertex.now) ≤ 2048 }
     ensures { IfOk result (λ u. view u ≡ unrolled (view vertex.now)) }
 {
-    let copies = Copies {
-        begin: begin_of(feeds),
-        count,
-    };
+    let begin = begin_of(feeds);
+    if count > MOST_COPIES - begin {
+        return Err(OutOfMemory);
+    }
+    let copies = Copies { begin, count };
     let inner = unroll_inside(alloc, vertex, copies, feeds, gives)?;
     as_graph(alloc, vertex, copies, gives, inner)
 }
@@ -110,7 +98,8 @@ fn unroll_inside(
     requires begin { copies.begin ≡ length (fork_names feeds.now) }
     requires kind { (out-Vertex vertex.now).kind ≡ Kind.Repeat copies.count feeds.now gives.now }
     requires well { IsWell (view vertex.now) }
-    requires small { vertices_made (view vertex.now) ≤ MOST_VERTICES }
+    requires few { operations (view vertex.now) ≤ 2048 }
+    requires small { copies.begin + copies.count ≤ MOST_COPIES }
     ensures { IfOk result (λ us. map view us.items ≡
         unrolled_inside (label_of (view vertex.now)).definition copies.count feeds.now gives.now
         (label_of (view vertex.now)).outs (unroll_all (vertices_in (view vertex.now)))) }
@@ -143,9 +132,9 @@ fn add_copies(
     requires lines { map (λ f. f.now) lines.now ≡ ordered feeds.now }
     requires one { IsOne (vertices_view inner.now.items) }
     requires well { AllWell (vertices_view inner.now.items) }
-    requires few { length (fork_names feeds.now) ≤ MOST_VERTICES }
-    requires bodies { vertices_made_in (vertices_view inner.now.items) ≤ MOST_VERTICES }
-    requires small { copies.begin + copies.count ≤ MOST_VERTICES }
+    requires few { length (fork_names feeds.now) ≤ 2048 }
+    requires bodies { operations_in (vertices_view inner.now.items) ≤ 2048 }
+    requires small { copies.begin + copies.count ≤ MOST_COPIES }
     ensures { OnOk result (map view all.new.items ≡ map view all.old.items ++
         copied copies.begin feeds.now copies.count (unroll_all (vertices_view inner.now.items))) }
 {
@@ -164,9 +153,9 @@ fn add_copies_of(
 ) -> Result<(), OutOfMemory>
     requires lines { map (λ f. f.now) lines.now ≡ ordered feeds.now }
     requires well { IsWell (view body.now) }
-    requires few { length (fork_names feeds.now) ≤ MOST_VERTICES }
-    requires bodies { vertices_made (view body.now) ≤ MOST_VERTICES }
-    requires small { copies.begin + copies.count ≤ MOST_VERTICES }
+    requires few { length (fork_names feeds.now) ≤ 2048 }
+    requires bodies { operations (view body.now) ≤ 2048 }
+    requires small { copies.begin + copies.count ≤ MOST_COPIES }
     ensures { OnOk result (map view all.new.items ≡ map view all.old.items ++
         copied copies.begin feeds.now copies.count
         (and_vertex (unrolled (view body.now)) no_vertices)) }

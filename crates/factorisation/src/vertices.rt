@@ -10,8 +10,8 @@ ghost use Rattle.flat_laws.specs.Lines.{in_line_order};
 ghost use Rattle.algo_tree.specs.Relabelled.{with_kind};
 ghost use Rattle.flat_laws.specs.Unrolled.{copy, give_sources as sources_given};
 
-use crate::frontier::{Copies, copy_ins, give_sources};
-use algo_tree::{Feed, Give, Kind, MOST_VERTICES, Part, Vertex, rebuild};
+use crate::frontier::{Copies, MOST_COPIES, copy_ins, give_sources};
+use algo_tree::{Feed, Give, Kind, Part, Vertex, rebuild};
 use std::alloc::Global;
 use syn_base::{OutOfMemory, Shared};
 
@@ -24,8 +24,8 @@ pub fn as_graph(
     inner: Vec<Vertex>,
 ) -> Result<Vertex, OutOfMemory>
     requires some { 0 < copies.count }
-    requires few { length (join_names gives.now) ≤ MOST_VERTICES }
-    requires small { copies.begin + copies.count ≤ MOST_VERTICES }
+    requires few { length (join_names gives.now) ≤ 2048 }
+    requires small { copies.begin + copies.count ≤ MOST_COPIES }
     ensures { IfOk result (λ u. view u ≡ plain_vertex
         (with_kind (label_view (out-Vertex vertex.now))
         (graph (sources_given copies.begin copies.count 0 gives.now)))
@@ -46,8 +46,8 @@ pub fn as_copy(
     lines: &[&Feed],
 ) -> Result<Vertex, OutOfMemory>
     requires lines { map (λ f. f.now) lines.now ≡ in_line_order feeds.now }
-    requires few { length (fork_names feeds.now) ≤ MOST_VERTICES }
-    requires small { copies.begin + i ≤ MOST_VERTICES }
+    requires few { length (fork_names feeds.now) ≤ 2048 }
+    requires small { copies.begin + i ≤ MOST_COPIES }
     ensures { IfOk result (λ u. view u ≡ copy copies.begin feeds.now (label_of (view body))
         (vertices_in (view body)) i) }
 {

@@ -1,17 +1,27 @@
 -- The tests of bodies and sums, in the forms that the code has.
-use Rattle.std.proofs.Common.{◌≡◌, ℕ, ◌<◌, Bool, true, false, ◌&&◌, ◌==◌, List, map, length, refl, sym, arith}
-use Rattle.std.specs.Prelude.{nat_le, Some, IsTrue, sum, ◌↔◌, nat_lt}
+use Rattle.std.proofs.Common.{◌≡◌, ℕ, ◌<◌, ◌≤◌, Bool, true, false, ◌&&◌, ◌==◌, List, [], ◌∷◌, map, length, take, drop, ◌-◌, refl, sym, ap, arith, ◌∙◌}
+use Rattle.std.specs.Prelude.{slice_index_or, nat_le, Some, IsTrue, sum, ◌↔◌, nat_lt}
 use Rattle.std.specs.List.{list_all, sum_by}
 use Rattle.std.proofs.lemmas.Bool.{and_parts, and_from, ltb-true, lt-ltb, eqb-true, false≢true}
-use Rattle.std.proofs.lemmas.List.{length-map}
+use Rattle.std.proofs.lemmas.List.{length-map, take_all}
 use Rattle.std.proofs.lemmas.List.Folds.{list_all-map}
 use Rattle.std.proofs.lemmas.List.Sums.{sum-map}
 use Rattle.body_lang.specs.declared.expression.Expr as declared
 use Rattle.body_lang.specs.Expr.{Expr, view, literal, index, element, sum_over, negation, apply, select, PortsBelow}
-use Rattle.flat_graph.specs.Valid.{ports_below, is_body}
+use Rattle.flat_graph.specs.declared.vertex.Source.{Source}
+use Rattle.flat_graph.specs.declared.vertex.Vertex.{Vertex}
+use Rattle.flat_graph.specs.Graph.{len_of, lens_of}
+use Rattle.flat_graph.specs.Valid.{are_equal, ports_below, is_body}
 
 pub sum_map : {X : Type 0} (f : X → ℕ) (xs : List X) → sum (map f xs) ≡ sum_by f xs
 sum_map f xs = sum-map f xs
+
+-- sources are equally long if all those after the first are as long as it
+pub equally_long : (vertices : List Vertex) (sources : List Source) (d : Source) → 1 ≤ length sources
+    → list_all (λ s. len_of vertices s == len_of vertices (slice_index_or sources 0 d)) (take (length sources - 1) (drop 1 sources)) ≡ are_equal (lens_of vertices sources)
+equally_long vertices [] d l = absurd (omega arith)
+equally_long vertices (s ∷ sources) d l =
+    ap (list_all (λ x. len_of vertices x == len_of vertices s)) (take_all (length (s ∷ sources) - 1) sources (omega arith)) ∙ sym (list_all-map (λ n. n == len_of vertices s) (len_of vertices) sources)
 
 pub is_body_by : (ins outs : ℕ) (es : List declared.Expr)
     → is_body ins outs (Some (map view es)) ≡ (nat_le 1 outs && ((length es == outs) && list_all (λ e. ports_below ins (view e)) es))

@@ -1,5 +1,36 @@
 -- Lists that are written place by place.
-use Rattle.std.proofs.Common.{◌≡◌, ℕ, zero, suc, ◌+◌, ◌<◌, ◌≤◌, List, [], ◌∷◌, ◌++◌, map, length, take, drop, refl, sym, ap, subst, arith, zero-add, suc-add, ◌∙◌, length-append, append_assoc, length-take, length-drop, Bool, true, false}
+use Rattle.std.proofs.Common.{
+  ◌≡◌,
+  ℕ,
+  zero,
+  suc,
+  ◌+◌,
+  ◌<◌,
+  ◌≤◌,
+  List,
+  [],
+  ◌∷◌,
+  ◌++◌,
+  map,
+  length,
+  take,
+  drop,
+  refl,
+  sym,
+  ap,
+  subst,
+  arith,
+  zero-add,
+  suc-add,
+  ◌∙◌,
+  length-append,
+  append_assoc,
+  length-take,
+  length-drop,
+  Bool,
+  true,
+  false,
+}
 use Rattle.std.specs.Prelude.{slice_index_or, slice_set, sum, ℤ, pos, nat_lt}
 use Rattle.std.proofs.lemmas.Bool.{ltb-true, ltb-false}
 use Rattle.std.proofs.lemmas.List.{length-map, set-set, set-get_or, get_or-set_same, drop-drop, take_all, drop_all, append-nil, get_or-map, get_or_append_left, get_or-append-add}
@@ -21,7 +52,8 @@ fill (x ∷ target) [] i d v l m e = absurd (omega arith)
 fill (x ∷ target) (y ∷ initial) zero d v l m e = ap (λ z. z ∷ initial) e
 fill {A} (x ∷ target) (y ∷ initial) (suc i) d v l m e =
     let rest = fill target initial i d v (omega arith) (omega arith) e in
-    subst (λ (n : ℕ). slice_set (x ∷ (take i target ++ drop i initial)) (suc i) v ≡ take n (x ∷ target) ++ drop n (y ∷ initial)) (let n : suc (i + 1) ≡ suc i + 1 = omega arith in n) (ap (λ zs. x ∷ zs) rest)
+    subst (λ (n : ℕ). slice_set (x ∷ (take i target ++ drop i initial)) (suc i) v ≡ take n (x ∷ target) ++ drop n (y ∷ initial))
+    (let n : suc (i + 1) ≡ suc i + 1 = omega arith in n) (ap (λ zs. x ∷ zs) rest)
 
 -- the next place still has its first value
 pub at_seam : {A : Type 0} (target initial : List A) (i : ℕ) (d : A) → i ≤ length target → i < length initial → slice_index_or (take i target ++ drop i initial) i d ≡ slice_index_or initial i d
@@ -41,7 +73,8 @@ pub count_of_lens : (vs : Values) (lens : List ℕ) → map length vs ≡ lens �
 count_of_lens vs lens e = sym (length-map vs length) ∙ ap length e
 
 -- so its length is as before
-pub len_at_seam : (target initial : Values) (lens : List ℕ) (i : ℕ) → i ≤ length target → i < length lens → map length initial ≡ lens → length (vector_at (take i target ++ drop i initial) i) ≡ slice_index_or lens i 0
+pub len_at_seam : (target initial : Values) (lens : List ℕ) (i : ℕ) → i ≤ length target → i < length lens → map length initial ≡ lens
+    → length (vector_at (take i target ++ drop i initial) i) ≡ slice_index_or lens i 0
 len_at_seam target initial lens i l m e =
     let long = count_of_lens initial lens e in
     ap length (at_seam target initial i [] l (omega arith)) ∙ length-vector_at initial i ∙ ap (λ (ns : List ℕ). slice_index_or ns i 0) e
@@ -147,7 +180,9 @@ take-fewer (suc i) (suc j) (n ∷ ns) l = ap (λ ms. n ∷ ms) (take-fewer i j n
 pub within_sum : (vs : Values) (i count : ℕ) → i < count → i < length vs → length (all_joined (take i vs)) + length (vector_at vs i) ≤ sum (take count (map length vs))
 within_sum vs i count l m =
     let lens = map length vs in
-    let more : length (all_joined (take (i + 1) vs)) ≡ length (all_joined (take i vs)) + length (vector_at vs i) = ap length (joined_more vs i m) ∙ length-append (all_joined (take i vs)) (vector_at vs i) in
+    let more : length (all_joined (take (i + 1) vs))
+    ≡ length (all_joined (take i vs)) + length (vector_at vs i) = ap length (joined_more vs i m)
+    ∙ length-append (all_joined (take i vs)) (vector_at vs i) in
     let fewer : sum (take (i + 1) (take count lens)) ≤ sum (take count lens) = sum_by-take-le (λ x. x) (take count lens) (i + 1) in
     let same : sum (take (i + 1) (take count lens)) ≡ sum (take (i + 1) lens) = ap sum (take-fewer (i + 1) count lens (omega arith)) in
     omega (arith, more, fewer, same, first_joined vs (i + 1))

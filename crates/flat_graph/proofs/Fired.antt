@@ -48,7 +48,8 @@ next_at vertices look (y ∷ ys) cs zero x z e k =
 next_at vertices look (y ∷ ys) cs (suc v) x z e k = by (is_get y.kind) (λ ds. next_at vertices look ys ds v x z e k)
   where
     by : (b : Bool) → ((ds : Values) → vector_at (next_from vertices look ys ds) (delay_number ys v) ≡ next_cell vertices look x.twin (vector_at ds (delay_number ys v)))
-        → vector_at (if b then next_cell vertices look y.twin (vector_at cs 0) ∷ next_from vertices look ys (drop 1 cs) else next_from vertices look ys cs) (if b then delay_number ys v + 1 else delay_number ys v)
+        → vector_at (if b then next_cell vertices look y.twin (vector_at cs 0)
+        ∷ next_from vertices look ys (drop 1 cs) else next_from vertices look ys cs) (if b then delay_number ys v + 1 else delay_number ys v)
         ≡ next_cell vertices look x.twin (vector_at cs (if b then delay_number ys v + 1 else delay_number ys v))
     by true later =
         ap (vector_at (next_cell vertices look y.twin (vector_at cs 0) ∷ next_from vertices look ys (drop 1 cs))) (add-one (delay_number ys v))

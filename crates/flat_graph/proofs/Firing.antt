@@ -1,5 +1,5 @@
 -- What the fit of an operation says of the vectors that it reads, of which the first are its inputs.
-use Rattle.std.proofs.Common.{◌≡◌, ℕ, zero, suc, ◌+◌, ◌<◌, ◌≤◌, true, ◌&&◌, ◌==◌, List, [], ◌∷◌, map, length, take, refl, sym, ap, subst, arith, ◌∙◌}
+use Rattle.std.proofs.Common.{◌≡◌, ℕ, zero, suc, ◌+◌, ◌<◌, ◌≤◌, Bool, true, ◌&&◌, ◌==◌, List, [], ◌∷◌, map, length, take, refl, sym, ap, subst, arith, ◌∙◌}
 use Rattle.std.specs.Prelude.{nat_le, slice_get, slice_index_or, Option, Some, ℤ, pos, All, nat_lt, if◌then◌else◌}
 use Rattle.std.specs.List.{list_all}
 use Rattle.std.specs.Ordering.{int_eq}
@@ -103,8 +103,8 @@ first_of zero m ns e = absurd (cc)
 first_of (suc n) m [] e = absurd (cc)
 first_of (suc n) m (x ∷ ns) e = cc
 
-pub explode_len : (vs : Values) (n m : ℕ) → is_only m (take n (map length vs)) ≡ true → length (vector_at vs 0) ≡ m
-explode_len vs n m h = length-vector_at vs 0 ∙ first_of n m (map length vs) (only_is m (take n (map length vs)) h)
+pub explode_len : (vs : Values) (n m : ℕ) (equal : Bool) → (is_only m (take n (map length vs)) && equal) ≡ true → length (vector_at vs 0) ≡ m
+explode_len vs n m equal h = length-vector_at vs 0 ∙ first_of n m (map length vs) (only_is m (take n (map length vs)) (and_parts (is_only m (take n (map length vs))) equal h).0)
 
 merge_count : (k : ℕ) (lens outs : List ℕ) → is_merge k lens outs ≡ true → length lens ≡ k + 2
 merge_count k [] outs h = absurd (false≢true h)

@@ -1,5 +1,34 @@
 -- An operation whose inputs have the lengths that fit its kind gives outputs of their lengths.
-use Rattle.std.proofs.Common.{◌≡◌, ℕ, zero, suc, ◌+◌, ◌<◌, ◌≤◌, Bool, true, false, ◌&&◌, ◌==◌, List, [], ◌∷◌, cond, map, length, take, drop, refl, sym, ap, arith, ◌∙◌, length-append, length-take, length-drop}
+use Rattle.std.proofs.Common.{
+  ◌≡◌,
+  ℕ,
+  zero,
+  suc,
+  ◌+◌,
+  ◌<◌,
+  ◌≤◌,
+  Bool,
+  true,
+  false,
+  ◌&&◌,
+  ◌==◌,
+  List,
+  [],
+  ◌∷◌,
+  cond,
+  map,
+  length,
+  take,
+  drop,
+  refl,
+  sym,
+  ap,
+  arith,
+  ◌∙◌,
+  length-append,
+  length-take,
+  length-drop,
+}
 use Rattle.std.specs.Prelude.{slice_index_or, sum, pos, ℤ}
 use Rattle.std.specs.List.{list_all}
 use Rattle.std.specs.Ordering.{int_eq}
@@ -10,7 +39,7 @@ use Rattle.body_lang.specs.Expr.{Expr, function_outputs, value_of}
 use Rattle.level_meaning.specs.Level.{selected, element_at, all_joined, merged}
 use Rattle.flat_graph.specs.declared.vertex.Kind.{Kind}
 use Rattle.flat_graph.specs.declared.vertex.Kind.TheVariants.{Sensor, Actuator, Function, Constant, Get, Set, Explode, Implode, Merge}
-use Rattle.flat_graph.specs.Valid.{is_only, is_merge, fits}
+use Rattle.flat_graph.specs.Valid.{is_only, are_equal, is_merge, fits}
 use Rattle.flat_graph.specs.Fire.{kind_outputs}
 use Rattle.syn_base.specs.Vectors.{Vector, Values, vector_at, zeros}
 use Rattle.syn_base.specs.Numbers.{numbers_below}
@@ -94,7 +123,8 @@ abbrev pub HasCell : Kind → Vector → Type 0
 HasCell (Get z) cell = length cell ≡ length z
 HasCell _ cell = Unit {0}
 
-pub kind_lens : (bodies : List (List Expr)) (kind : Kind) (outs : List ℕ) (cell seen : Vector) (ins : Values) → fits bodies kind (map length ins) outs ≡ true → HasSeen kind outs seen → HasCell kind cell
+pub kind_lens : (bodies : List (List Expr)) (kind : Kind) (outs : List ℕ) (cell seen : Vector) (ins : Values)
+    → fits bodies kind (map length ins) outs ≡ true → HasSeen kind outs seen → HasCell kind cell
     → map length (kind_outputs bodies kind outs cell seen ins) ≡ outs
 kind_lens bodies (Sensor i) outs cell seen ins h s c =
     let one = one_is outs (and_parts (length (map length ins) == 0) (length outs == 1) h).1 in
@@ -105,6 +135,9 @@ kind_lens bodies (Constant z) outs cell seen ins h s c = sym (only_is (length z)
 kind_lens bodies (Get z) outs cell seen ins h s c = ap (λ n. n ∷ []) c ∙ sym (only_is (length z) outs (and_parts (length (map length ins) == 0) (is_only (length z) outs) h).1)
 kind_lens bodies Set outs cell seen ins h s c = sym (none_is outs (and_parts (length (map length ins) == 1) (length outs == 0) h).1)
 kind_lens bodies Explode outs cell seen ins h s c =
-    parts_lens outs (vector_at ins 0) (length-vector_at ins 0 ∙ ap (λ (ns : List ℕ). slice_index_or ns 0 0) (only_is (sum outs) (map length ins) h))
-kind_lens bodies Implode outs cell seen ins h s c = ap (λ n. n ∷ []) (joined_len ins) ∙ sym (only_is (sum (map length ins)) outs h)
+    parts_lens outs (vector_at ins 0)
+    (length-vector_at ins 0 ∙ ap (λ (ns : List ℕ). slice_index_or ns 0 0)
+    (only_is (sum outs) (map length ins) (and_parts (is_only (sum outs) (map length ins)) (are_equal outs) h).0))
+kind_lens bodies Implode outs cell seen ins h s c =
+    ap (λ n. n ∷ []) (joined_len ins) ∙ sym (only_is (sum (map length ins)) outs (and_parts (is_only (sum (map length ins)) outs) (are_equal (map length ins)) h).0)
 kind_lens bodies (Merge values) outs cell seen ins h s c = merge_lens values ins outs h

@@ -11,3 +11,4 @@ pub mod Firing
 pub mod ReadLens
 pub mod Fired
 pub mod Loops
+mod Worked

@@ -82,7 +82,8 @@ module _ (vertices : List Vertex) where
 
   settled_is : (rounds v : ℕ) → settled (map dependence vertices) rounds v ≡ is_done vertices rounds v
   settled_is zero v = refl
-  settled_is (suc rounds) v = ap (λ (o : Option Node). with_node o false (is_ready (settled (map dependence vertices) rounds))) (slice_get-map dependence vertices v) ∙ by (slice_get vertices v) (λ u. settled_is rounds u)
+  settled_is (suc rounds) v = ap (λ (o : Option Node). with_node o false (is_ready (settled (map dependence vertices) rounds)))
+      (slice_get-map dependence vertices v) ∙ by (slice_get vertices v) (λ u. settled_is rounds u)
     where
       by : (o : Option Vertex) → ((u : ℕ) → settled (map dependence vertices) rounds u ≡ is_done vertices rounds u)
           → with_node (option_map dependence o) false (is_ready (settled (map dependence vertices) rounds)) ≡ with_vertex o false (λ x. list_all (is_done vertices rounds) (depends_on x))

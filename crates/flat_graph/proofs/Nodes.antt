@@ -39,7 +39,8 @@ module _ (g : Graph) (cells : Values) where
   sources_are_ready : (f h : ℕ → Bool) → ((u : ℕ) → f u ≡ true → h u ≡ true) → (ss : List Source) → list_all (λ s. f s.vertex) ss ≡ true → sources_ready h (map level_source ss) ≡ true
   sources_are_ready f h imply [] e = refl
   sources_are_ready f h imply (s ∷ ss) e =
-      let a = and_parts (f s.vertex) (list_all (λ (t : Source). f t.vertex) ss) e in and_from (h s.vertex) (sources_ready h (map level_source ss)) (imply s.vertex a.0) (sources_are_ready f h imply ss a.1)
+      let a = and_parts (f s.vertex) (list_all (λ (t : Source). f t.vertex) ss) e in
+      and_from (h s.vertex) (sources_ready h (map level_source ss)) (imply s.vertex a.0) (sources_are_ready f h imply ss a.1)
 
   guards_are_ready : (f h : ℕ → Bool) → ((u : ℕ) → f u ≡ true → h u ≡ true) → (gs : List Guard) → list_all (λ d. f d.source.vertex) gs ≡ true → guards_ready h (map level_guard gs) ≡ true
   guards_are_ready f h imply [] e = refl
@@ -52,7 +53,9 @@ module _ (g : Graph) (cells : Values) where
   done_settles zero v e = absurd (false≢true e)
   done_settles (suc rounds) v e = by (slice_get g.vertices v) refl (λ u. done_settles rounds u) e
     where
-      by : (o : Option Vertex) → slice_get g.vertices v ≡ o → ((u : ℕ) → is_done g.vertices rounds u ≡ true → settled (level g cells) rounds u ≡ true) → with_vertex o false (λ x. list_all (is_done g.vertices rounds) (depends_on x)) ≡ true
+      by : (o : Option Vertex) → slice_get g.vertices v ≡ o
+          → ((u : ℕ) → is_done g.vertices rounds u ≡ true → settled (level g cells) rounds u ≡ true)
+          → with_vertex o false (λ x. list_all (is_done g.vertices rounds) (depends_on x)) ≡ true
           → with_node (slice_get (level g cells) v) false (is_ready (settled (level g cells) rounds)) ≡ true
       by None is before h = absurd (false≢true h)
       by (Some x) is before h =

@@ -95,7 +95,9 @@ module _ (vertices : List Vertex) (before : List Bool) where
       → (u : ℕ) → u < v + 1 → slice_index_or (slice_set done v b) u false ≡ then_done u
   past_more done v x b l k is e past = below_more (λ u. slice_index_or (slice_set done v b) u false ≡ then_done u) v
       (λ u m. get_or-set_other done v u b false (λ same. omega (arith, same)) ∙ past u m)
-      (get_or-set_same done v b false k ∙ e ∙ ap (λ (o : Option Vertex). slice_index_or before v false || with_vertex o false (λ y. list_all (λ w. slice_index_or before w false) (depends_on y))) (sym (found vertices v x l is)))
+      (get_or-set_same done v b false k ∙ e
+      ∙ ap (λ (o : Option Vertex). slice_index_or before v false
+      || with_vertex o false (λ y. list_all (λ w. slice_index_or before w false) (depends_on y))) (sym (found vertices v x l is)))
     where
       found : (xs : List Vertex) (i : ℕ) (y : Vertex) → i < length xs → y ≡ slice_index_or xs i y → slice_get xs i ≡ Some y
       found [] i y l e = absurd (omega arith)

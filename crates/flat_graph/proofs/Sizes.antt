@@ -57,7 +57,8 @@ module _ (g : Graph) (cells row : Values) (valid : is_flat g ≡ true) (rows_fit
     source_len : (s : Source) → length (source_value [] (out (level g cells) row no_state [] fuel) (level_source s)) ≡ len_of g.vertices s
     source_len s = length-vector_at (out (level g cells) row no_state [] fuel s.vertex) s.port ∙ by (slice_get g.vertices s.vertex) refl
       where
-        by : (o : Option Vertex) → slice_get g.vertices s.vertex ≡ o → slice_index_or (map length (out (level g cells) row no_state [] fuel s.vertex)) s.port 0 ≡ with_vertex o 0 (λ x. slice_index_or x.outs s.port 0)
+        by : (o : Option Vertex) → slice_get g.vertices s.vertex ≡ o
+            → slice_index_or (map length (out (level g cells) row no_state [] fuel s.vertex)) s.port 0 ≡ with_vertex o 0 (λ x. slice_index_or x.outs s.port 0)
         by None e = ap (λ (vs : Values). slice_index_or (map length vs) s.port 0) (nothing_out fuel s.vertex (none_at g cells s.vertex 0 g.vertices e))
         by (Some y) e = ap (λ (ns : List ℕ). slice_index_or ns s.port 0) (sized s.vertex y e)
 
@@ -111,7 +112,8 @@ module _ (g : Graph) (cells row : Values) (valid : is_flat g ≡ true) (rows_fit
       by None e = l
       by (Some y) e = kept_len v len y cell y.kind (guards_hold y.guards (conditions (value_in g cells row) y)) e l
 
-  next_lens : (v : ℕ) (xs : List Vertex) (cs : Values) → all_from (is_vertex g) v xs ≡ true → map length cs ≡ delay_lens xs → map length (next_from g.vertices (value_in g cells row) xs cs) ≡ delay_lens xs
+  next_lens : (v : ℕ) (xs : List Vertex) (cs : Values) → all_from (is_vertex g) v xs ≡ true → map length cs ≡ delay_lens xs
+      → map length (next_from g.vertices (value_in g cells row) xs cs) ≡ delay_lens xs
   next_lens v [] cs h l = refl
   next_lens v (x ∷ xs) cs h l =
       let both = and_parts (is_vertex g v x) (all_from (is_vertex g) (v + 1) xs) h in
@@ -119,7 +121,8 @@ module _ (g : Graph) (cells row : Values) (valid : is_flat g ≡ true) (rows_fit
     where
       by : (kind : Kind) (ds : Values) → has_twin g.vertices v kind x.twin ≡ true → map length ds ≡ delay_len kind ++ delay_lens xs
           → ((es : Values) → map length es ≡ delay_lens xs → map length (next_from g.vertices (value_in g cells row) xs es) ≡ delay_lens xs)
-          → map length (if is_get kind then next_cell g.vertices (value_in g cells row) x.twin (vector_at ds 0) ∷ next_from g.vertices (value_in g cells row) xs (drop 1 ds) else next_from g.vertices (value_in g cells row) xs ds)
+          → map length (if is_get kind then next_cell g.vertices (value_in g cells row) x.twin (vector_at ds 0)
+          ∷ next_from g.vertices (value_in g cells row) xs (drop 1 ds) else next_from g.vertices (value_in g cells row) xs ds)
           ≡ delay_len kind ++ delay_lens xs
       by (Get z) [] t m later = cc
       by (Get z) (d ∷ ds) t m later =

@@ -96,6 +96,15 @@ abbrev pub is_merge : ℕ → List ℕ → List ℕ → Bool
 is_merge values [] outs = false
 is_merge values (c ∷ lens) outs = (c == 1) && (length lens == values + 1) && list_all (λ n. is_only n outs) lens
 
+-- All of these lengths are the same.
+abbrev pub are_equal : List ℕ → Bool
+are_equal [] = true
+are_equal (n ∷ ns) = list_all (λ m. m == n) ns
+
+-- The one whole of this length is in parts of these lengths, which are equally long.
+abbrev pub is_in_equal_parts : List ℕ → List ℕ → Bool
+is_in_equal_parts whole parts = is_only (sum parts) whole && are_equal parts
+
 -- Inputs of these lengths and outputs of those fit the kind.
 abbrev pub fits : List (List Expr) → Kind → List ℕ → List ℕ → Bool
 fits bodies (Sensor i) lens outs = (length lens == 0) && (length outs == 1)
@@ -104,8 +113,8 @@ fits bodies (Function b) lens outs = is_body (length lens) (length outs) (slice_
 fits bodies (Constant z) lens outs = (length lens == 0) && is_only (length z) outs
 fits bodies (Get z) lens outs = (length lens == 0) && is_only (length z) outs
 fits bodies Set lens outs = (length lens == 1) && (length outs == 0)
-fits bodies Explode lens outs = is_only (sum outs) lens
-fits bodies Implode lens outs = is_only (sum lens) outs
+fits bodies Explode lens outs = is_in_equal_parts lens outs
+fits bodies Implode lens outs = is_in_equal_parts outs lens
 fits bodies (Merge values) lens outs = is_merge (length values) lens outs
 
 -- A number is given, and it is v.

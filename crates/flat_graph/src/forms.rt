@@ -1,11 +1,11 @@
 //! The forms of operations: the number and lengths of the inputs and outputs of each kind. `valid` calls it.
-ghost use Rattle.std.specs.Prelude.{◌≡◌, map, slice_get, sum, Some};
+ghost use Rattle.std.specs.Prelude.{◌≡◌, map, slice_get, Some};
 ghost use Rattle.std.specs.List.{list_all};
 ghost use Rattle.body_lang.specs.Expr.{view};
 ghost use Rattle.flat_graph.specs.Graph.{lens_of};
-ghost use Rattle.flat_graph.specs.Valid.{fits, is_body, is_merge, is_only, ports_below};
+ghost use Rattle.flat_graph.specs.Valid.{fits, is_body, is_in_equal_parts, is_merge, is_only, ports_below};
 
-use crate::lengths::{adds_up, is_only, len_of, sources_add_up};
+use crate::lengths::{adds_up, are_equal, are_equally_long, is_only, len_of, sources_add_up};
 use crate::vertex::{Kind, Source, Vertex};
 use body_lang::{Body, Expr, has_ports_below};
 
@@ -60,23 +60,23 @@ fn is_expression(e: &Expr, ins: usize) -> bool
     has_ports_below(e, ins)
 }
 
-/// Whether there is one input, which is as long as the outputs together.
+/// Whether there is one input, which is as long as the outputs together, and these are equally long.
 fn is_explode(vertices: &[Vertex], ins: &[Source], outs: &[u32]) -> bool
-    ensures { result ≡ is_only (sum outs.now) (lens_of vertices.now ins.now) }
+    ensures { result ≡ is_in_equal_parts (lens_of vertices.now ins.now) outs.now }
 {
     match ins {
-        [only] => adds_up(len_of(vertices, *only), outs),
+        [only] => adds_up(len_of(vertices, *only), outs) && are_equal(outs),
         _ => false,
     }
 }
 
-/// Whether there is one output, which is as long as the inputs together.
+/// Whether there is one output, which is as long as the inputs together, and these are equally long.
 #[tactic(auto, using(crate::proofs::Bodies::sum_map))]
 fn is_implode(vertices: &[Vertex], ins: &[Source], outs: &[u32]) -> bool
-    ensures { result ≡ is_only (sum (lens_of vertices.now ins.now)) outs.now }
+    ensures { result ≡ is_in_equal_parts outs.now (lens_of vertices.now ins.now) }
 {
     match outs {
-        [only] => sources_add_up(vertices, *only, ins),
+        [only] => sources_add_up(vertices, *only, ins) && are_equally_long(vertices, ins),
         _ => false,
     }
 }

@@ -2,7 +2,7 @@
 ghost use Rattle.std.specs.Prelude.{◌≡◌, ◌==◌, ◌&&◌, length, nat_le, slice_index_or, sum};
 ghost use Rattle.std.specs.List.{list_all, sum_by};
 ghost use Rattle.flat_graph.specs.Graph.{len_of, lens_of};
-ghost use Rattle.flat_graph.specs.Valid.{is_len, is_only};
+ghost use Rattle.flat_graph.specs.Valid.{are_equal, is_len, is_only};
 
 use crate::vertex::{Source, Vertex};
 use syn_base::len_at;
@@ -90,4 +90,40 @@ pub fn sources_add_up(vertices: &[Vertex], len: u32, sources: &[Source]) -> bool
         left -= part;
     }
     left == 0
+}
+
+/// Whether all of these lengths are the same.
+pub fn are_equal(lens: &[u32]) -> bool
+    ensures { result ≡ are_equal lens.now }
+{
+    match lens {
+        [] => true,
+        [first, others @ ..] => are_all(*first, others),
+    }
+}
+
+/// Whether each of these is this length.
+fn are_all(len: u32, lens: &[u32]) -> bool
+    ensures { result ≡ list_all (λ n. n == len) lens.now }
+{
+    lens.iter().all(|other| *other == len)
+}
+
+/// Whether all of these sources have the same length.
+pub fn are_equally_long(vertices: &[Vertex], sources: &[Source]) -> bool
+    ensures { result ≡ are_equal (lens_of vertices.now sources.now) }
+{
+    match sources {
+        [] => true,
+        [first, others @ ..] => have_length(vertices, len_of(vertices, *first), others),
+    }
+}
+
+/// Whether each source has this length.
+fn have_length(vertices: &[Vertex], len: u32, sources: &[Source]) -> bool
+    ensures { result ≡ list_all (λ s. len_of vertices.now s == len) sources.now }
+{
+    sources
+        .iter()
+        .all(|source| len_of(vertices, *source) == len)
 }

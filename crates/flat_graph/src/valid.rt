@@ -18,9 +18,10 @@ const MOST: usize = 2048;
 /// Whether these operations and bodies are valid: at most 2,048 operations with distinct names of
 /// allowed bytes; lengths of 1 to 64 and at most 64 outputs; sources that are there; a guard's source
 /// of one element, and its case at most the number of its values; inputs and outputs of the number
-/// and lengths of the kind; bodies of one expression for each output over ports that are there; the
-/// halves of each delay each other's twins, the set half later; sensors and actuators numbered from 0
-/// in order; and no operation that depends on itself. It takes no memory.
+/// and lengths of the kind, the parts of an explode and those of an implode equally long; bodies of one
+/// expression for each output over ports that are there; the halves of each delay each other's twins, the
+/// set half later; sensors and actuators numbered from 0 in order; and no operation that depends on
+/// itself. It takes no memory.
 pub fn is_flat(vertices: &[Vertex], bodies: &[Body]) -> bool
     ensures { result ≡ is_flat (record { vertices = vertices.now; bodies = bodies.now }) }
 {

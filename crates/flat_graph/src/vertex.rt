@@ -34,9 +34,9 @@ pub enum Kind {
     Get(Items<i64>),
     /// The half of a delay that keeps its one input for the next reaction.
     Set,
-    /// It gives the parts of its one input.
+    /// It gives the parts of its one input, which are equally long.
     Explode,
-    /// It gives its inputs, one after another.
+    /// It gives its inputs, which are equally long, one after another.
     Implode,
     /// It gives the input of the case that its first input selects, by the values of the cases.
     Merge(Items<i64>),

@@ -129,7 +129,8 @@ module _ (g : Graph) (ops : List Operation) (stands : Stands g ops) (halves : Fo
   level = flat_level (list.stages_of no_state) ops
 
   -- a set half's get half has the same guards and reads nothing
-  get-ends : (done : ℕ → Bool) → ((u : ℕ) → done u ≡ true → Ends g.vertices u) → (u : ℕ) (op : Operation) → slice_get ops (suc u) ≡ Some op → op.task ≡ sets → guards_ready done op.guards ≡ true → Ends g.vertices u
+  get-ends : (done : ℕ → Bool) → ((u : ℕ) → done u ≡ true → Ends g.vertices u) → (u : ℕ) (op : Operation) → slice_get ops (suc u) ≡ Some op
+      → op.task ≡ sets → guards_ready done op.guards ≡ true → Ends g.vertices u
   get-ends done before u op is set guards =
       let half = follow-at None ops halves u op is set in
       let o = half.0 in
@@ -138,7 +139,8 @@ module _ (g : Graph) (ops : List Operation) (stands : Stands g ops) (halves : Fo
       ready-ends g.vertices done before g.bodies u o y.0 y.1 y.2.same
       (ap (guards_ready done) half.3 ∙ guards) (ap (sources_ready done) half.4) (get-end g.vertices y.0.kind y.0.twin get)
 
-  step : (done : ℕ → Bool) → ((u : ℕ) → done u ≡ true → Ends g.vertices u) → (v : ℕ) (op : Operation) → slice_get ops v ≡ Some op → (guards_ready done op.guards && sources_ready done op.ins) ≡ true → Ends g.vertices v
+  step : (done : ℕ → Bool) → ((u : ℕ) → done u ≡ true → Ends g.vertices u) → (v : ℕ) (op : Operation) → slice_get ops v ≡ Some op
+      → (guards_ready done op.guards && sources_ready done op.ins) ≡ true → Ends g.vertices v
   step done before v op is ready =
       let f = vertex_of g.bodies 0 g.vertices ops stands v op is in
       let x = f.0 in
@@ -157,7 +159,8 @@ module _ (g : Graph) (ops : List Operation) (stands : Stands g ops) (halves : Fo
   rounds (suc k) v h =
       by (slice_get ops v) refl (λ u e. rounds k u e) (sym (ap (λ o. with_node o false (is_ready (settled level k))) (slice_get-map (list.node_of (list.stages_of no_state)) ops v)) ∙ h)
     where
-      by : (o : Option Operation) → slice_get ops v ≡ o → ((u : ℕ) → settled level k u ≡ true → Ends g.vertices u) → with_node (option_map (list.node_of (list.stages_of no_state)) o) false (is_ready (settled level k)) ≡ true → Ends g.vertices v
+      by : (o : Option Operation) → slice_get ops v ≡ o → ((u : ℕ) → settled level k u ≡ true → Ends g.vertices u)
+          → with_node (option_map (list.node_of (list.stages_of no_state)) o) false (is_ready (settled level k)) ≡ true → Ends g.vertices v
       by None e before r = absurd (false≢true r)
       by (Some op) e before r = step (settled level k) before v op e r
 

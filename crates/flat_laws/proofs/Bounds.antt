@@ -26,7 +26,8 @@ tasks-stages : (W : Source → Source) (b : ℕ) (path : Path) (l : Label) (i : 
 tasks-stages W b path l i [] = tt
 tasks-stages W b path l i (v ∷ vs) = (tt, (tt, tasks-stages W (b + 2) path l (suc i) vs))
 
-tasks-by : (W : Source → Source) (b : ℕ) (at : Path → Path) (l : Label) (k : Kind) (inner : List Source → ℕ → (Path → Path) → List Operation) → ((own : List Source) → TasksBounded (inner own b (λ q. at (l.part ∷ q))))
+tasks-by : (W : Source → Source) (b : ℕ) (at : Path → Path) (l : Label) (k : Kind)
+    (inner : List Source → ℕ → (Path → Path) → List Operation) → ((own : List Source) → TasksBounded (inner own b (λ q. at (l.part ∷ q))))
     → IsKindBounded k l.outs → TasksBounded (inlined_by W b at l k inner)
 tasks-by W b at l (graph outs) inner deep h = deep (map W l.ins)
 tasks-by W b at l (delay vs) inner deep h = tasks-stages W b (at (l.part ∷ [])) l 0 vs

@@ -18,7 +18,8 @@ own-append i (g ∷ gs) hs =
 weaker-start : {A : Type 0} (xs hs ys : List A) → StartsWith (xs ++ hs) ys → StartsWith xs ys
 weaker-start xs hs ys h = (hs ++ h.0, h.1 ∙ append_assoc xs hs h.0)
 
-weaker-by : (gs hs : List Guard) (l : Label) (k : Kind) (inside : List Guard → Type 0) → (inside (own_guards 0 gs ++ own_guards (0 + length gs) hs) → inside (own_guards 0 gs)) → CarriesBy (gs ++ hs) l k inside → CarriesBy gs l k inside
+weaker-by : (gs hs : List Guard) (l : Label) (k : Kind) (inside : List Guard → Type 0)
+    → (inside (own_guards 0 gs ++ own_guards (0 + length gs) hs) → inside (own_guards 0 gs)) → CarriesBy (gs ++ hs) l k inside → CarriesBy gs l k inside
 weaker-by gs hs l (graph outs) inside deep h =
     (weaker-start (guard_sources gs) (guard_sources hs) l.ins (subst (λ ss. StartsWith ss l.ins) (map-append (λ (g : Guard). g.source) gs hs) h.0), deep (subst inside (own-append 0 gs hs) h.1))
 weaker-by gs hs l (sensor m) inside deep h = weaker-start gs hs l.guards h
@@ -49,10 +50,14 @@ carry-merges d gs m values k lens q [] = tt
 carry-merges d gs m values k lens q (x ∷ names) = (([], sym (append-nil gs)), carry-merges d gs m values k lens (suc q) names)
 
 carry-by : (gs : List Guard) (n : ℕ) (l : Label) (k : Kind) (us : Vertices) (inner : List Guard → ℕ → Vertices) (cases : List Guard → ℕ → List ℤ → Vertices)
-    → AllCarry (own_guards 0 gs) (inner (own_guards 0 gs) (length gs)) → ((values : List ℤ) → AllCarry (own_guards 0 gs) (cases (own_guards 0 gs) (length gs) values)) → Carries gs (guarded_by gs n l k us inner cases)
+    → AllCarry (own_guards 0 gs) (inner (own_guards 0 gs) (length gs))
+    → ((values : List ℤ) → AllCarry (own_guards 0 gs) (cases (own_guards 0 gs) (length gs) values)) → Carries gs (guarded_by gs n l k us inner cases)
 carry-by gs n l (graph outs) us inner cases a b = ((map (shift n) l.ins, refl), a)
-carry-by gs n l (switch values names) us inner cases a b =
-    ((map (shift n) l.ins, refl), carry-joined (own_guards 0 gs) (cases (own_guards 0 gs) (length gs) values) _ (b values) (carry-merges l.definition (own_guards 0 gs) (length gs) values (count_of us) l.outs 0 names))
+carry-by gs n l (switch values names) us inner cases a b = (
+  (map (shift n) l.ins, refl),
+  carry-joined (own_guards 0 gs) (cases (own_guards 0 gs) (length gs) values) _ (b values)
+      (carry-merges l.definition (own_guards 0 gs) (length gs) values (count_of us) l.outs 0 names),
+)
 carry-by gs n l (repeat m feeds gives) us inner cases a b = (map (shift_guard n) l.guards, refl)
 carry-by gs n l (sensor m) us inner cases a b = (map (shift_guard n) l.guards, refl)
 carry-by gs n l (actuator m) us inner cases a b = (map (shift_guard n) l.guards, refl)
@@ -66,7 +71,8 @@ carry-by gs n l (merge values) us inner cases a b = (map (shift_guard n) l.guard
 mutual
   pub carries : (gs : List Guard) (n : ℕ) (u : Vertex) → Carries gs (guarded gs n u)
   carries gs n (vertex l us) =
-      carry-by gs n l l.kind us (λ inside m. guarded_all inside m us) (λ inside m values. guarded_cases inside m values 0 us) (carry-all (own_guards 0 gs) (length gs) us) (λ values. carry-cases (own_guards 0 gs) (length gs) values 0 us)
+      carry-by gs n l l.kind us (λ inside m. guarded_all inside m us) (λ inside m values. guarded_cases inside m values 0 us)
+      (carry-all (own_guards 0 gs) (length gs) us) (λ values. carry-cases (own_guards 0 gs) (length gs) values 0 us)
 
   carry-all : (gs : List Guard) (n : ℕ) (us : Vertices) → AllCarry gs (guarded_all gs n us)
   carry-all gs n no_vertices = tt
@@ -74,4 +80,8 @@ mutual
 
   carry-cases : (gs : List Guard) (m : ℕ) (values : List ℤ) (i : ℕ) (us : Vertices) → AllCarry gs (guarded_cases gs m values i us)
   carry-cases gs m values i no_vertices = tt
-  carry-cases gs m values i (and_vertex u us) = (weaker gs (guard_for m values i ∷ []) (guarded (gs ++ guard_for m values i ∷ []) m u) (carries (gs ++ guard_for m values i ∷ []) m u), carry-cases gs m values (suc i) us)
+  carry-cases gs m values i (and_vertex u us) = (
+    weaker gs (guard_for m values i ∷ []) (guarded (gs ++ guard_for m values i ∷ []) m u)
+        (carries (gs ++ guard_for m values i ∷ []) m u),
+    carry-cases gs m values (suc i) us,
+  )

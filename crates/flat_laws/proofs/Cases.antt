@@ -1,5 +1,43 @@
 -- A switch and its graph of guarded cases and merges do the same.
-use Rattle.std.proofs.Common.{◌≡◌, ◌≢◌, ℤ, ℕ, zero, suc, ◌+◌, ◌<◌, ◌≤◌, ◌==◌, inl, inr, List, [], ◌∷◌, ◌++◌, length, get_or, slice_index_or, map, Bool, true, false, cond, ◌&&◌, Option, Some, slice_get, refl, sym, ap, ap₂, ◌∙◌, subst, arith, eq-eqb, zero-add}
+use Rattle.std.proofs.Common.{
+  ◌≡◌,
+  ◌≢◌,
+  ℤ,
+  ℕ,
+  zero,
+  suc,
+  ◌+◌,
+  ◌<◌,
+  ◌≤◌,
+  ◌==◌,
+  inl,
+  inr,
+  List,
+  [],
+  ◌∷◌,
+  ◌++◌,
+  length,
+  get_or,
+  slice_index_or,
+  map,
+  Bool,
+  true,
+  false,
+  cond,
+  ◌&&◌,
+  Option,
+  Some,
+  slice_get,
+  refl,
+  sym,
+  ap,
+  ap₂,
+  ◌∙◌,
+  subst,
+  arith,
+  eq-eqb,
+  zero-add,
+}
 use Rattle.std.proofs.Math.Bool.{and-true, and-false}
 use mathlib.Core.Path.{fun_ext}
 use Rattle.std.proofs.lemmas.List.{map-append}
@@ -11,7 +49,29 @@ use Rattle.algo_tree.specs.declared.Source.TheVariants.{Own, Of}
 use Rattle.algo_tree.specs.declared.Guard.{Guard}
 use Rattle.algo_tree.specs.declared.Part.{Part}
 use Rattle.algo_tree.specs.declared.Part.TheVariants.{Port}
-use Rattle.algo_tree.specs.Level.{State, Path, Node, below, element_at, selected, source_value, all_hold, with_node, same_part, find_node, node_outputs, node_next, out, case_look, case_outputs, switch_outputs, switch_next, graph_outputs, graph_next, graph_initial}
+use Rattle.algo_tree.specs.Level.{
+  State,
+  Path,
+  Node,
+  below,
+  element_at,
+  selected,
+  source_value,
+  all_hold,
+  with_node,
+  same_part,
+  find_node,
+  node_outputs,
+  node_next,
+  out,
+  case_look,
+  case_outputs,
+  switch_outputs,
+  switch_next,
+  graph_outputs,
+  graph_next,
+  graph_initial,
+}
 use Rattle.algo_tree.specs.Order.{IsAcyclic, IsBefore, AreBefore, GuardsBefore, MeetsLevel}
 use Rattle.algo_tree.specs.Parts.{IsApart, HasDistinctParts}
 use Rattle.algo_tree.proofs.Fuel.{unique}
@@ -257,7 +317,8 @@ module _ (D : List ℕ) (gs : List Guard) (m : ℕ) (values : List ℤ) (cs ds :
             ∙ ap (λ s. s q) (u.next row (below c.part st) (case_look ins) look0 follows0 (holds_at (λ _. []) i e))
         here false i c d o e u fed later = later
 
-        differs : (b : Bool) (c : Node) (x : Part) → same_part c.part p ≡ b → x ≡ p → same_part x c.part ≡ false → cond b (node_next row (below c.part st) (case_look ins) c q) (st (p ∷ q)) ≡ st (p ∷ q)
+        differs : (b : Bool) (c : Node) (x : Part) → same_part c.part p ≡ b → x ≡ p → same_part x c.part ≡ false
+            → cond b (node_next row (below c.part st) (case_look ins) c q) (st (p ∷ q)) ≡ st (p ∷ q)
         differs true c x e is apart =
             let same : x ≡ c.part = is ∙ sym (same_means c.part p e) in
             absurd (false≢true (sym apart ∙ subst (λ y. same_part x y ≡ true) same (same_itself x)))
@@ -268,7 +329,8 @@ module _ (D : List ℕ) (gs : List Guard) (m : ℕ) (values : List ℤ) (cs ds :
         not_here (c ∷ ks) zero x e h = differs (same_part c.part p) c x refl e h.0
         not_here (c ∷ ks) (suc j) x e h = not_here ks j x e h.1
 
-        passed : (b : Bool) (j : ℕ) (c d : Node) (ks : List Node) (o : Option Node) → same_part d.part p ≡ b → d.part ≡ c.part → node_next row (below d.part st) (source_value ins' f) d ≡ below d.part st
+        passed : (b : Bool) (j : ℕ) (c d : Node) (ks : List Node) (o : Option Node) → same_part d.part p ≡ b → d.part ≡ c.part
+            → node_next row (below d.part st) (source_value ins' f) d ≡ below d.part st
             → found o ≡ in_case (slice_get ks j) → IsApart c.part ks → found (cond b (Some d) o) ≡ in_case (slice_get ks j)
         passed true j c d ks o e part still later apart =
             let is : d.part ≡ p = same_means d.part p e in
@@ -281,7 +343,9 @@ module _ (D : List ℕ) (gs : List Guard) (m : ℕ) (values : List ℤ) (cs ds :
         up_to_it i j [] (x ∷ es) more s e h d lt = absurd h
         up_to_it i j (c ∷ ks) [] more s e h d lt = absurd h
         up_to_it i zero (c ∷ ks) (x ∷ es) more s e h d lt =
-            here (same_part x.part p) i c x _ (omega arith) h.0.0 h.0.1 (still_found row st (source_value ins' f) p q (es ++ more) (still-append row st (source_value ins' f) es more (later-still f (suc i) ks es h.1 (omega arith)) s))
+            here (same_part x.part p) i c x _ (omega arith) h.0.0 h.0.1
+            (still_found row st (source_value ins' f) p q (es ++ more)
+            (still-append row st (source_value ins' f) es more (later-still f (suc i) ks es h.1 (omega arith)) s))
             ∙ ap (λ y. cond (same_part y p) (node_next row (below c.part st) (case_look ins) c q) (st (p ∷ q))) h.0.0.part
         up_to_it i (suc j) (c ∷ ks) (x ∷ es) more s e h d lt =
             passed (same_part x.part p) j c x ks _ refl h.0.0.part (h.0.0.idle row (below x.part st) (source_value ins' f) (not_chosen f i (λ e2. omega arith)))
@@ -309,7 +373,8 @@ own_guards_before k (g ∷ gs) h = (own_source_before k g.source h.0, own_guards
     own_source_before k (Own j) h = tt
     own_source_before k (Of r p) h = absurd h
 
-pub cases_level-acyclic : (D : List ℕ) (gs : List Guard) (m : ℕ) (values : List ℤ) (cs ds : List Node) (names : List (List ℕ)) (lens : List ℕ) → OwnGuards gs → CasesUnder gs m values 0 cs ds → IsAcyclic (cases_level D gs m values cs ds names lens)
+pub cases_level-acyclic : (D : List ℕ) (gs : List Guard) (m : ℕ) (values : List ℤ) (cs ds : List Node) (names : List (List ℕ))
+    (lens : List ℕ) → OwnGuards gs → CasesUnder gs m values 0 cs ds → IsAcyclic (cases_level D gs m values cs ds names lens)
 cases_level-acyclic D gs m values cs ds names lens own cases =
     acyclic-in_order _ (in_order-from _ (order-append 0 ds _ (cases_order 0 0 cs ds cases) (merges_order (0 + length ds) 0 names (let k = same_count gs m values 0 cs ds cases in omega (arith, k)))))
   where
@@ -343,7 +408,8 @@ switch_first-same D gs m values cs ds names lens cases = fun_ext by_path
     same true c d o o' q e later = ap (λ s. s q) e
     same false c d o o' q e later = later
 
-    in_cases : (p : Part) (q : Path) (i : ℕ) (ks es : List Node) → CasesUnder gs m values i ks es → first q (find_node p (es ++ merge_kids D gs m values cs ds names lens 0 names)) ≡ first q (find_node p ks)
+    in_cases : (p : Part) (q : Path) (i : ℕ) (ks es : List Node) → CasesUnder gs m values i ks es
+        → first q (find_node p (es ++ merge_kids D gs m values cs ds names lens 0 names)) ≡ first q (find_node p ks)
     in_cases p q i [] [] h = in_merges p q 0 names
     in_cases p q i [] (d ∷ es) h = absurd h
     in_cases p q i (c ∷ ks) [] h = absurd h

@@ -1,5 +1,41 @@
 -- The cells of the flat list are the kept values of the tree, path by path and stage by stage.
-use Rattle.std.proofs.Common.{◌≡◌, ℕ, zero, suc, ◌+◌, ◌<◌, ◌≤◌, ◌==◌, List, [], ◌∷◌, ◌++◌, length, map, drop, slice_index_or, Bool, true, false, cond, ◌&&◌, Option, None, Some, refl, sym, ap, ap₂, ◌∙◌, subst, arith, eq-eqb, ne_eqb, zero-add, length-append}
+use Rattle.std.proofs.Common.{
+  ◌≡◌,
+  ℕ,
+  zero,
+  suc,
+  ◌+◌,
+  ◌<◌,
+  ◌≤◌,
+  ◌==◌,
+  List,
+  [],
+  ◌∷◌,
+  ◌++◌,
+  length,
+  map,
+  drop,
+  slice_index_or,
+  Bool,
+  true,
+  false,
+  cond,
+  ◌&&◌,
+  Option,
+  None,
+  Some,
+  refl,
+  sym,
+  ap,
+  ap₂,
+  ◌∙◌,
+  subst,
+  arith,
+  eq-eqb,
+  ne_eqb,
+  zero-add,
+  length-append,
+}
 use Rattle.std.specs.Prelude.{if◌then◌else◌}
 use mathlib.Core.Path.{fun_ext}
 use Rattle.std.proofs.lemmas.Bool.{false≢true, eqb-true}
@@ -46,7 +82,8 @@ module _ (test : Task → Bool) (value : Operation → Vector) (other : Stages) 
       and_false true = refl
       and_false false = refl
 
-  miss-stages : (W : Source → Source) (b : ℕ) (path : Path) (l : Label) (i : ℕ) (vs : List Vector) (more : List Operation) (x : Path) → same_path path x ≡ false → picked (stages W b path l i vs ++ more) x ≡ picked more x
+  miss-stages : (W : Source → Source) (b : ℕ) (path : Path) (l : Label) (i : ℕ) (vs : List Vector) (more : List Operation) (x : Path)
+      → same_path path x ≡ false → picked (stages W b path l i vs ++ more) x ≡ picked more x
   miss-stages W b path l i [] more x h = refl
   miss-stages W b path l i (v ∷ vs) more x h =
       let rest = stages W (b + 2) path l (suc i) vs ++ more in
@@ -70,18 +107,21 @@ module _ (test : Task → Bool) (value : Operation → Vector) (other : Stages) 
   miss-by W b at l (merge values) inner more x deep h = skipped (operation_of W (at (l.part ∷ [])) 0 l (map W l.ins) l.outs (runs (merge values))) more x (h [])
 
   mutual
-    miss-vertex : (W : Source → Source) (b : ℕ) (at : Path → Path) (u : Vertex) (more : List Operation) (x : Path) → ((q : Path) → same_path (at ((node u).part ∷ q)) x ≡ false) → picked (inlined W b at u ++ more) x ≡ picked more x
+    miss-vertex : (W : Source → Source) (b : ℕ) (at : Path → Path) (u : Vertex) (more : List Operation) (x : Path)
+        → ((q : Path) → same_path (at ((node u).part ∷ q)) x ≡ false) → picked (inlined W b at u ++ more) x ≡ picked more x
     miss-vertex W b at (vertex l us) more x h =
         miss-by W b at l l.kind _ more x (λ own h2. miss-all (wire (wirings b us) own) b (λ q. at (l.part ∷ q)) us more x (λ y q. h2 (y ∷ q))) h
 
-    miss-all : (W : Source → Source) (b : ℕ) (at : Path → Path) (us : Vertices) (more : List Operation) (x : Path) → ((y : Part) (q : Path) → same_path (at (y ∷ q)) x ≡ false) → picked (inlined_all W b at us ++ more) x ≡ picked more x
+    miss-all : (W : Source → Source) (b : ℕ) (at : Path → Path) (us : Vertices) (more : List Operation) (x : Path)
+        → ((y : Part) (q : Path) → same_path (at (y ∷ q)) x ≡ false) → picked (inlined_all W b at us ++ more) x ≡ picked more x
     miss-all W b at no_vertices more x h = refl
     miss-all W b at (and_vertex u us) more x h =
         ap (λ ops. picked ops x) (append_assoc (inlined W b at u) (inlined_all W (b + count u) at us) more)
         ∙ miss-vertex W b at u (inlined_all W (b + count u) at us ++ more) x (h (node u).part) ∙ miss-all W (b + count u) at us more x h
 
   -- vertices with other parts
-  miss-apart : (W : Source → Source) (b : ℕ) (at : Path → Path) (us : Vertices) (more : List Operation) (x : Part) (q : Path) → Keeps at → IsApart x (nodes us) → picked (inlined_all W b at us ++ more) (at (x ∷ q)) ≡ picked more (at (x ∷ q))
+  miss-apart : (W : Source → Source) (b : ℕ) (at : Path → Path) (us : Vertices) (more : List Operation) (x : Part) (q : Path) → Keeps at
+      → IsApart x (nodes us) → picked (inlined_all W b at us ++ more) (at (x ∷ q)) ≡ picked more (at (x ∷ q))
   miss-apart W b at no_vertices more x q keeps h = refl
   miss-apart W b at (and_vertex u us) more x q keeps h =
       ap (λ ops. picked ops (at (x ∷ q))) (append_assoc (inlined W b at u) (inlined_all W (b + count u) at us) more)
@@ -91,7 +131,8 @@ module _ (test : Task → Bool) (value : Operation → Vector) (other : Stages) 
   -- what each vertex of a level tells at the paths below it
   module _ (R : Node → Path → Vector) where
     abbrev pub Hit : (Source → Source) → ℕ → (Path → Path) → Vertex → Type 0
-    Hit W b at u = (more : List Operation) (q : Path) → picked more (at ((node u).part ∷ q)) ≡ other (at ((node u).part ∷ q)) j → picked (inlined W b at u ++ more) (at ((node u).part ∷ q)) ≡ R (node u) q
+    Hit W b at u = (more : List Operation) (q : Path) → picked more (at ((node u).part ∷ q)) ≡ other (at ((node u).part ∷ q)) j
+        → picked (inlined W b at u ++ more) (at ((node u).part ∷ q)) ≡ R (node u) q
 
     abbrev pub AllHit : (Source → Source) → ℕ → (Path → Path) → Vertices → Type 0
     AllHit W b at no_vertices = Unit {0}
@@ -101,7 +142,8 @@ module _ (test : Task → Bool) (value : Operation → Vector) (other : Stages) 
     told at cs [] = other (at []) j
     told at cs (p ∷ q) = with_node (find_node p cs) (other (at (p ∷ q)) j) (λ c. R c q)
 
-    pub hit-all : (W : Source → Source) (b : ℕ) (at : Path → Path) (us : Vertices) → Keeps at → HasDistinctParts (nodes us) → AllHit W b at us → (more : List Operation) (q : Path) → picked more (at q) ≡ other (at q) j
+    pub hit-all : (W : Source → Source) (b : ℕ) (at : Path → Path) (us : Vertices) → Keeps at → HasDistinctParts (nodes us)
+        → AllHit W b at us → (more : List Operation) (q : Path) → picked more (at q) ≡ other (at q) j
         → picked (inlined_all W b at us ++ more) (at q) ≡ told at (nodes us) q
     hit-all W b at us keeps distinct hits more [] same = miss-all W b at us more (at []) (λ y q. keeps (y ∷ q) []) ∙ same
     hit-all W b at no_vertices keeps distinct hits more (p ∷ q) same = same
@@ -175,7 +217,9 @@ module _ (j : ℕ) where
 
   first-by : (W : Source → Source) (b : ℕ) (at : Path → Path) (l : Label) (us : Vertices) → Keeps at → (k : Kind) → IsKindInlinable k l.guards (nodes us)
       → ((own : List Source) → FirstHit (wire (wirings b us) own) b (λ q. at (l.part ∷ q)) us) → (more : List Operation) (q : Path)
-      → first_cells more (at (l.part ∷ q)) j ≡ [] → first_cells (inlined_by W b at l k (λ own c below'. inlined_all (wire (wirings c us) own) c below' us) ++ more) (at (l.part ∷ q)) j ≡ FirstTold (node (vertex (with_kind l k) us)) q
+      → first_cells more (at (l.part ∷ q)) j ≡ []
+      → first_cells (inlined_by W b at l k (λ own c below'. inlined_all (wire (wirings c us) own) c below' us) ++ more)
+      (at (l.part ∷ q)) j ≡ FirstTold (node (vertex (with_kind l k) us)) q
   first-by W b at l us keeps (graph outs) h deep more q same =
       hit-all is_get first_of (stages_of no_state) j FirstTold (wire (wirings b us) (map W l.ins)) b (λ q. at (l.part ∷ q)) us (keeps-below at l.part keeps) h.1.1 (deep (map W l.ins)) more q same
       ∙ first-is (λ q. at (l.part ∷ q)) (nodes us) q
@@ -205,7 +249,8 @@ append_none : {A : Type 0} (xs : List A) → xs ++ [] ≡ xs
 append_none [] = refl
 append_none (x ∷ xs) = ap (λ ys. x ∷ ys) (append_none xs)
 
-pub first-level : (own : List Source) (b : ℕ) (at : Path → Path) (us : Vertices) → Keeps at → AllCanInline us → HasDistinctParts (nodes us) → (q : Path) (j : ℕ) → first_cells (inlined_level own b at us) (at q) j ≡ vector_at (graph_initial (nodes us) q) j
+pub first-level : (own : List Source) (b : ℕ) (at : Path → Path) (us : Vertices) → Keeps at → AllCanInline us → HasDistinctParts (nodes us)
+    → (q : Path) (j : ℕ) → first_cells (inlined_level own b at us) (at q) j ≡ vector_at (graph_initial (nodes us) q) j
 first-level own b at us keeps h distinct q j =
     ap (λ ops. first_cells ops (at q) j) (sym (append_none (inlined_level own b at us)))
     ∙ hit-all is_get first_of (stages_of no_state) j (FirstTold j) (wire (wirings b us) own) b at us keeps distinct (first-all j (wire (wirings b us) own) b at us keeps h) [] q refl
@@ -281,7 +326,8 @@ module _ (row : Values) (kept : State) (V : Source → Vector) (nothing : (k : �
     set-stages b i [] more e same = same
     set-stages b i (v ∷ vs) more e same =
         ap (λ t. cond (t && (i == j)) (set_value V cells (operation_of W path i l (stage_input b (map W l.ins) vs) [] sets)) (next_cells V cells (stages W (b + 2) path l (suc i) vs ++ more) path j)) e
-        ∙ ap₂ (λ h r. cond (i == j) (cond h (vector_at (map V (stage_input b (map W l.ins) vs)) 0) (vector_at K i)) r) (hold-wired row kept V nothing W l.guards) (set-stages (b + 2) (suc i) vs more e same)
+        ∙ ap₂ (λ h r. cond (i == j) (cond h (vector_at (map V (stage_input b (map W l.ins) vs)) 0) (vector_at K i)) r)
+        (hold-wired row kept V nothing W l.guards) (set-stages (b + 2) (suc i) vs more e same)
 
     -- where a guard does not hold all stays
     left-idle : (b i : ℕ) (vs : List Vector) → holds ≡ false → left b i vs ≡ vector_at K j
@@ -300,7 +346,8 @@ module _ (row : Values) (kept : State) (V : Source → Vector) (nothing : (k : �
     input-is b i (v ∷ vs) m on long =
         m.0 0 ∙ ap (λ h. vector_at (cond h (vector_at K (suc i) ∷ []) (map zeros l.outs)) 0) (hold-wired row kept V nothing W l.guards ∙ on) ∙ sym (after-inner K x i (omega (arith, long)))
 
-    left-active : (b i n : ℕ) (vs : List Vector) → Meets row kept V nothing b (stages W b path l i vs) → holds ≡ true → 1 ≤ length K → i + length vs ≡ length K → i + n ≡ j → left b i vs ≡ vector_at (after K x) j
+    left-active : (b i n : ℕ) (vs : List Vector) → Meets row kept V nothing b (stages W b path l i vs) → holds ≡ true → 1 ≤ length K
+        → i + length vs ≡ length K → i + n ≡ j → left b i vs ≡ vector_at (after K x) j
     left-active b i n [] m on some long at_j = after-past K x j some (omega (arith, long, at_j))
     left-active b i zero (v ∷ vs) m on some long at_j =
         let two : suc (suc b) ≡ b + 2 = omega arith in
@@ -315,21 +362,27 @@ module _ (row : Values) (kept : State) (V : Source → Vector) (nothing : (k : �
         ap (λ t. cond t (cond holds (vector_at (map V (stage_input b (map W l.ins) vs)) 0) (vector_at K i)) (left (b + 2) (suc i) vs)) (ne_eqb i j (λ e. omega (arith, e, at_j)))
         ∙ left-active (b + 2) (suc i) n vs rest on some (omega (arith, long)) (omega (arith, at_j))
 
-    left-is : (b : ℕ) (vs : List Vector) → Meets row kept V nothing b (stages W b path l 0 vs) → 1 ≤ length vs → length K ≡ length vs → (t : Bool) → holds ≡ t → left b 0 vs ≡ cond t (vector_at (after K x) j) (vector_at K j)
+    left-is : (b : ℕ) (vs : List Vector) → Meets row kept V nothing b (stages W b path l 0 vs) → 1 ≤ length vs → length K ≡ length vs
+        → (t : Bool) → holds ≡ t → left b 0 vs ≡ cond t (vector_at (after K x) j) (vector_at K j)
     left-is b vs m some long true on = left-active b 0 j vs m on (omega (arith, some, long)) (omega (arith, long)) (zero-add j)
     left-is b vs m some long false off = left-idle b 0 vs off
 
-  next-by : (W : Source → Source) (b : ℕ) (at : Path → Path) (l : Label) (us : Vertices) → Keeps at → (k : Kind) → IsKindInlinable k l.guards (nodes us) → IsKindLong k (λ q. kept (at (l.part ∷ q))) (AllLong us (λ q. kept (at (l.part ∷ q))))
+  next-by : (W : Source → Source) (b : ℕ) (at : Path → Path) (l : Label) (us : Vertices) → Keeps at → (k : Kind)
+      → IsKindInlinable k l.guards (nodes us) → IsKindLong k (λ q. kept (at (l.part ∷ q))) (AllLong us (λ q. kept (at (l.part ∷ q))))
       → Meets row kept V nothing b (inlined_by W b at l k (λ own c below'. inlined_all (wire (wirings c us) own) c below' us))
       → Reads row kept V nothing us
-      → ((own : List Source) → AllLong us (λ q. kept (at (l.part ∷ q))) → Meets row kept V nothing b (inlined_level own b (λ q. at (l.part ∷ q)) us) → NextHit (wire (wirings b us) own) b (λ q. at (l.part ∷ q)) us) → (more : List Operation) (q : Path)
+      → ((own : List Source) → AllLong us (λ q. kept (at (l.part ∷ q)))
+      → Meets row kept V nothing b (inlined_level own b (λ q. at (l.part ∷ q)) us)
+      → NextHit (wire (wirings b us) own) b (λ q. at (l.part ∷ q)) us) → (more : List Operation) (q : Path)
       → next_cells V cells more (at (l.part ∷ q)) j ≡ cells (at (l.part ∷ q)) j
-      → next_cells V cells (inlined_by W b at l k (λ own c below'. inlined_all (wire (wirings c us) own) c below' us) ++ more) (at (l.part ∷ q)) j ≡ NextTold (λ s. V (W s)) at (node (vertex (with_kind l k) us)) q
+      → next_cells V cells (inlined_by W b at l k (λ own c below'. inlined_all (wire (wirings c us) own) c below' us) ++ more)
+      (at (l.part ∷ q)) j ≡ NextTold (λ s. V (W s)) at (node (vertex (with_kind l k) us)) q
   next-by W b at l us keeps (graph outs) h long m reads deep more q same =
       let at' = λ (q : Path). at (l.part ∷ q) in
       let own = map W l.ins in
       let look = λ (s : Source). V (W s) in
-      hit-all is_set (set_value V cells) cells j (NextTold (λ s. V (wire (wirings b us) own s)) at') (wire (wirings b us) own) b at' us (keeps-below at l.part keeps) h.1.1 (deep own long m) more q same
+      hit-all is_set (set_value V cells) cells j (NextTold (λ s. V (wire (wirings b us) own s)) at') (wire (wirings b us) own) b at' us
+      (keeps-below at l.part keeps) h.1.1 (deep own long m) more q same
       ∙ next-is (λ s. V (wire (wirings b us) own s)) at' (nodes us) (map look l.ins) (reads own b at' (map look l.ins) h.1.0 (own_wired row kept V nothing W l.ins) m) q
       ∙ sym (ap (λ gs. vector_at (cond (all_hold look gs) (graph_next (nodes us) row (λ q. kept (at' q)) (map look l.ins)) (λ q. kept (at' q)) q) j) h.0)
   next-by W b at l us keeps (switch values names) h long m reads deep more q same = absurd h
@@ -358,22 +411,29 @@ module _ (row : Values) (kept : State) (V : Source → Vector) (nothing : (k : �
   next-by W b at l us keeps (merge values) h long m reads deep more q same = same ∙ ap (λ ks. vector_at ks j) (still (λ s. V (W s)) l.guards (λ q. kept (at (l.part ∷ q))) q)
 
   mutual
-    next-vertex : (W : Source → Source) (b : ℕ) (at : Path → Path) (u : Vertex) → Keeps at → CanInline u → IsLong u (λ q. kept (at ((node u).part ∷ q))) → Meets row kept V nothing b (inlined W b at u) → Hit is_set (set_value V cells) cells j (NextTold (λ s. V (W s)) at) W b at u
+    next-vertex : (W : Source → Source) (b : ℕ) (at : Path → Path) (u : Vertex) → Keeps at → CanInline u
+        → IsLong u (λ q. kept (at ((node u).part ∷ q))) → Meets row kept V nothing b (inlined W b at u)
+        → Hit is_set (set_value V cells) cells j (NextTold (λ s. V (W s)) at) W b at u
     next-vertex W b at (vertex l us) keeps h long m more q same =
         next-by W b at l us keeps l.kind h.0 long m (reads-all row kept V nothing us h.1)
         (λ own long2 m2. next-all (wire (wirings b us) own) b (λ q. at (l.part ∷ q)) us (keeps-below at l.part keeps) h.1 long2 m2) more q same
 
-    next-all : (W : Source → Source) (b : ℕ) (at : Path → Path) (us : Vertices) → Keeps at → AllCanInline us → AllLong us (λ q. kept (at q)) → Meets row kept V nothing b (inlined_all W b at us) → NextHit W b at us
+    next-all : (W : Source → Source) (b : ℕ) (at : Path → Path) (us : Vertices) → Keeps at → AllCanInline us
+        → AllLong us (λ q. kept (at q)) → Meets row kept V nothing b (inlined_all W b at us) → NextHit W b at us
     next-all W b at no_vertices keeps h long m = tt
     next-all W b at (and_vertex u us) keeps h long m = (
       next-vertex W b at u keeps h.0 long.0 (meets-left row kept V nothing b (inlined W b at u) _ m),
-      next-all W (b + count u) at us keeps h.1 long.1 (subst (λ n. Meets row kept V nothing (b + n) (inlined_all W (b + count u) at us)) (long-inlined W b at u h.0) (meets-right row kept V nothing b (inlined W b at u) _ m)),
+      next-all W (b + count u) at us keeps h.1 long.1
+          (subst (λ n. Meets row kept V nothing (b + n) (inlined_all W (b + count u) at us)) (long-inlined W b at u h.0)
+          (meets-right row kept V nothing b (inlined W b at u) _ m)),
     )
 
-  pub next-level : (own : List Source) (b : ℕ) (at : Path → Path) (us : Vertices) (ins : Values) → Keeps at → AllCanInline us → AllLong us (λ q. kept (at q)) → IsAcyclic (nodes us) → HasDistinctParts (nodes us)
+  pub next-level : (own : List Source) (b : ℕ) (at : Path → Path) (us : Vertices) (ins : Values) → Keeps at → AllCanInline us
+      → AllLong us (λ q. kept (at q)) → IsAcyclic (nodes us) → HasDistinctParts (nodes us)
       → ((k : ℕ) → V (slice_index_or own k nowhere) ≡ vector_at ins k) → Meets row kept V nothing b (inlined_level own b at us) → (q : Path)
       → next_cells V cells (inlined_level own b at us) (at q) j ≡ vector_at (graph_next (nodes us) row (λ q. kept (at q)) ins q) j
   next-level own b at us ins keeps h long acyclic distinct fed m q =
       ap (λ ops. next_cells V cells ops (at q) j) (sym (append_none (inlined_level own b at us)))
-      ∙ hit-all is_set (set_value V cells) cells j (NextTold (λ s. V (wire (wirings b us) own s)) at) (wire (wirings b us) own) b at us keeps distinct (next-all (wire (wirings b us) own) b at us keeps h long m) [] q refl
+      ∙ hit-all is_set (set_value V cells) cells j (NextTold (λ s. V (wire (wirings b us) own s)) at)
+      (wire (wirings b us) own) b at us keeps distinct (next-all (wire (wirings b us) own) b at us keeps h long m) [] q refl
       ∙ next-is (λ s. V (wire (wirings b us) own s)) at (nodes us) ins (reads-all row kept V nothing us h own b at ins acyclic fed m) q

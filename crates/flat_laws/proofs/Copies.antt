@@ -28,7 +28,8 @@ use Rattle.flat_laws.proofs.Rows.{unit_of, outlets-of}
 use Rattle.syn_base.specs.Numbers.{numbers_below}
 
 -- a delay leads to its get half, whatever it takes
-blind : (p : Path) (k : Kind) (us : List Outlet) (body : ℕ → List Origin → ℕ → Origin) (f : Source → Origin) (ss : List Source) (q : ℕ) → leads_by p k us body (map f (asked_by k ss)) q ≡ leads_by p k us body (map f ss) q
+blind : (p : Path) (k : Kind) (us : List Outlet) (body : ℕ → List Origin → ℕ → Origin) (f : Source → Origin) (ss : List Source) (q : ℕ)
+    → leads_by p k us body (map f (asked_by k ss)) q ≡ leads_by p k us body (map f ss) q
 blind p (sensor m) us body f ss q = refl
 blind p (actuator m) us body f ss q = refl
 blind p (constant v) us body f ss q = refl

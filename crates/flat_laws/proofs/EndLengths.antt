@@ -115,12 +115,14 @@ module _ (g : Graph) where
       by (gets vs) f = refl
       by sets f = refl
 
-  tree-taken : (W : Source → Source) (len : Source → ℕ) → ((s : Source) → long g.vertices (W s) ≡ len s) → (at : Path → Path) (us : Vertices) → told_of taken none-taken W at us ≡ actuator_lengths_in len us
+  tree-taken : (W : Source → Source) (len : Source → ℕ) → ((s : Source) → long g.vertices (W s) ≡ len s)
+      → (at : Path → Path) (us : Vertices) → told_of taken none-taken W at us ≡ actuator_lengths_in len us
   tree-taken W len all at no_vertices = refl
   tree-taken W len all at (and_vertex (vertex l vs) us) =
       ap₂ (λ ns ms. actuator_length l.kind ns ++ ms) (map_map (long g.vertices) W l.ins ∙ same_map (λ s. long g.vertices (W s)) len all l.ins) (tree-taken W len all at us)
 
-  took-kind : (x : Vertex) (k : Kind) (before : Option Operation) → IsTaskFit (task_of g.bodies k) before (lens_of g.vertices x.ins) x.outs → actuator_len g x k ≡ took (task_of g.bodies k) (lens_of g.vertices x.ins)
+  took-kind : (x : Vertex) (k : Kind) (before : Option Operation) → IsTaskFit (task_of g.bodies k) before (lens_of g.vertices x.ins) x.outs
+      → actuator_len g x k ≡ took (task_of g.bodies k) (lens_of g.vertices x.ins)
   took-kind x (Actuator i) before h = only_first (lens_of g.vertices x.ins) h.0
   took-kind x (Sensor i) before h = refl
   took-kind x (Function b) before h = refl
@@ -131,7 +133,8 @@ module _ (g : Graph) where
   took-kind x Implode before h = refl
   took-kind x (Merge values) before h = refl
 
-  flat-taken : (before : Option Operation) (v : ℕ) (xs : List Vertex) (ops : List Operation) → AllStand g.bodies v xs ops → AllFit (long g.vertices) before ops → actuator_lens g xs ≡ told_in taken none-taken ops
+  flat-taken : (before : Option Operation) (v : ℕ) (xs : List Vertex) (ops : List Operation) → AllStand g.bodies v xs ops
+      → AllFit (long g.vertices) before ops → actuator_lens g xs ≡ told_in taken none-taken ops
   flat-taken before v [] [] h fit = refl
   flat-taken before v [] (op ∷ ops) h fit = absurd h
   flat-taken before v (x ∷ xs) [] h fit = absurd h

@@ -152,13 +152,15 @@ pub sensors-numbered : (main : tree.Vertex) (g : Graph) → IsTree main → IsPl
 sensors-numbered main g h plain stands =
     let us = vertices_in main in
     let same = main-numbers sensor_number no_sensor main h.inside ∙ sensors_of us ∙ h.numbered.sensors in
-    all_hold sensor_number no_sensor g.bodies sensors_from (λ n. refl) (one_sensor g.bodies) 0 0 g.vertices (operations main) stands (subst (CountFrom 0) (sym same) (count-below (length (sensor_numbers us))))
+    all_hold sensor_number no_sensor g.bodies sensors_from (λ n. refl) (one_sensor g.bodies) 0 0 g.vertices (operations main) stands
+    (subst (CountFrom 0) (sym same) (count-below (length (sensor_numbers us))))
 
 pub actuators-numbered : (main : tree.Vertex) (g : Graph) → IsTree main → IsPlain main → Stands g (operations main) → actuators_from 0 (kinds_of g.vertices) ≡ true
 actuators-numbered main g h plain stands =
     let us = vertices_in main in
     let same = main-numbers actuator_number no_actuator main h.inside ∙ actuators_of us ∙ h.numbered.actuators in
-    all_hold actuator_number no_actuator g.bodies actuators_from (λ n. refl) (one_actuator g.bodies) 0 0 g.vertices (operations main) stands (subst (CountFrom 0) (sym same) (count-below (length (actuator_numbers us))))
+    all_hold actuator_number no_actuator g.bodies actuators_from (λ n. refl) (one_actuator g.bodies) 0 0 g.vertices
+    (operations main) stands (subst (CountFrom 0) (sym same) (count-below (length (actuator_numbers us))))
 
 pub few : (main : tree.Vertex) (g : Graph) → IsTree main → IsPlain main → Stands g (operations main) → length g.vertices ≤ 2048
 few main g h plain stands = subst (λ n. n ≤ 2048) (sym (same_length g.bodies 0 g.vertices (operations main) stands ∙ flatten-count main h plain)) h.few

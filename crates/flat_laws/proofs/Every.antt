@@ -13,8 +13,11 @@ use Rattle.flat_laws.specs.Lines.{in_line_order}
 use Rattle.flat_laws.specs.Unrolled.{made, explode_of, explodes, copy, copies, implode_of, implodes, begin, unrolled_inside}
 use Rattle.syn_base.specs.Numbers.{numbers_below}
 
-module _ (One : Vertex → Type 0) (All : Vertices → Type 0) (none : All no_vertices) (more : (u : Vertex) (us : Vertices) → One u → All us → All (and_vertex u us)) (parts : (u : Vertex) (us : Vertices) → All (and_vertex u us) → One u × All us)
-    (explode_is : (d name : List ℕ) (ins : List Source) (outs : List ℕ) → One (made d name ins outs explode)) (implode_is : (d name : List ℕ) (ins : List Source) (outs : List ℕ) → One (made d name ins outs implode))
+module _ (One : Vertex → Type 0) (All : Vertices → Type 0) (none : All no_vertices)
+    (more : (u : Vertex) (us : Vertices) → One u → All us → All (and_vertex u us))
+    (parts : (u : Vertex) (us : Vertices) → All (and_vertex u us) → One u × All us)
+    (explode_is : (d name : List ℕ) (ins : List Source) (outs : List ℕ) → One (made d name ins outs explode))
+    (implode_is : (d name : List ℕ) (ins : List Source) (outs : List ℕ) → One (made d name ins outs implode))
     (copy_is : (c : ℕ) (feeds : List Feed) (lb : Label) (vs : Vertices) (i : ℕ) → One (vertex lb vs) → One (copy c feeds lb vs i)) where
   every-append : (xs ys : List Vertex) → All (vertices_of xs) → All (vertices_of ys) → All (vertices_of (xs ++ ys))
   every-append [] ys h k = k
@@ -45,4 +48,5 @@ module _ (One : Vertex → Type 0) (All : Vertices → Type 0) (none : All no_ve
   every-repeat l n feeds gives us h =
       let d = l.definition in
       let c = begin feeds in
-      every-append (explodes d n (in_line_order feeds)) _ (every-explodes d n (in_line_order feeds)) (every-append (copies c feeds n us) _ (every-copies c feeds n us h) (every-implodes d c n l.outs 0 gives))
+      every-append (explodes d n (in_line_order feeds)) _ (every-explodes d n (in_line_order feeds))
+      (every-append (copies c feeds n us) _ (every-copies c feeds n us h) (every-implodes d c n l.outs 0 gives))

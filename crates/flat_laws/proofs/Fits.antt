@@ -56,7 +56,8 @@ module _ (long : Source → ℕ) where
   lens-wired W len all ss = map_map long W ss ∙ same_map (λ s. long (W s)) len all ss
 
   module _ (none : (k : ℕ) → long (Own k) ≡ 0) where
-    module _ (W : Source → Source) (b : ℕ) (at : Path → Path) (l : Label) (us : Vertices) (len : Source → ℕ) (all : (s : Source) → long (W s) ≡ len s) (guards : AreGuardsTyped len l.guards) (lengths : AreLengths (map len l.ins) × AreLengths l.outs) where
+    module _ (W : Source → Source) (b : ℕ) (at : Path → Path) (l : Label) (us : Vertices) (len : Source → ℕ)
+        (all : (s : Source) → long (W s) ≡ len s) (guards : AreGuardsTyped len l.guards) (lengths : AreLengths (map len l.ins) × AreLengths l.outs) where
       abbrev inside : List Source → ℕ → (Path → Path) → List Operation
       inside own c below = inlined_all (wire (wirings c us) own) c below us
 
@@ -76,11 +77,13 @@ module _ (long : Source → ℕ) where
       )
 
       -- what a stage takes has the length of its output
-      stage-lens : (c i : ℕ) (v : Vector) (vs : List Vector) → Outs long none (c + 2) (stages W (c + 2) (at (l.part ∷ [])) l (suc i) vs) → map len l.ins ≡ l.outs → l.outs ≡ length v ∷ [] → map long (stage_input c (map W l.ins) vs) ≡ l.outs
+      stage-lens : (c i : ℕ) (v : Vector) (vs : List Vector) → Outs long none (c + 2) (stages W (c + 2) (at (l.part ∷ [])) l (suc i) vs)
+          → map len l.ins ≡ l.outs → l.outs ≡ length v ∷ [] → map long (stage_input c (map W l.ins) vs) ≡ l.outs
       stage-lens c i v [] m e t = lens-wired W len all l.ins ∙ e
       stage-lens c i v (w ∷ vs) m e t = ap (λ n. n ∷ []) (m.0 0) ∙ ap (λ (ns : List ℕ). slice_index_or ns 0 0 ∷ []) t ∙ sym t
 
-      fit-stages : (c i : ℕ) (vs : List Vector) → Outs long none c (stages W c (at (l.part ∷ [])) l i vs) → map len l.ins ≡ l.outs → AreGroups l.outs vs → (before : Option Operation) → AllFit before (stages W c (at (l.part ∷ [])) l i vs)
+      fit-stages : (c i : ℕ) (vs : List Vector) → Outs long none c (stages W c (at (l.part ∷ [])) l i vs) → map len l.ins ≡ l.outs
+          → AreGroups l.outs vs → (before : Option Operation) → AllFit before (stages W c (at (l.part ∷ [])) l i vs)
       fit-stages c i [] m e t before = tt
       fit-stages c i (v ∷ vs) m e t before =
           let two : suc (suc c) ≡ c + 2 = omega arith in
@@ -99,7 +102,8 @@ module _ (long : Source → ℕ) where
           )
 
       fit-by : Measures long none us → Deeper → (k : Kind) → Outs long none b (inlined_by W b at l k inside) → IsKindInlinable k l.guards (nodes us)
-          → IsKindTyped k (map len l.ins) l.outs (outs_of us) (λ own outs. AllTyped own outs us) (λ fed. IsBodyTyped fed us) → (before : Option Operation) → AllFit before (inlined_by W b at l k inside)
+          → IsKindTyped k (map len l.ins) l.outs (outs_of us) (λ own outs. AllTyped own outs us) (λ fed. IsBodyTyped fed us)
+          → (before : Option Operation) → AllFit before (inlined_by W b at l k inside)
       fit-by measures deeper (graph sources) m h t before =
           deeper (map W l.ins) (map len l.ins) b (λ q. at (l.part ∷ q)) t.0
           (measures (map W l.ins) (map len l.ins) b (λ q. at (l.part ∷ q)) h.1.0 t.0 (at_same long none W len l.ins (same_map (λ s. long (W s)) len all l.ins)) m) m before
@@ -115,21 +119,26 @@ module _ (long : Source → ℕ) where
       fit-by measures deeper (merge values) m h t before = one (merge values) t before
 
     mutual
-      fit-vertex : (W : Source → Source) (b : ℕ) (at : Path → Path) (u : Vertex) (len : Source → ℕ) → CanInline u → ((s : Source) → long (W s) ≡ len s) → AreGuardsTyped len (label_of u).guards → IsTyped (map len (label_of u).ins) u
+      fit-vertex : (W : Source → Source) (b : ℕ) (at : Path → Path) (u : Vertex) (len : Source → ℕ) → CanInline u
+          → ((s : Source) → long (W s) ≡ len s) → AreGuardsTyped len (label_of u).guards → IsTyped (map len (label_of u).ins) u
           → Outs long none b (inlined W b at u) → (before : Option Operation) → AllFit before (inlined W b at u)
       fit-vertex W b at (vertex l us) len h all guards t m before =
           fit-by W b at l us len all guards t.0 (measures-all long none us h.1)
           (λ own lens c below typed same outs p. fit-all (wire (wirings c us) own) c below us lens (outs_of us) h.1 typed same outs p) l.kind m h.0 t.1 before
 
-      fit-all : (W : Source → Source) (b : ℕ) (at : Path → Path) (us : Vertices) (lens : List ℕ) (outs : List (List ℕ)) → AllCanInline us → AllTyped lens outs us → ((s : Source) → long (W s) ≡ source_length lens outs s)
+      fit-all : (W : Source → Source) (b : ℕ) (at : Path → Path) (us : Vertices) (lens : List ℕ) (outs : List (List ℕ)) → AllCanInline us
+          → AllTyped lens outs us → ((s : Source) → long (W s) ≡ source_length lens outs s)
           → Outs long none b (inlined_all W b at us) → (before : Option Operation) → AllFit before (inlined_all W b at us)
       fit-all W b at no_vertices lens outs h t all m before = tt
       fit-all W b at (and_vertex u us) lens outs h t all m before =
           fit-append before (inlined W b at u) _
           (fit-vertex W b at u (source_length lens outs) h.0 all t.0.0 t.0.1 (outs-left long none b (inlined W b at u) _ m) before)
-          (λ p. fit-all W (b + count u) at us lens outs h.1 t.1 all (subst (λ n. Outs long none (b + n) (inlined_all W (b + count u) at us)) (long-inlined W b at u h.0) (outs-right long none b (inlined W b at u) _ m)) p)
+          (λ p. fit-all W (b + count u) at us lens outs h.1 t.1 all
+          (subst (λ n. Outs long none (b + n) (inlined_all W (b + count u) at us)) (long-inlined W b at u h.0)
+          (outs-right long none b (inlined W b at u) _ m)) p)
 
-    fit-level : (l : Label) (us : Vertices) → l.kind ≡ graph [] → CanInline (vertex l us) → IsTyped [] (vertex l us) → Outs long none 0 (operations (vertex l us)) → AllFit None (operations (vertex l us))
+    fit-level : (l : Label) (us : Vertices) → l.kind ≡ graph [] → CanInline (vertex l us) → IsTyped [] (vertex l us)
+        → Outs long none 0 (operations (vertex l us)) → AllFit None (operations (vertex l us))
     fit-level l us e h t m =
         let typed = (subst (λ k. IsKindTyped k [] l.outs (outs_of us) (λ own outs. AllTyped own outs us) (λ fed. IsBodyTyped fed us)) e t.1).0 in
         let level = subst (λ k. IsKindInlinable k l.guards (nodes us)) e h.0 in

@@ -44,7 +44,8 @@ placed-from cells xs (y ∷ ys) = (
     snoc_length (x ∷ xs) = ap suc (snoc_length xs)
 
 -- an operation's value is what it makes of the values of its sources
-meets-from : (kept : State) (row : Values) (ops : List Operation) → IsAcyclic (flat_level (stages_of kept) ops) → (b : ℕ) (ys : List Operation) → Placed (flat_level (stages_of kept) ops) (stages_of kept) b ys
+meets-from : (kept : State) (row : Values) (ops : List Operation) → IsAcyclic (flat_level (stages_of kept) ops)
+    → (b : ℕ) (ys : List Operation) → Placed (flat_level (stages_of kept) ops) (stages_of kept) b ys
     → Meets row kept (flat_value ops row (stages_of kept)) (λ k. refl) b ys
 meets-from kept row ops acyclic b [] h = tt
 meets-from kept row ops acyclic b (y ∷ ys) h =
@@ -61,7 +62,8 @@ module _ (V : Source → Vector) where
   none-stages W b path l i [] = refl
   none-stages W b path l i (v ∷ vs) = none-stages W (b + 2) path l (suc i) vs
 
-  none-by : (W : Source → Source) (b : ℕ) (at : Path → Path) (l : Label) (k : Kind) (inner : List Source → ℕ → (Path → Path) → List Operation) → ((own : List Source) (at' : Path → Path) → flat_taken V (inner own b at') ≡ []) → IsNoEnd k
+  none-by : (W : Source → Source) (b : ℕ) (at : Path → Path) (l : Label) (k : Kind)
+      (inner : List Source → ℕ → (Path → Path) → List Operation) → ((own : List Source) (at' : Path → Path) → flat_taken V (inner own b at') ≡ []) → IsNoEnd k
       → flat_taken V (inlined_by W b at l k inner) ≡ []
   none-by W b at l (graph outs) inner deep h = deep (map W l.ins) (λ q. at (l.part ∷ q))
   none-by W b at l (actuator n) inner deep h = absurd h
@@ -81,13 +83,15 @@ module _ (V : Source → Vector) where
 
     none-all : (W : Source → Source) (b : ℕ) (at : Path → Path) (us : Vertices) → AllNoEnds us → flat_taken V (inlined_all W b at us) ≡ []
     none-all W b at no_vertices h = refl
-    none-all W b at (and_vertex u us) h = taken-append V (inlined W b at u) (inlined_all W (b + count u) at us) ∙ ap₂ (λ xs ys. xs ++ ys) (none-vertex W b at u h.0) (none-all W (b + count u) at us h.1)
+    none-all W b at (and_vertex u us) h = taken-append V (inlined W b at u) (inlined_all W (b + count u) at us)
+        ∙ ap₂ (λ xs ys. xs ++ ys) (none-vertex W b at u h.0) (none-all W (b + count u) at us h.1)
 
   input-wired : (W : Source → Source) (ss : List Source) → input_value V (map W ss) ≡ input_value (λ s. V (W s)) ss
   input-wired W [] = refl
   input-wired W (s ∷ ss) = refl
 
-  taken-by : (W : Source → Source) (b : ℕ) (at : Path → Path) (l : Label) (k : Kind) (inner : List Source → ℕ → (Path → Path) → List Operation) → ((own : List Source) (at' : Path → Path) → flat_taken V (inner own b at') ≡ [])
+  taken-by : (W : Source → Source) (b : ℕ) (at : Path → Path) (l : Label) (k : Kind)
+      (inner : List Source → ℕ → (Path → Path) → List Operation) → ((own : List Source) (at' : Path → Path) → flat_taken V (inner own b at') ≡ [])
       → flat_taken V (inlined_by W b at l k inner) ≡ actuator_value (λ s. V (W s)) l k
   taken-by W b at l (graph outs) inner deep = deep (map W l.ins) (λ q. at (l.part ∷ q))
   taken-by W b at l (actuator n) inner deep = ap (λ v. v ∷ []) (input-wired W l.ins)
@@ -117,7 +121,10 @@ module _ (l : Label) (outs : List Source) (us : Vertices) (h : AllCanInline us) 
   acyclic : (cells : Stages) → IsAcyclic (flat_level cells ops)
   acyclic cells =
       acyclic-from_ends (flat_level cells ops)
-      (λ r lt. subst (Ends (flat_level cells ops)) (zero-add r) (each-at (flat_level cells ops) cells 0 ops (each-level (flat_level cells ops) cells [] 0 (λ q. q) us h level.1.0 tt (placed-from cells [] ops)) r (let e = length-map (node_of cells) ops in omega (arith, e, lt))))
+      (λ r lt. subst (Ends (flat_level cells ops)) (zero-add r)
+      (each-at (flat_level cells ops) cells 0 ops
+      (each-level (flat_level cells ops) cells [] 0 (λ q. q) us h level.1.0 tt (placed-from cells [] ops)) r
+      (let e = length-map (node_of cells) ops in omega (arith, e, lt))))
 
   meets : (kept : State) (row : Values) → Meets row kept (flat_value ops row (stages_of kept)) (λ k. refl) 0 ops
   meets kept row = meets-from kept row ops (acyclic (stages_of kept)) 0 ops (placed-from (stages_of kept) [] ops)
@@ -132,7 +139,8 @@ module _ (l : Label) (outs : List Source) (us : Vertices) (h : AllCanInline us) 
       let row = slice_index_or rows k [] in
       let kept = past main rows k in
       ap (λ (cells : Stages). next_cells (flat_value ops row cells) cells ops) (past-same rows k)
-      ∙ fun_ext (λ q. fun_ext (λ j. next-level row kept (flat_value ops row (stages_of kept)) (λ k. refl) j [] 0 (λ q. q) us [] (λ a b. refl) h (past-long rows k) level.1.0 level.1.1 (λ k. refl) (meets kept row) q))
+      ∙ fun_ext (λ q. fun_ext (λ j. next-level row kept (flat_value ops row (stages_of kept)) (λ k. refl) j [] 0 (λ q. q) us []
+      (λ a b. refl) h (past-long rows k) level.1.0 level.1.1 (λ k. refl) (meets kept row) q))
 
   keeps : KeepsFlat main ops
   keeps = record {
@@ -142,7 +150,9 @@ module _ (l : Label) (outs : List Source) (us : Vertices) (h : AllCanInline us) 
         let kept = past main rows k in
         ap (λ (cells : Stages). flat_taken (flat_value ops row cells) ops) (past-same rows k)
         ∙ taken-all (flat_value ops row (stages_of kept)) (wire (wirings 0 us) []) 0 (λ q. q) us inside
-        ∙ ap (λ (f : Source → Vector). actuator_values f us) (fun_ext (λ s. sym (reads-all row kept (flat_value ops row (stages_of kept)) (λ k. refl) us h [] 0 (λ q. q) [] level.1.0 (λ k. refl) (meets kept row) s)));
+        ∙ ap (λ (f : Source → Vector). actuator_values f us)
+        (fun_ext (λ s. sym (reads-all row kept (flat_value ops row (stages_of kept)) (λ k. refl) us h [] 0 (λ q. q) [] level.1.0
+        (λ k. refl) (meets kept row) s)));
     kept = λ rows k q i. ap (λ (cells : Stages). cells q i) (past-same rows k);
   }
 

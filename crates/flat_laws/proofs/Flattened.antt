@@ -20,8 +20,6 @@ use Rattle.flat_laws.proofs.GuardedTrees.{tree-guard}
 use Rattle.flat_laws.specs.Inlined.{operations}
 use Rattle.flat_laws.specs.Plain.{IsPlain}
 use Rattle.flat_laws.proofs.Flatten.{flatten-count}
-use Rattle.algo_tree.specs.Named.{HasNames}
-use Rattle.algo_tree.specs.Bounded.{HasBounds}
 use Rattle.flat_laws.specs.Stands.{Stands, KeepsGraph}
 use Rattle.flat_laws.specs.EndLengths.{HasEndLengths}
 use Rattle.flat_laws.proofs.Stands.{stands-keeps}
@@ -30,8 +28,6 @@ use Rattle.flat_laws.proofs.KeptLengths.{lengths-unroll, lengths-guard}
 use Rattle.flat_laws.proofs.Acyclic.{same_length}
 use Rattle.flat_laws.proofs.Plain.{plain}
 use Rattle.flat_laws.proofs.Valid.{stands-flat}
-use Rattle.flat_laws.proofs.UnrollBounds.{unroll-keeps}
-use Rattle.flat_laws.proofs.GuardBounds.{guard-keeps}
 use Rattle.syn_base.specs.Vectors.{vector_at}
 
 module _ (main : Vertex) (h : IsTree main) where
@@ -68,5 +64,5 @@ module _ (main : Vertex) (h : IsTree main) where
     flattened-count =
         same_length g.bodies 0 g.vertices (operations flat) stands ∙ flatten-count flat tree flattened-plain ∙ counted-guarded [] 0 (unroll main) (no-unroll main) ∙ counted-unroll main h.well
 
-    pub flattened-flat : HasNames flat → HasBounds main → is_flat g ≡ true
-    flattened-flat names bounds = stands-flat flat g tree flattened-plain names (guard-keeps (unroll main) (tree-unroll main h) (unroll-keeps main h bounds)) stands
+    pub flattened-flat : is_flat g ≡ true
+    flattened-flat = stands-flat flat g tree flattened-plain stands

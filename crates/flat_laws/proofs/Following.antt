@@ -37,13 +37,15 @@ matched_length (u ∷ us) [] h = absurd h
 matched_length (u ∷ us) (c ∷ cs) h = ap suc (matched_length us cs h.1)
 
 module _ (own : List Origin) (look : Source → Origin) (fed : (k : ℕ) → look (Own k) ≡ origin_at own k) where
-  asked_same : (done : ℕ → Bool) (f : ℕ → ℕ → Origin) → ((r : ℕ) → done r ≡ true → (p : ℕ) → f r p ≡ look (Of r p)) → (ss : List Source) → sources_ready done ss ≡ true → map (origin_by own f) ss ≡ map look ss
+  asked_same : (done : ℕ → Bool) (f : ℕ → ℕ → Origin) → ((r : ℕ) → done r ≡ true → (p : ℕ) → f r p ≡ look (Of r p)) → (ss : List Source)
+      → sources_ready done ss ≡ true → map (origin_by own f) ss ≡ map look ss
   asked_same done f same [] h = refl
   asked_same done f same (Own k ∷ ss) h = ap₂ (λ x xs. x ∷ xs) (sym (fed k)) (asked_same done f same ss h)
   asked_same done f same (Of r p ∷ ss) h =
       ap₂ (λ x xs. x ∷ xs) (same r (and-left (done r) (sources_ready done ss) h) p) (asked_same done f same ss (and-right (done r) (sources_ready done ss) h))
 
-  pub at_unit : (us : List Outlet) (cs : List Node) → Matched us cs → (r : ℕ) (done : ℕ → Bool) (f : ℕ → ℕ → Origin) → ((r : ℕ) → done r ≡ true → (p : ℕ) → f r p ≡ look (Of r p)) → with_node (slice_get cs r) false (is_ready done) ≡ true
+  pub at_unit : (us : List Outlet) (cs : List Node) → Matched us cs → (r : ℕ) (done : ℕ → Bool) (f : ℕ → ℕ → Origin)
+      → ((r : ℕ) → done r ≡ true → (p : ℕ) → f r p ≡ look (Of r p)) → with_node (slice_get cs r) false (is_ready done) ≡ true
       → (p : ℕ) → given (origin_by own f) p (slice_get us r) ≡ given look p (slice_get us r)
   at_unit [] [] m r done f same h p = refl
   at_unit [] (c ∷ cs) m r done f same h p = absurd m

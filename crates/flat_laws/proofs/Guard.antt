@@ -17,7 +17,23 @@ use Rattle.algo_tree.proofs.Segments.{asked_or}
 use Rattle.algo_tree.specs.NoRepeat.{IsNoRepeat, HasNoRepeat, AllNoRepeat}
 use Rattle.algo_tree.specs.Relabelled.{with_kind}
 use Rattle.algo_tree.proofs.Lists.{append_right}
-use Rattle.flat_laws.specs.Guarded.{shift, shift_guard, guard_sources, own_guards, guard_for, merges, merge_sources, switch_inside, operation_under, graph_under, guarded_by, guarded, guarded_all, guarded_cases, guard}
+use Rattle.flat_laws.specs.Guarded.{
+  shift,
+  shift_guard,
+  guard_sources,
+  own_guards,
+  guard_for,
+  merges,
+  merge_sources,
+  switch_inside,
+  operation_under,
+  graph_under,
+  guarded_by,
+  guarded,
+  guarded_all,
+  guarded_cases,
+  guard,
+}
 use Rattle.flat_laws.proofs.Guards.{Follows, Under, AllUnder, hold-append, own-hold, graph-still, idle-still, first-same, graph_next-same, graph_outputs-same, level-follows}
 use Rattle.flat_laws.proofs.Cases.{IsFed, CasesUnder, cases_level, switch-idle, switch_outputs-same, switch_next-same, cases_level-acyclic, switch_first-same}
 use Rattle.syn_base.specs.Vectors.{Vector, Values, vector_at, zeros}
@@ -85,7 +101,8 @@ module _ (gs : List Guard) (n : ℕ) (l : Label) (k : Kind) where
   abbrev op' : Node
   op' = node (operation_under gs n l k)
 
-  still : (b : Bool) (row : Values) (st : State) (look' : Source → Vector) → b ≡ false → node_next row st look' op' ≡ cond b (op'.does.next row st (map look' op'.ins)) st → node_next row st look' op' ≡ st
+  still : (b : Bool) (row : Values) (st : State) (look' : Source → Vector) → b ≡ false → node_next row st look' op'
+      ≡ cond b (op'.does.next row st (map look' op'.ins)) st → node_next row st look' op' ≡ st
   still b row st look' e h = h ∙ ap (λ x. cond x (op'.does.next row st (map look' op'.ins)) st) e
 
   under-operation : Under gs n op op'
@@ -213,11 +230,13 @@ module _ (gs : List Guard) (n : ℕ) (l : Label) (none : l.guards ≡ []) (value
     first = switch_first-same l.definition outer m values cs ds names l.outs cases;
     outputs = λ row st look look' follows e.
         ap (graph_outputs sources level row st) (handed-ins gs n look look' follows l.ins)
-        ∙ switch_outputs-same l.definition outer m values cs ds names l.outs row st (map look l.ins) (handed gs look' (map look l.ins)) (handed-own gs look' (map look l.ins)) long cases (handed-hold gs look' (map look l.ins) true e) acyclic
+        ∙ switch_outputs-same l.definition outer m values cs ds names l.outs row st (map look l.ins) (handed gs look' (map look l.ins))
+        (handed-own gs look' (map look l.ins)) long cases (handed-hold gs look' (map look l.ins) true e) acyclic
         ∙ sym (unguarded gs n l none look (switch_outputs values (length names) cs row st (map look l.ins)) (map zeros l.outs));
     next = λ row st look look' follows e.
         ap (graph_next level row st) (handed-ins gs n look look' follows l.ins)
-        ∙ switch_next-same l.definition outer m values cs ds names l.outs row st (map look l.ins) (handed gs look' (map look l.ins)) (handed-own gs look' (map look l.ins)) long cases (handed-hold gs look' (map look l.ins) true e) distinct
+        ∙ switch_next-same l.definition outer m values cs ds names l.outs row st (map look l.ins) (handed gs look' (map look l.ins))
+        (handed-own gs look' (map look l.ins)) long cases (handed-hold gs look' (map look l.ins) true e) distinct
         ∙ sym (unguarded gs n l none look (switch_next values cs row st (map look l.ins)) st);
     idle = λ row st look' e.
         let ins = map look' (map (shift n) l.ins) in
@@ -234,9 +253,11 @@ module _ (gs : List Guard) (n : ℕ) (l : Label) (none : l.guards ≡ []) (value
         guards = [];
         outs = l.outs;
         does = behaviour_of (with_kind l (graph (merge_sources k (length names)))) ks;
-      }) (count-nodes us) (nodes-joined es (merges l.definition outer m values (count_of us) l.outs 0 names) ∙ ap (λ k. ds ++ nodes (merges l.definition outer m values k l.outs 0 names)) (count-nodes us))
+      }) (count-nodes us) (nodes-joined es (merges l.definition outer m values (count_of us) l.outs 0 names)
+      ∙ ap (λ k. ds ++ nodes (merges l.definition outer m values k l.outs 0 names)) (count-nodes us))
 
-  under-switch : Under gs n (node (vertex (with_kind l (switch values names)) us)) (node (graph_under gs n l (merge_sources (count_of us) (length names)) (switch_inside gs l values names (count_of us) es)))
+  under-switch : Under gs n (node (vertex (with_kind l (switch values names)) us))
+      (node (graph_under gs n l (merge_sources (count_of us) (length names)) (switch_inside gs l values names (count_of us) es)))
   under-switch = subst (Under gs n (node (vertex (with_kind l (switch values names)) us))) (sym same-made) under-made
 
 pub none_inside : (us : Vertices) → IsEmpty us → us ≡ no_vertices
@@ -325,7 +346,8 @@ module _ (gs : List Guard) (n : ℕ) (look look' : Source → Vector) (follows :
   actuators-guarded : (us : Vertices) → actuator_values look' (guarded_all gs n us) ≡ actuator_values look us
   actuators-guarded no_vertices = refl
   actuators-guarded (and_vertex (vertex l vs) us) =
-      actuator-by l l.kind vs (λ inside m. guarded_all inside m vs) (λ inside m values. guarded_cases inside m values 0 vs) (guarded_all gs n us) ∙ ap (λ xs. actuator_value look l l.kind ++ xs) (actuators-guarded us)
+      actuator-by l l.kind vs (λ inside m. guarded_all inside m vs) (λ inside m values. guarded_cases inside m values 0 vs)
+      (guarded_all gs n us) ∙ ap (λ xs. actuator_value look l l.kind ++ xs) (actuators-guarded us)
 
 module _ (l : Label) (outs : List Source) (us : Vertices) (h : AllWell us) (none : AllNoRepeat us) where
   abbrev before : Vertex

@@ -15,12 +15,14 @@ merges-bounded : (d : List ℕ) (gs : List Guard) (m : ℕ) (values : List ℤ) 
 merges-bounded d gs m values k outs q [] = tt
 merges-bounded d gs m values k outs q (name ∷ names) = ((record { part = tt; kind = tt }, tt), merges-bounded d gs m values k outs (suc q) names)
 
-guarded-bounded : (gs : List Guard) (n : ℕ) (l : Label) (k : Kind) (us : Vertices) (inner : List Guard → ℕ → Vertices) (cases : List Guard → ℕ → List ℤ → Vertices) → IsLabelBounded l → IsKindBounded k l.outs
+guarded-bounded : (gs : List Guard) (n : ℕ) (l : Label) (k : Kind) (us : Vertices) (inner : List Guard → ℕ → Vertices)
+    (cases : List Guard → ℕ → List ℤ → Vertices) → IsLabelBounded l → IsKindBounded k l.outs
     → ((hs : List Guard) (m : ℕ) → AllBounded (inner hs m)) → ((hs : List Guard) (m : ℕ) (values : List ℤ) → AllBounded (cases hs m values)) → IsBounded (guarded_by gs n l k us inner cases)
 guarded-bounded gs n l (graph outs) us inner cases h k inside each = (record { part = h.part; kind = tt }, inside (own_guards 0 gs) (length gs))
 guarded-bounded gs n l (switch values names) us inner cases h k inside each = (
   record { part = h.part; kind = tt },
-  join-bounded (cases (own_guards 0 gs) (length gs) values) _ (each (own_guards 0 gs) (length gs) values) (merges-bounded l.definition (own_guards 0 gs) (length gs) values (count_of us) l.outs 0 names),
+  join-bounded (cases (own_guards 0 gs) (length gs) values) _ (each (own_guards 0 gs) (length gs) values)
+      (merges-bounded l.definition (own_guards 0 gs) (length gs) values (count_of us) l.outs 0 names),
 )
 guarded-bounded gs n l (repeat m feeds gives) us inner cases h k inside each = (record { part = h.part; kind = k }, tt)
 guarded-bounded gs n l (sensor m) us inner cases h k inside each = (record { part = h.part; kind = k }, tt)

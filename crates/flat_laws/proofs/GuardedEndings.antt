@@ -51,7 +51,8 @@ module _ (gs : List Guard) (n : ℕ) (l : Label) (us : Vertices) (inner : List G
 mutual
   none-guarded : (gs : List Guard) (n : ℕ) (u : Vertex) → HasNoEnds u → HasNoEnds (guarded gs n u)
   none-guarded gs n (vertex l us) h =
-      none-by gs n l us (λ inside m. guarded_all inside m us) (λ inside m values. guarded_cases inside m values 0 us) (none-all (own_guards 0 gs) (length gs) us h.1) (λ values. none-cases (own_guards 0 gs) (length gs) values 0 us h.1) l.kind h.0
+      none-by gs n l us (λ inside m. guarded_all inside m us) (λ inside m values. guarded_cases inside m values 0 us)
+      (none-all (own_guards 0 gs) (length gs) us h.1) (λ values. none-cases (own_guards 0 gs) (length gs) values 0 us h.1) l.kind h.0
 
   none-all : (gs : List Guard) (n : ℕ) (us : Vertices) → AllNoEnds us → AllNoEnds (guarded_all gs n us)
   none-all gs n no_vertices h = tt
@@ -64,7 +65,8 @@ mutual
 pub inside-guarded : (gs : List Guard) (n : ℕ) (us : Vertices) → NoneInside us → NoneInside (guarded_all gs n us)
 inside-guarded gs n no_vertices h = tt
 inside-guarded gs n (and_vertex (vertex l vs) us) h =
-    inside-by gs n l vs (λ inside m. guarded_all inside m vs) (λ inside m values. guarded_cases inside m values 0 vs) (none-all (own_guards 0 gs) (length gs) vs h.0) (λ values. none-cases (own_guards 0 gs) (length gs) values 0 vs h.0) l.kind
+    inside-by gs n l vs (λ inside m. guarded_all inside m vs) (λ inside m values. guarded_cases inside m values 0 vs)
+    (none-all (own_guards 0 gs) (length gs) vs h.0) (λ values. none-cases (own_guards 0 gs) (length gs) values 0 vs h.0) l.kind
     (guarded_all gs n us) (inside-guarded gs n us h.1)
 
 module _ (gs : List Guard) (n : ℕ) (l : Label) (us : Vertices) (inner : List Guard → ℕ → Vertices) (cases : List Guard → ℕ → List ℤ → Vertices) (vs : Vertices) where
@@ -97,12 +99,14 @@ module _ (gs : List Guard) (n : ℕ) (l : Label) (us : Vertices) (inner : List G
 sensors-guarded : (gs : List Guard) (n : ℕ) (us : Vertices) → sensor_numbers (guarded_all gs n us) ≡ sensor_numbers us
 sensors-guarded gs n no_vertices = refl
 sensors-guarded gs n (and_vertex (vertex l vs) us) =
-    sensors-by gs n l vs (λ inside m. guarded_all inside m vs) (λ inside m values. guarded_cases inside m values 0 vs) (guarded_all gs n us) l.kind ∙ ap (λ ns. sensor_number l.kind ++ ns) (sensors-guarded gs n us)
+    sensors-by gs n l vs (λ inside m. guarded_all inside m vs) (λ inside m values. guarded_cases inside m values 0 vs)
+    (guarded_all gs n us) l.kind ∙ ap (λ ns. sensor_number l.kind ++ ns) (sensors-guarded gs n us)
 
 actuators-guarded : (gs : List Guard) (n : ℕ) (us : Vertices) → actuator_numbers (guarded_all gs n us) ≡ actuator_numbers us
 actuators-guarded gs n no_vertices = refl
 actuators-guarded gs n (and_vertex (vertex l vs) us) =
-    actuators-by gs n l vs (λ inside m. guarded_all inside m vs) (λ inside m values. guarded_cases inside m values 0 vs) (guarded_all gs n us) l.kind ∙ ap (λ ns. actuator_number l.kind ++ ns) (actuators-guarded gs n us)
+    actuators-by gs n l vs (λ inside m. guarded_all inside m vs) (λ inside m values. guarded_cases inside m values 0 vs)
+    (guarded_all gs n us) l.kind ∙ ap (λ ns. actuator_number l.kind ++ ns) (actuators-guarded gs n us)
 
 abbrev AreNumbered : List ℕ → Type 0
 AreNumbered ns = ns ≡ numbers_below (length ns)

@@ -14,7 +14,8 @@ named-joined : (us vs : Vertices) → AllNamed us → AllNamed vs → AllNamed (
 named-joined no_vertices vs h k = k
 named-joined (and_vertex u us) vs h k = (h.0, named-joined us vs h.1 k)
 
-named-merges : (d : List ℕ) (gs : List Guard) (m : ℕ) (values : List ℤ) (k : ℕ) (lens : List ℕ) (q : ℕ) (names : List (List ℕ)) → IsTrue (is_name d) → AreNames names → AllNamed (merges d gs m values k lens q names)
+named-merges : (d : List ℕ) (gs : List Guard) (m : ℕ) (values : List ℤ) (k : ℕ) (lens : List ℕ) (q : ℕ) (names : List (List ℕ))
+    → IsTrue (is_name d) → AreNames names → AllNamed (merges d gs m values k lens q names)
 named-merges d gs m values k lens q [] h each = tt
 named-merges d gs m values k lens q (x ∷ names) h each = ((record { part = each.0; definition = h; kind = tt }, tt), named-merges d gs m values k lens (suc q) names h each.1)
 

@@ -25,7 +25,8 @@ abbrev pub conditions : (Source → Origin) → List Guard → List Condition
 conditions f gs = map (condition_of f) gs
 
 -- guards whose sources are handed inward
-conditions-own : (f g : Source → Origin) (more : List Origin) (i : ℕ) (gs : List Guard) → ((k : ℕ) → f (Own (i + k)) ≡ origin_at (map g (guard_sources gs) ++ more) k) → conditions f (own_guards i gs) ≡ conditions g gs
+conditions-own : (f g : Source → Origin) (more : List Origin) (i : ℕ) (gs : List Guard)
+    → ((k : ℕ) → f (Own (i + k)) ≡ origin_at (map g (guard_sources gs) ++ more) k) → conditions f (own_guards i gs) ≡ conditions g gs
 conditions-own f g more i [] h = refl
 conditions-own f g more i (x ∷ gs) h =
     ap₂ (λ (o : Origin) (cs : List Condition). record { source = o; values = x.values; case = x.case } ∷ cs)
@@ -39,7 +40,8 @@ conditions-shift f g n h (x ∷ gs) =
     ap₂ (λ (o : Origin) (cs : List Condition). record { source = o; values = x.values; case = x.case } ∷ cs) (h x.source) (conditions-shift f g n h gs)
 
 -- guards of a case that are shifted
-conditions-case : (f : Source → Origin) (own : List Origin) (m : ℕ) → ((k : ℕ) → f (Own (m + k)) ≡ origin_at own k) → (gs : List Guard) → OwnGuards gs → conditions f (map (shift_guard m) gs) ≡ conditions (case_origin own) gs
+conditions-case : (f : Source → Origin) (own : List Origin) (m : ℕ) → ((k : ℕ) → f (Own (m + k)) ≡ origin_at own k) → (gs : List Guard)
+    → OwnGuards gs → conditions f (map (shift_guard m) gs) ≡ conditions (case_origin own) gs
 conditions-case f own m h [] all = refl
 conditions-case f own m h (x ∷ gs) all =
     ap₂ (λ (o : Origin) (cs : List Condition). record { source = o; values = x.values; case = x.case } ∷ cs) (by x.source all.0) (conditions-case f own m h gs all.1)
@@ -48,7 +50,8 @@ conditions-case f own m h (x ∷ gs) all =
     by (Own k) is = h k
     by (Of r q) is = absurd is
 
-rows-merges : (p : Path) (f : Source → Origin) (d : List ℕ) (hs : List Guard) (m : ℕ) (values : List ℤ) (count : ℕ) (ins : ℕ → List Origin) → ((q : ℕ) → map f (Own m ∷ map (λ i. Of i q) (numbers_below count)) ≡ ins q)
+rows-merges : (p : Path) (f : Source → Origin) (d : List ℕ) (hs : List Guard) (m : ℕ) (values : List ℤ) (count : ℕ) (ins : ℕ → List Origin)
+    → ((q : ℕ) → map f (Own m ∷ map (λ i. Of i q) (numbers_below count)) ≡ ins q)
     → (outs : List ℕ) (q : ℕ) (names : List (List ℕ)) → graph_rows p [] f (merges d hs m values count outs q names) ≡ merge_rows p (conditions f hs) d ins values outs q names
 rows-merges p f d hs m values count ins h outs q [] = refl
 rows-merges p f d hs m values count ins h outs q (name ∷ names) =
@@ -78,7 +81,8 @@ abbrev SameCaseRows : Path → List Guard → ℕ → List ℤ → Vertices → 
 SameCaseRows p hs m values vs us = (f : Source → Origin) (own : List Origin) → ((k : ℕ) → f (Own (m + k)) ≡ origin_at own k) → graph_rows p [] f vs ≡ case_rows p (conditions f hs) own values 0 us
 
 -- what an operation under guards has
-under : (f g : Source → Origin) (gs : List Guard) (n : ℕ) (hs : List Guard) → conditions f (map (shift_guard n) hs) ≡ conditions g hs → conditions f (gs ++ map (shift_guard n) hs) ≡ conditions f gs ++ conditions g hs
+under : (f g : Source → Origin) (gs : List Guard) (n : ℕ) (hs : List Guard) → conditions f (map (shift_guard n) hs) ≡ conditions g hs
+    → conditions f (gs ++ map (shift_guard n) hs) ≡ conditions f gs ++ conditions g hs
 under f g gs n hs e = map-append (condition_of f) gs (map (shift_guard n) hs) ∙ ap (λ cs. conditions f gs ++ cs) e
 
 module _ (gs : List Guard) (n : ℕ) (p : Path) (l : Label) (us : Vertices) (f g : Source → Origin)
@@ -99,17 +103,21 @@ module _ (gs : List Guard) (n : ℕ) (p : Path) (l : Label) (us : Vertices) (f g
   abbrev inputs : List Origin
   inputs = map g l.ins
 
-  one : (k : Kind) → row P l.definition (map f (map (shift n) l.ins)) (conditions f (gs ++ map (shift_guard n) l.guards)) l.outs (runs k) ∷ [] ≡ row P l.definition inputs (conditions f gs ++ conditions g l.guards) l.outs (runs k) ∷ []
+  one : (k : Kind) → row P l.definition (map f (map (shift n) l.ins)) (conditions f (gs ++ map (shift_guard n) l.guards)) l.outs (runs k)
+      ∷ [] ≡ row P l.definition inputs (conditions f gs ++ conditions g l.guards) l.outs (runs k) ∷ []
   one k = ap₂ (λ os cs. row P l.definition os cs l.outs (runs k) ∷ []) ins (under f g gs n l.guards guards)
 
   inward : (x : Source → Origin) → ((k : ℕ) → x (Own k) ≡ origin_at more k) → l.guards ≡ [] → conditions x hs ≡ conditions f gs ++ conditions g l.guards
   inward x fed e =
-      conditions-own x f (map f (map (shift n) l.ins)) 0 gs (λ k. ap (λ (j : ℕ). x (Own j)) (zero-add k) ∙ fed k ∙ ap (λ (os : List Origin). origin_at os k) (map-append f (guard_sources gs) (map (shift n) l.ins)))
+      conditions-own x f (map f (map (shift n) l.ins)) 0 gs
+      (λ k. ap (λ (j : ℕ). x (Own j)) (zero-add k) ∙ fed k
+      ∙ ap (λ (os : List Origin). origin_at os k) (map-append f (guard_sources gs) (map (shift n) l.ins)))
       ∙ sym (no-own (conditions f gs) g l.guards e)
 
   by-kind : (k : Kind) → IsKindWell k l.guards us → IsNoRepeat k → (inner : List Guard → ℕ → Vertices) (cases : List Guard → ℕ → List ℤ → Vertices)
       → ((x : Path) (ks : List Guard) (j : ℕ) → (length (outlets x (inner ks j)) ≡ length (outlets x us)) × (SameUnits x j (inner ks j) us × SameRows x ks j (inner ks j) us))
-      → ((x : Path) (ks : List Guard) (j : ℕ) (values : List ℤ) → AreCases us → (length (outlets x (cases ks j values)) ≡ count_of us) × (SameCases x j (cases ks j values) us × SameCaseRows x ks j values (cases ks j values) us))
+      → ((x : Path) (ks : List Guard) (j : ℕ) (values : List ℤ) → AreCases us → (length (outlets x (cases ks j values)) ≡ count_of us)
+      × (SameCases x j (cases ks j values) us × SameCaseRows x ks j values (cases ks j values) us))
       → vertex_rows p [] f (guarded_by gs n l k us inner cases) ≡ rows_of P (conditions f gs ++ conditions g l.guards) inputs l k us
   by-kind (graph sources) h none inner cases I C =
       let i = I P hs m in
@@ -151,7 +159,8 @@ mutual
   rows-guarded_all : (gs : List Guard) (n : ℕ) (p : Path) (us : Vertices) → AllWell us → AllNoRepeat us → SameRows p gs n (guarded_all gs n us) us
   rows-guarded_all gs n p no_vertices h none f g same = refl
   rows-guarded_all gs n p (and_vertex u us) h none f g same =
-      ap₂ (λ xs ys. xs ++ ys) (rows-guarded gs n p u h.0 none.0 f g (shifted-same f g n same (label_of u).ins) (conditions-shift f g n same (label_of u).guards)) (rows-guarded_all gs n p us h.1 none.1 f g same)
+      ap₂ (λ xs ys. xs ++ ys) (rows-guarded gs n p u h.0 none.0 f g (shifted-same f g n same (label_of u).ins)
+      (conditions-shift f g n same (label_of u).guards)) (rows-guarded_all gs n p us h.1 none.1 f g same)
 
   rows-guarded_cases : (gs : List Guard) (m : ℕ) (values : List ℤ) (p : Path) (c : ℕ) (us : Vertices) → AllWell us → AllNoRepeat us → AreCases us
       → (f : Source → Origin) (own : List Origin) → ((k : ℕ) → f (Own (m + k)) ≡ origin_at own k) → graph_rows p [] f (guarded_cases gs m values c us) ≡ case_rows p (conditions f gs) own values c us

@@ -10,6 +10,8 @@ use Rattle.flat_laws.specs.Guarded.{shift, graph_under, guarded_by, guarded_all,
 use Rattle.flat_laws.proofs.GuardedWellness.{well-guarded}
 use Rattle.flat_laws.proofs.GuardedTyping.{lens_under, typed-guarded}
 use Rattle.flat_laws.proofs.GuardedCounting.{counted-guarded}
+use Rattle.flat_laws.proofs.GuardedNames.{names-guard}
+use Rattle.flat_laws.proofs.GuardBounds.{guard-keeps}
 use Rattle.flat_laws.proofs.GuardedEndings.{inside-guarded, numbered-guarded}
 
 -- what the main graph becomes
@@ -30,4 +32,6 @@ tree-guard (vertex l us) h none =
       inside = subst NoneInside (sym inner) (inside-guarded [] 0 us h.inside);
       numbered = subst AreEndsNumbered (sym inner) (numbered-guarded [] 0 us h.numbered);
       few = subst (λ m. m ≤ 2048) (sym (counted-guarded [] 0 (vertex l us) none)) h.few;
+      named = names-guard (vertex l us) h h.named;
+      bounded = guard-keeps (vertex l us) h h.bounded;
     }

@@ -102,7 +102,8 @@ outs-joined : (us vs : Vertices) → outs_of (join us vs) ≡ outs_of us ++ outs
 outs-joined no_vertices vs = refl
 outs-joined (and_vertex u us) vs = ap (λ os. (label_of u).outs ∷ os) (outs-joined us vs)
 
-outs-by : (gs : List Guard) (n : ℕ) (l : Label) (k : Kind) (us : Vertices) (inner : List Guard → ℕ → Vertices) (cases : List Guard → ℕ → List ℤ → Vertices) → (label_of (guarded_by gs n l k us inner cases)).outs ≡ l.outs
+outs-by : (gs : List Guard) (n : ℕ) (l : Label) (k : Kind) (us : Vertices) (inner : List Guard → ℕ → Vertices)
+    (cases : List Guard → ℕ → List ℤ → Vertices) → (label_of (guarded_by gs n l k us inner cases)).outs ≡ l.outs
 outs-by gs n l (graph outs) us inner cases = refl
 outs-by gs n l (switch values names) us inner cases = refl
 outs-by gs n l (repeat m feeds gives) us inner cases = refl
@@ -145,7 +146,8 @@ module _ (d : List ℕ) (gs : List Guard) (m : ℕ) (values : List ℤ) (k : ℕ
   at_merge q zero (x ∷ names) lt = ap (λ i. get_or lens i 0 ∷ []) (omega arith)
   at_merge q (suc j) (x ∷ names) lt = at_merge (suc q) j names (omega arith) ∙ ap (λ i. get_or lens i 0 ∷ []) (omega arith)
 
-  module _ (own : List ℕ) (outs : List (List ℕ)) (condition : get_or own m 0 ≡ 1) (gives : (i : ℕ) → i < k → get_or outs i [] ≡ lens) (long : k ≡ suc (length values)) (guards : AreGuardsTyped (source_length own outs) gs) where
+  module _ (own : List ℕ) (outs : List (List ℕ)) (condition : get_or own m 0 ≡ 1) (gives : (i : ℕ) → i < k → get_or outs i [] ≡ lens)
+      (long : k ≡ suc (length values)) (guards : AreGuardsTyped (source_length own outs) gs) where
     abbrev len : Source → ℕ
     len = source_length own outs
 
@@ -164,8 +166,10 @@ module _ (d : List ℕ) (gs : List Guard) (m : ℕ) (values : List ℤ) (k : ℕ
 
     typed-merges : (q : ℕ) (names : List (List ℕ)) → ((j : ℕ) → j < length names → IsLength (get_or lens (q + j) 0)) → AllTyped own outs (merges d gs m values k lens q names)
     typed-merges q [] h = tt
-    typed-merges q (x ∷ names) h =
-        ((guards, merge-typed q (subst (λ i. IsLength (get_or lens i 0)) (omega arith) (h 0 (omega arith)))), typed-merges (suc q) names (λ j lt. subst (λ i. IsLength (get_or lens i 0)) (omega arith) (h (suc j) (omega arith))))
+    typed-merges q (x ∷ names) h = (
+      (guards, merge-typed q (subst (λ i. IsLength (get_or lens i 0)) (omega arith) (h 0 (omega arith)))),
+      typed-merges (suc q) names (λ j lt. subst (λ i. IsLength (get_or lens i 0)) (omega arith) (h (suc j) (omega arith))),
+    )
 
 typed-joined : (own : List ℕ) (outs : List (List ℕ)) (us vs : Vertices) → AllTyped own outs us → AllTyped own outs vs → AllTyped own outs (join us vs)
 typed-joined own outs no_vertices vs h k = k
@@ -210,7 +214,8 @@ module _ (gs : List Guard) (l : Label) (values : List ℤ) (names : List (List �
       ap (λ k. get_or (get_or O (k + q) []) 0 0) (sym (count-outs us))
       ∙ ap (λ os. get_or os 0 0) (append_right (outs_of us) M q [] ∙ at_merge l.definition G (length gs) values K l.outs 0 q names lt) ∙ ap (λ k. get_or l.outs k 0) (zero-add q)
 
-  typed-made : AreLengths l.outs → get_or own 0 0 ≡ 1 → AllGive l.outs (outs_of us) → length names ≡ length l.outs → K ≡ suc (length values) → AreGuardsTyped (source_length own' O) G → AllTyped own' O es
+  typed-made : AreLengths l.outs → get_or own 0 0 ≡ 1 → AllGive l.outs (outs_of us) → length names ≡ length l.outs → K
+      ≡ suc (length values) → AreGuardsTyped (source_length own' O) G → AllTyped own' O es
       → AllTyped own' (outs_of made) made × (l.outs ≡ map (source_length own' (outs_of made)) (merge_sources K (length names)))
   typed-made lengths one all named long guards cases =
       subst (λ os. AllTyped own' os made × (l.outs ≡ map (source_length own' os) (merge_sources K (length names)))) (sym outs-made) (
@@ -227,7 +232,8 @@ lens_under (graph outs) ones lens = ones ++ lens
 lens_under (switch values names) ones lens = ones ++ lens
 lens_under _ ones lens = lens
 
-module _ (gs : List Guard) (n : ℕ) (l : Label) (us : Vertices) (inner : List Guard → ℕ → Vertices) (cases : List Guard → ℕ → List ℤ → Vertices) (len : Source → ℕ) (guards : AreGuardsTyped len gs) where
+module _ (gs : List Guard) (n : ℕ) (l : Label) (us : Vertices) (inner : List Guard → ℕ → Vertices)
+    (cases : List Guard → ℕ → List ℤ → Vertices) (len : Source → ℕ) (guards : AreGuardsTyped len gs) where
   abbrev ones : List ℕ
   ones = map len (guard_sources gs)
 
@@ -265,8 +271,10 @@ module _ (gs : List Guard) (n : ℕ) (l : Label) (us : Vertices) (inner : List G
   guards-by (merge values) h = guards-append len gs (map (shift_guard n) l.guards) guards h
 
   module _ (lens : List ℕ)
-      (all : (outs : List (List ℕ)) → AllTyped lens outs us → AllTyped (ones ++ lens) outs (inner (own_guards 0 gs) (length gs))) (outs-inner : outs_of (inner (own_guards 0 gs) (length gs)) ≡ outs_of us)
-      (each : (values : List ℤ) (outs : List (List ℕ)) → get_or lens 0 0 ≡ 1 → count_of us ≡ suc (length values) → AreCases us → AllTyped lens [] us → AllTyped (ones ++ lens) outs (cases (own_guards 0 gs) (length gs) values))
+      (all : (outs : List (List ℕ)) → AllTyped lens outs us → AllTyped (ones ++ lens) outs (inner (own_guards 0 gs) (length gs)))
+      (outs-inner : outs_of (inner (own_guards 0 gs) (length gs)) ≡ outs_of us)
+      (each : (values : List ℤ) (outs : List (List ℕ)) → get_or lens 0 0 ≡ 1 → count_of us ≡ suc (length values) → AreCases us
+      → AllTyped lens [] us → AllTyped (ones ++ lens) outs (cases (own_guards 0 gs) (length gs) values))
       (outs-inside : (values : List ℤ) → outs_of (cases (own_guards 0 gs) (length gs) values) ≡ outs_of us) where
     typed-by : (k : Kind) → IsKindWell k l.guards us → IsNoRepeat k → IsTyped lens (vertex (with_kind l k) us) → IsTyped (lens_under k ones lens) (guarded_by gs n l k us inner cases)
     typed-by (graph outs) well none h = (
@@ -279,7 +287,8 @@ module _ (gs : List Guard) (n : ℕ) (l : Label) (us : Vertices) (inner : List G
         let long : count_of us ≡ suc (length values) = count-nodes us ∙ well.0.1.0 in
         let whole = outs_of us ++ merge_outs l.definition (own_guards 0 gs) (length gs) values (count_of us) l.outs 0 names in (
           (lengths-append ones lens (guards-lengths len gs guards) h.0.0, h.0.1),
-          typed-made gs l values names us es lens (ones ++ lens) (shifted-ones lens) (outs-inside values) h.0.1 h.1.0.0 h.1.1.0 h.1.1.1 long (own-ones lens whole) (each values whole h.1.0.0 long well.0.1.1.1 h.1.0.1),
+          typed-made gs l values names us es lens (ones ++ lens) (shifted-ones lens)
+              (outs-inside values) h.0.1 h.1.0.0 h.1.1.0 h.1.1.1 long (own-ones lens whole) (each values whole h.1.0.0 long well.0.1.1.1 h.1.0.1),
         )
     typed-by (repeat m feeds gives) well none h = absurd none
     typed-by (sensor m) well none h = h
@@ -292,11 +301,15 @@ module _ (gs : List Guard) (n : ℕ) (l : Label) (us : Vertices) (inner : List G
     typed-by (merge values) well none h = h
 
 -- a vertex of a level
-typed-step : (gs : List Guard) (n : ℕ) (u : Vertex) (len : Source → ℕ) (lens : List ℕ) → AreGuardsTyped len gs → AreGuardsTyped len (map (shift_guard n) (label_of u).guards) → map len (map (shift n) (label_of u).ins) ≡ lens
-    → IsTyped (lens_under (label_of u).kind (map len (guard_sources gs)) lens) (guarded gs n u) → AreGuardsTyped len (label_of (guarded gs n u)).guards × IsTyped (map len (label_of (guarded gs n u)).ins) (guarded gs n u)
+typed-step : (gs : List Guard) (n : ℕ) (u : Vertex) (len : Source → ℕ) (lens : List ℕ) → AreGuardsTyped len gs
+    → AreGuardsTyped len (map (shift_guard n) (label_of u).guards) → map len (map (shift n) (label_of u).ins) ≡ lens
+    → IsTyped (lens_under (label_of u).kind (map len (guard_sources gs)) lens) (guarded gs n u)
+    → AreGuardsTyped len (label_of (guarded gs n u)).guards × IsTyped (map len (label_of (guarded gs n u)).ins) (guarded gs n u)
 typed-step gs n (vertex l us) len lens guards own e h = (
   guards-by gs n l us (λ inside m. guarded_all inside m us) (λ inside m values. guarded_cases inside m values 0 us) len guards l.kind own,
-  subst (λ ls. IsTyped ls (guarded gs n (vertex l us))) (sym (ins-by gs n l us (λ inside m. guarded_all inside m us) (λ inside m values. guarded_cases inside m values 0 us) len guards l.kind ∙ ap (lens_under l.kind (map len (guard_sources gs))) e)) h,
+  subst (λ ls. IsTyped ls (guarded gs n (vertex l us)))
+      (sym (ins-by gs n l us (λ inside m. guarded_all inside m us)
+      (λ inside m values. guarded_cases inside m values 0 us) len guards l.kind ∙ ap (lens_under l.kind (map len (guard_sources gs))) e)) h,
 )
 
 mutual
@@ -316,7 +329,8 @@ mutual
       → AllTyped own outs us → AllTyped own' outs (guarded_all gs n us)
   typed-all gs n no_vertices well none own own' outs shifted guards h = tt
   typed-all gs n (and_vertex u us) well none own own' outs shifted guards h = (
-    typed-step gs n u (source_length own' outs) (map (source_length own outs) (label_of u).ins) guards (shifted-guards n own own' shifted outs (label_of u).guards h.0.0) (shifted-sources n own own' shifted outs (label_of u).ins)
+    typed-step gs n u (source_length own' outs) (map (source_length own outs) (label_of u).ins) guards
+        (shifted-guards n own own' shifted outs (label_of u).guards h.0.0) (shifted-sources n own own' shifted outs (label_of u).ins)
         (typed-guarded gs n u well.0 none.0 (source_length own' outs) guards (map (source_length own outs) (label_of u).ins) h.0.1),
     typed-all gs n us well.1 none.1 own own' outs shifted guards h.1,
   )
@@ -328,7 +342,8 @@ mutual
       let len = source_length own' outs in
       let at : get_or own' m 0 ≡ 1 = ap (λ k. get_or own' k 0) (omega arith) ∙ shifted 0 ∙ one in
       let more : AreGuardsTyped len (gs ++ guard_for m values i ∷ []) = guards-append len gs (guard_for m values i ∷ []) guards ((at, omega (arith, long)), tt) in (
-        typed-step (gs ++ guard_for m values i ∷ []) m (vertex l vs) len (map (source_length own []) l.ins) more (own-guards m own own' shifted [] outs l.guards fed.0.1 h.0.0) (own-sources m own own' shifted [] outs l.ins fed.0.0)
+        typed-step (gs ++ guard_for m values i ∷ []) m (vertex l vs) len (map (source_length own []) l.ins) more
+            (own-guards m own own' shifted [] outs l.guards fed.0.1 h.0.0) (own-sources m own own' shifted [] outs l.ins fed.0.0)
             (typed-guarded (gs ++ guard_for m values i ∷ []) m (vertex l vs) well.0 none.0 len more (map (source_length own []) l.ins) h.0.1),
         typed-cases gs m values (suc i) us well.1 none.1 own own' outs shifted one guards (omega (arith, long)) fed.1 h.1,
       )

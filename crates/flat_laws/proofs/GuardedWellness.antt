@@ -16,7 +16,22 @@ use Rattle.algo_tree.specs.Well.{IsNewName, AreDistinctNames, IsNumberedPart, Ar
 use Rattle.algo_tree.specs.NoRepeat.{IsNoRepeat, HasNoRepeat, AllNoRepeat}
 use Rattle.algo_tree.specs.Relabelled.{with_kind}
 use Rattle.algo_tree.proofs.Parts.{AllApart, distinct-append}
-use Rattle.flat_laws.specs.Guarded.{shift, shift_guard, guard_sources, own_guards, guard_for, merges, merge_sources, switch_inside, operation_under, graph_under, guarded_by, guarded, guarded_all, guarded_cases}
+use Rattle.flat_laws.specs.Guarded.{
+  shift,
+  shift_guard,
+  guard_sources,
+  own_guards,
+  guard_for,
+  merges,
+  merge_sources,
+  switch_inside,
+  operation_under,
+  graph_under,
+  guarded_by,
+  guarded,
+  guarded_all,
+  guarded_cases,
+}
 use Rattle.flat_laws.proofs.Guards.{AllUnder}
 use Rattle.flat_laws.proofs.Cases.{CasesUnder, cases_level-acyclic}
 use Rattle.flat_laws.proofs.Guard.{own-own, asked-map, nodes-joined, count-nodes, under-all, under-cases}
@@ -80,7 +95,8 @@ ready-operation : (gs : List Guard) (n : ℕ) (l : Label) (k : Kind) (us : Verti
 ready-operation gs n l k us own done =
     ap₂ (λ a b. a && b) (guards-ready done gs l.guards n own) (ap (sources_ready done) (asked-map k (shift n) l.ins) ∙ sources-ready done (asked_by k l.ins) n)
 
-ready-graph : (gs : List Guard) (n : ℕ) (l : Label) (outs : List Source) (vs : Vertices) (done : ℕ → Bool) → OwnGuards gs → l.guards ≡ [] → is_ready done (node (graph_under gs n l outs vs)) ≡ (guards_ready done l.guards && sources_ready done l.ins)
+ready-graph : (gs : List Guard) (n : ℕ) (l : Label) (outs : List Source) (vs : Vertices) (done : ℕ → Bool) → OwnGuards gs → l.guards ≡ []
+    → is_ready done (node (graph_under gs n l outs vs)) ≡ (guards_ready done l.guards && sources_ready done l.ins)
 ready-graph gs n l outs vs done own none = handed-ready done gs (map (shift n) l.ins) own ∙ sources-ready done l.ins n ∙ sym (ap (λ hs. guards_ready done hs && sources_ready done l.ins) none)
 
 ready-by : (gs : List Guard) (n : ℕ) (l : Label) (k : Kind) (us : Vertices) (inner : List Guard → ℕ → Vertices) (cases : List Guard → ℕ → List ℤ → Vertices) → OwnGuards gs → IsKindWell k l.guards us

@@ -5,7 +5,25 @@ use Rattle.algo_tree.specs.declared.Source.{Source}
 use Rattle.algo_tree.specs.declared.Source.TheVariants.{Own, Of}
 use Rattle.algo_tree.specs.declared.Guard.{Guard}
 use Rattle.algo_tree.specs.declared.Part.{Part}
-use Rattle.algo_tree.specs.Level.{State, Path, Node, below, selected, source_value, all_hold, with_node, same_part, find_node, node_outputs, node_next, out, level_value, graph_outputs, graph_next, graph_initial}
+use Rattle.algo_tree.specs.Level.{
+  State,
+  Path,
+  Node,
+  below,
+  selected,
+  source_value,
+  all_hold,
+  with_node,
+  same_part,
+  find_node,
+  node_outputs,
+  node_next,
+  out,
+  level_value,
+  graph_outputs,
+  graph_next,
+  graph_initial,
+}
 use Rattle.algo_tree.proofs.SameParts.{same_means}
 use Rattle.flat_laws.specs.Guarded.{shift, guard_sources, own_guards}
 use Rattle.algo_tree.proofs.Lists.{append_right}
@@ -92,7 +110,8 @@ module _ (row : Values) (st : State) (look : Source → Vector) (p : Part) (q : 
   abbrev pub at_found : Option Node → List Vector
   at_found o = with_node o (st (p ∷ q)) (λ d. node_next row (below d.part st) look d q)
 
-  pub still_here : (b : Bool) (d : Node) (o : Option Node) → same_part d.part p ≡ b → node_next row (below d.part st) look d ≡ below d.part st → at_found o ≡ st (p ∷ q) → at_found (cond b (Some d) o) ≡ st (p ∷ q)
+  pub still_here : (b : Bool) (d : Node) (o : Option Node) → same_part d.part p ≡ b → node_next row (below d.part st) look d
+      ≡ below d.part st → at_found o ≡ st (p ∷ q) → at_found (cond b (Some d) o) ≡ st (p ∷ q)
   still_here true d o e h later = ap (λ s. s q) h ∙ ap (λ x. st (x ∷ q)) (same_means d.part p e)
   still_here false d o e h later = later
 
@@ -122,7 +141,8 @@ module _ (gs : List Guard) (n : ℕ) (cs ds : List Node) (h : AllUnder gs n cs d
       by_path [] = refl
       by_path (p ∷ q) = at_part gs n (λ d. d.does.initial q) (λ c. c.does.initial q) [] (λ c d u. ap (λ s. s q) u.first) p cs ds h
 
-  module _ (row : Values) (st : State) (ins ins' : Values) (own : (k : ℕ) → vector_at ins' (n + k) ≡ vector_at ins k) (holds : (given : ℕ → Values) → all_hold (source_value ins' given) gs ≡ true) where
+  module _ (row : Values) (st : State) (ins ins' : Values) (own : (k : ℕ) → vector_at ins' (n + k) ≡ vector_at ins k)
+      (holds : (given : ℕ → Values) → all_hold (source_value ins' given) gs ≡ true) where
     follows_by : (f g : ℕ → Values) → ((r : ℕ) → g r ≡ f r) → Follows n (source_value ins f) (source_value ins' g)
     follows_by f g same (Own k) = own k
     follows_by f g same (Of r p) = ap (λ vs. vector_at vs p) (same r)
@@ -133,7 +153,8 @@ module _ (gs : List Guard) (n : ℕ) (cs ds : List Node) (h : AllUnder gs n cs d
         let f = out cs row st ins fuel in
         let g = out ds row st ins' fuel in
         at_pair gs n (λ d. node_outputs row (below d.part st) (source_value ins' g) d) (λ c. node_outputs row (below c.part st) (source_value ins f) c) []
-        (λ c d u. ap (λ p. node_outputs row (below p st) (source_value ins' g) d) u.part ∙ u.outputs row (below c.part st) (source_value ins f) (source_value ins' g) (follows_by f g (out-same fuel)) (holds g))
+        (λ c d u. ap (λ p. node_outputs row (below p st) (source_value ins' g) d) u.part
+        ∙ u.outputs row (below c.part st) (source_value ins f) (source_value ins' g) (follows_by f g (out-same fuel)) (holds g))
         cs ds h r
 
     pub level-follows : Follows n (level_value cs row st ins) (level_value ds row st ins')

@@ -89,7 +89,8 @@ module _ (names : List (List ℕ)) where
   -- the units of a level, beside their wirings
   abbrev SameWires : Path → ℕ → Vertices → Type 0
   SameWires p b us =
-      (f : Source → Source) (g : Source → Origin) → ((s : Source) → at_name (f s) ≡ g s) → (r q : ℕ) → at_name (with_wiring (slice_get (wirings b us) r) flat.nowhere (λ w. w.gives (map f w.asked) q)) ≡ given g q (slice_get (outlets p us) r)
+      (f : Source → Source) (g : Source → Origin) → ((s : Source) → at_name (f s) ≡ g s) → (r q : ℕ)
+      → at_name (with_wiring (slice_get (wirings b us) r) flat.nowhere (λ w. w.gives (map f w.asked) q)) ≡ given g q (slice_get (outlets p us) r)
 
   long-wirings : (p : Path) (b : ℕ) (us : Vertices) → length (wirings b us) ≡ length (outlets p us)
   long-wirings p b no_vertices = refl
@@ -115,16 +116,20 @@ module _ (names : List (List ℕ)) where
   first-name : (b : ℕ) (path P : Path) (k : Kind) (q : ℕ) → path ≡ P → slice_index_or names b [] ≡ path_text path ++ [] → at_name (Of b q) ≡ output_of P k q
   first-name b path P k q e h = ap (λ (x : List ℕ). record { name = x; output = q }) (h ∙ ap (λ (x : Path). path_text x ++ []) e)
 
-  module _ (w : Source → Source) (b : ℕ) (at : Path → Path) (p : Path) (l : Label) (us : Vertices) (inner : List Source → ℕ → (Path → Path) → List Operation) (body : ℕ → List Origin → ℕ → Origin) where
+  module _ (w : Source → Source) (b : ℕ) (at : Path → Path) (p : Path) (l : Label) (us : Vertices)
+      (inner : List Source → ℕ → (Path → Path) → List Operation) (body : ℕ → List Origin → ℕ → Origin) where
     leads-by : (k : Kind) → IsKindInlinable k l.guards (nodes us) → at (l.part ∷ []) ≡ inside p l.part
         → ((own : List Source) (below : Path → Path) → ((q : Path) → below q ≡ inside p l.part ++ q) → Named b (inner own b below) → SameWires (inside p l.part) b us)
         → ((q : Path) → at q ≡ p ++ q)
-        → Named b (inlined_by w b at l k inner) → (ss : List Source) (q : ℕ) → at_name (gives_by b k (λ c. wirings c us) ss q) ≡ leads_by (inside p l.part) k (outlets (inside p l.part) us) body (map at_name ss) q
+        → Named b (inlined_by w b at l k inner) → (ss : List Source) (q : ℕ) → at_name (gives_by b k (λ c. wirings c us) ss q)
+        ≡ leads_by (inside p l.part) k (outlets (inside p l.part) us) body (map at_name ss) q
     leads-by (graph sources) h e I along m ss q =
         let P = inside p l.part in
         let same = I (map w l.ins) (λ q. at (l.part ∷ q)) (λ q. along (l.part ∷ q) ∙ sym (append_assoc p (l.part ∷ []) q)) m in
         at-place (map (wire (wirings b us) ss) sources) q
-        ∙ ap (λ (os : List Origin). origin_at os q) (map_map at_name (wire (wirings b us) ss) sources ∙ each-same (λ s. at_name (wire (wirings b us) ss s)) (origin_in (outlets P us) (map at_name ss)) (wires-lead P b us same ss) sources)
+        ∙ ap (λ (os : List Origin). origin_at os q)
+        (map_map at_name (wire (wirings b us) ss) sources
+        ∙ each-same (λ s. at_name (wire (wirings b us) ss s)) (origin_in (outlets P us) (map at_name ss)) (wires-lead P b us same ss) sources)
     leads-by (switch values ns) h e I along m ss q = absurd h
     leads-by (repeat n feeds gives) h e I along m ss q = absurd h
     leads-by (delay []) h e I along m ss q = absurd (omega (arith, h))
@@ -171,7 +176,8 @@ module _ (names : List (List ℕ)) where
         ∙ ap₂ (λ os cs. stage_row P i l.definition os cs outs task) fed (conditions-wired w lead same l.guards)
 
     -- what the set half of a stage takes
-    stage-fed : (b : ℕ) (path : Path) (i : ℕ) (vs : List Vector) → path ≡ P → Named (b + 2) (stages w (b + 2) path l (suc i) vs) → map at_name (stage_input b (map w l.ins) vs) ≡ stage_ins P i (map lead l.ins) vs
+    stage-fed : (b : ℕ) (path : Path) (i : ℕ) (vs : List Vector) → path ≡ P → Named (b + 2) (stages w (b + 2) path l (suc i) vs)
+        → map at_name (stage_input b (map w l.ins) vs) ≡ stage_ins P i (map lead l.ins) vs
     stage-fed b path i [] e m = ins-lead
     stage-fed b path i (v ∷ vs) e m = ap (λ (x : List ℕ). record { name = x; output = 0 } ∷ []) (m.0 ∙ ap (λ (x : Path). path_text x ++ half_text (gets []) (suc i)) e)
 
@@ -187,8 +193,10 @@ module _ (names : List (List ℕ)) where
 
     module _ (b : ℕ) (at : Path → Path) (us : Vertices) (inner : List Source → ℕ → (Path → Path) → List Operation) where
       by-kind : (k : Kind) → IsKindInlinable k l.guards (nodes us) → ((q : Path) → at q ≡ p ++ q)
-          → ((own : List Source) (below : Path → Path) → ((q : Path) → below q ≡ P ++ q) → Named b (inner own b below) → map (operation_row names) (inner own b below) ≡ graph_rows P [] (origin_in (outlets P us) (map at_name own)) us)
-          → Named b (inlined_by w b at l k inner) → map (operation_row names) (inlined_by w b at l k inner) ≡ rows_by P (conditions lead l.guards) l.definition (map lead l.ins) l.outs k (inside_by P (conditions lead l.guards) us)
+          → ((own : List Source) (below : Path → Path) → ((q : Path) → below q ≡ P ++ q) → Named b (inner own b below)
+          → map (operation_row names) (inner own b below) ≡ graph_rows P [] (origin_in (outlets P us) (map at_name own)) us)
+          → Named b (inlined_by w b at l k inner) → map (operation_row names) (inlined_by w b at l k inner)
+          ≡ rows_by P (conditions lead l.guards) l.definition (map lead l.ins) l.outs k (inside_by P (conditions lead l.guards) us)
       by-kind (graph sources) h along I m =
           I (map w l.ins) (λ q. at (l.part ∷ q)) (λ q. along (l.part ∷ q) ∙ sym (append_assoc p (l.part ∷ []) q)) m
           ∙ ap₂ (λ os gs. graph_rows P (conditions lead gs) (origin_in (outlets P us) os) us) ins-lead (sym h.0)
@@ -204,20 +212,23 @@ module _ (names : List (List ℕ)) where
       by-kind (merge values) h along I m = ap (λ x. x ∷ []) (one (at (l.part ∷ [])) 0 (map w l.ins) (map lead l.ins) l.outs (runs (merge values)) (along (l.part ∷ [])) ins-lead)
 
   mutual
-    rows-inlined : (w : Source → Source) (b : ℕ) (at : Path → Path) (p : Path) (u : Vertex) (lead : Source → Origin) → ((s : Source) → at_name (w s) ≡ lead s) → CanInline u → ((q : Path) → at q ≡ p ++ q) → Named b (inlined w b at u)
+    rows-inlined : (w : Source → Source) (b : ℕ) (at : Path → Path) (p : Path) (u : Vertex) (lead : Source → Origin)
+        → ((s : Source) → at_name (w s) ≡ lead s) → CanInline u → ((q : Path) → at q ≡ p ++ q) → Named b (inlined w b at u)
         → map (operation_row names) (inlined w b at u) ≡ vertex_rows p [] lead u
     rows-inlined w b at p (vertex l us) lead same h along m =
         by-kind w lead same p l b at us (λ own c below. inlined_all (wire (wirings c us) own) c below us) l.kind h.0 along
         (λ own below e n. rows-inlined_all (wire (wirings b us) own) b below (inside p l.part) us (origin_in (outlets (inside p l.part) us) (map at_name own))
         (wires-lead (inside p l.part) b us (wires-inlined (wire (wirings b us) own) b below (inside p l.part) us h.1 e n) own) h.1 e n) m
 
-    rows-inlined_all : (w : Source → Source) (b : ℕ) (at : Path → Path) (p : Path) (us : Vertices) (lead : Source → Origin) → ((s : Source) → at_name (w s) ≡ lead s) → AllCanInline us → ((q : Path) → at q ≡ p ++ q) → Named b (inlined_all w b at us)
+    rows-inlined_all : (w : Source → Source) (b : ℕ) (at : Path → Path) (p : Path) (us : Vertices) (lead : Source → Origin)
+        → ((s : Source) → at_name (w s) ≡ lead s) → AllCanInline us → ((q : Path) → at q ≡ p ++ q) → Named b (inlined_all w b at us)
         → map (operation_row names) (inlined_all w b at us) ≡ graph_rows p [] lead us
     rows-inlined_all w b at p no_vertices lead same h along m = refl
     rows-inlined_all w b at p (and_vertex u us) lead same h along m =
         map-append (operation_row names) (inlined w b at u) (inlined_all w (b + count u) at us)
         ∙ ap₂ (λ xs ys. xs ++ ys) (rows-inlined w b at p u lead same h.0 along (named-left b (inlined w b at u) _ m))
-        (rows-inlined_all w (b + count u) at p us lead same h.1 along (subst (λ n. Named (b + n) (inlined_all w (b + count u) at us)) (long-inlined w b at u h.0) (named-right b (inlined w b at u) _ m)))
+        (rows-inlined_all w (b + count u) at p us lead same h.1 along
+        (subst (λ n. Named (b + n) (inlined_all w (b + count u) at us)) (long-inlined w b at u h.0) (named-right b (inlined w b at u) _ m)))
 
 flat-stages : (w : Source → Source) (b : ℕ) (path : Path) (i : ℕ) (l : Label) (vs : List Vector) → AllFlat (stages w b path l i vs)
 flat-stages w b path i l [] = tt

@@ -20,7 +20,8 @@ pub record SameEnds (us vs : Vertices) : Type 0 where
 sensors-cons : (u : Vertex) (us : Vertices) → sensor_lengths_in (and_vertex u us) ≡ sensor_length (label_of u).kind (label_of u).outs ++ sensor_lengths_in us
 sensors-cons (vertex l vs) us = refl
 
-actuators-cons : (len : Source → ℕ) (u : Vertex) (us : Vertices) → actuator_lengths_in len (and_vertex u us) ≡ actuator_length (label_of u).kind (map len (label_of u).ins) ++ actuator_lengths_in len us
+actuators-cons : (len : Source → ℕ) (u : Vertex) (us : Vertices) → actuator_lengths_in len (and_vertex u us)
+    ≡ actuator_length (label_of u).kind (map len (label_of u).ins) ++ actuator_lengths_in len us
 actuators-cons len (vertex l vs) us = refl
 
 -- unrolling
@@ -128,7 +129,8 @@ none_shifted : (ss : List Source) → map (shift 0) ss ≡ ss
 none_shifted [] = refl
 none_shifted (s ∷ ss) = ap₂ (λ x xs. x ∷ xs) (same_shift s) (none_shifted ss)
 
-actuator-guarded : (len : Source → ℕ) (u : Vertex) → actuator_length (label_of (guarded [] 0 u)).kind (map len (label_of (guarded [] 0 u)).ins) ≡ actuator_length (label_of u).kind (map len (label_of u).ins)
+actuator-guarded : (len : Source → ℕ) (u : Vertex)
+    → actuator_length (label_of (guarded [] 0 u)).kind (map len (label_of (guarded [] 0 u)).ins) ≡ actuator_length (label_of u).kind (map len (label_of u).ins)
 actuator-guarded len (vertex l us) = actuator-by l us _ _ len l.kind ∙ ap (λ ss. actuator_length l.kind (map len ss)) (none_shifted l.ins)
 
 outs-all : (us : Vertices) → outs_of (guarded_all [] 0 us) ≡ outs_of us
@@ -154,7 +156,8 @@ ends-guarded us = record {
 unrolled-main : (l : Label) (k : Kind) (us : Vertices) → k ≡ graph [] → vertices_in (unrolled_at l k us) ≡ us
 unrolled-main l k us e = ap (λ x. vertices_in (unrolled_at l x us)) e
 
-guarded-main : (l : Label) (k : Kind) (us : Vertices) (inner : List Guard → ℕ → Vertices) (cases : List Guard → ℕ → List ℤ → Vertices) → k ≡ graph [] → vertices_in (guarded_by [] 0 l k us inner cases) ≡ inner [] 0
+guarded-main : (l : Label) (k : Kind) (us : Vertices) (inner : List Guard → ℕ → Vertices) (cases : List Guard → ℕ → List ℤ → Vertices) → k
+    ≡ graph [] → vertices_in (guarded_by [] 0 l k us inner cases) ≡ inner [] 0
 guarded-main l k us inner cases e = ap (λ x. vertices_in (guarded_by [] 0 l x us inner cases)) e
 
 sensors-inside : (u : Vertex) → sensor_lengths u ≡ sensor_lengths_in (vertices_in u)

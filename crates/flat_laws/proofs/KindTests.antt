@@ -1,12 +1,43 @@
 -- Inputs and outputs that have the lengths of the tree pass the tests of a flat graph, kind by kind.
-use Rattle.std.proofs.Common.{◌≡◌, ℕ, zero, suc, ◌+◌, ◌≤◌, ◌==◌, ◌&&◌, nat_le, nat_lt, true, List, [], ◌∷◌, length, map, replicate, sum, slice_index_or, slice_get, Option, refl, ap, ◌∙◌, subst, arith, eq-eqb, le-leb, lt-ltb}
+use Rattle.std.proofs.Common.{
+  ◌≡◌,
+  ℕ,
+  zero,
+  suc,
+  ◌+◌,
+  ◌≤◌,
+  ◌==◌,
+  ◌&&◌,
+  nat_le,
+  nat_lt,
+  true,
+  List,
+  [],
+  ◌∷◌,
+  length,
+  map,
+  replicate,
+  sum,
+  slice_index_or,
+  slice_get,
+  Option,
+  refl,
+  sym,
+  ap,
+  ◌∙◌,
+  subst,
+  arith,
+  eq-eqb,
+  le-leb,
+  lt-ltb,
+}
 use Rattle.std.specs.List.{list_all}
 use Rattle.std.proofs.lemmas.Bool.{and_from}
 use Rattle.std.proofs.lemmas.List.{length-replicate}
 use Rattle.std.proofs.lemmas.List.Sums.{sum_by-cons}
 use Rattle.algo_tree.specs.declared.Source as of_level
 use Rattle.algo_tree.specs.declared.Source.TheVariants.{Own, Of}
-use Rattle.algo_tree.specs.Typed.{AreLengths, AreGuardsTyped, AllPortsBelow}
+use Rattle.algo_tree.specs.Typed.{AreLengths, AreEqual, AreGuardsTyped, AllPortsBelow}
 use Rattle.flat_graph.specs.Expr.{Expr, literal, index, element, sum_over, negation, apply, select, PortsBelow}
 use Rattle.flat_graph.specs.declared.vertex.Source.{Source}
 use Rattle.flat_graph.specs.declared.vertex.Guard.{Guard}
@@ -15,7 +46,7 @@ use Rattle.flat_graph.specs.declared.vertex.Kind.TheVariants.{Sensor, Actuator, 
 use Rattle.flat_graph.specs.declared.vertex.Vertex.{Vertex}
 use Rattle.flat_graph.specs.Graph.{len_of, lens_of}
 use Rattle.flat_graph.specs.Meaning.{level_source, level_guard}
-use Rattle.flat_graph.specs.Valid.{is_len, is_guard, ports_below, is_body, is_only, is_merge, fits}
+use Rattle.flat_graph.specs.Valid.{is_len, is_guard, ports_below, is_body, is_only, are_equal, is_merge, fits}
 use Rattle.flat_laws.specs.Flat.{Operation}
 use Rattle.algo_tree.proofs.Lists.{map_map}
 use Rattle.flat_laws.specs.Stands.{task_of}
@@ -74,12 +105,22 @@ same-pass : (m n : ℕ) → list_all (λ x. is_only x (n ∷ [])) (replicate m n
 same-pass zero n = refl
 same-pass (suc m) n = and_from (is_only n (n ∷ [])) (list_all (λ x. is_only x (n ∷ [])) (replicate m n)) (eq-eqb n n refl) (same-pass m n)
 
+-- lengths of which each is the first one pass the test that all are the same
+equal-pass : (ns : List ℕ) → AreEqual ns → are_equal ns ≡ true
+equal-pass [] h = refl
+equal-pass (n ∷ ns) h = subst (λ ms. are_equal ms ≡ true) (sym h) (all-same (length ns) n)
+  where
+    all-same : (m k : ℕ) → list_all (λ x. x == k) (replicate m k) ≡ true
+    all-same zero k = refl
+    all-same (suc m) k = and_from (k == k) (list_all (λ x. x == k) (replicate m k)) (eq-eqb k k refl) (all-same m k)
+
 merge-pass : (cases : ℕ) (outs : List ℕ) → length outs ≡ 1 → is_merge cases (1 ∷ replicate (suc cases) (slice_index_or outs 0 0)) outs ≡ true
 merge-pass cases [] e = absurd (omega (arith, e))
 merge-pass cases (n ∷ (m ∷ ns)) e = absurd (omega (arith, e))
 merge-pass cases (n ∷ []) e =
     let long : length (replicate (suc cases) n) ≡ cases + 1 = length-replicate (suc cases) n ∙ (let s : suc cases ≡ cases + 1 = omega arith in s) in
-    and_from (length (replicate (suc cases) n) == cases + 1) (list_all (λ x. is_only x (n ∷ [])) (replicate (suc cases) n)) (eq-eqb (length (replicate (suc cases) n)) (cases + 1) long) (same-pass (suc cases) n)
+    and_from (length (replicate (suc cases) n) == cases + 1) (list_all (λ x. is_only x (n ∷ [])) (replicate (suc cases) n))
+    (eq-eqb (length (replicate (suc cases) n)) (cases + 1) long) (same-pass (suc cases) n)
 
 module _ (bodies : List (List Expr)) (before : Option Operation) where
   none-pass : (ns : List ℕ) → ns ≡ [] → (length ns == 0) ≡ true
@@ -92,8 +133,8 @@ module _ (bodies : List (List Expr)) (before : Option Operation) where
   fits-pass (Constant z) lens outs h few set = and_from (length lens == 0) (is_only (length z) outs) (none-pass lens h.0) (only-pass (length z) outs h.1)
   fits-pass (Get z) lens outs h few set = and_from (length lens == 0) (is_only (length z) outs) (none-pass lens h.0) (only-pass (length z) outs h.1)
   fits-pass Set lens outs h few set = and_from (length lens == 1) (length outs == 0) (eq-eqb (length lens) 1 (set refl)) (none-pass outs h.0)
-  fits-pass Explode lens outs h few set = only-pass (sum outs) lens h
-  fits-pass Implode lens outs h few set = only-pass (sum lens) outs h
+  fits-pass Explode lens outs h few set = and_from (is_only (sum outs) lens) (are_equal outs) (only-pass (sum outs) lens h.0) (equal-pass outs h.1)
+  fits-pass Implode lens outs h few set = and_from (is_only (sum lens) outs) (are_equal lens) (only-pass (sum lens) outs h.0) (equal-pass lens h.1)
   fits-pass (Merge values) lens outs h few set = ap (λ ns. is_merge (length values) ns outs) h.1 ∙ merge-pass (length values) outs h.0
 
   -- each of several lengths is one at least
@@ -115,6 +156,6 @@ module _ (bodies : List (List Expr)) (before : Option Operation) where
   outs-few (Constant z) lens outs hl ho h few = one-few outs (length z) h.1
   outs-few (Get z) lens outs hl ho h few = one-few outs (length z) h.1
   outs-few Set lens outs hl ho h few = let l = ap length h.0 in omega (arith, l)
-  outs-few Explode lens outs hl ho h few = few-explode lens outs hl ho h
-  outs-few Implode lens outs hl ho h few = one-few outs (sum lens) h
+  outs-few Explode lens outs hl ho h few = few-explode lens outs hl ho h.0
+  outs-few Implode lens outs hl ho h few = one-few outs (sum lens) h.0
   outs-few (Merge values) lens outs hl ho h few = let l = h.0 in omega (arith, l)

@@ -102,7 +102,10 @@ module _ (F : List Node) (cells : Stages) where
 
     ready_guards-end : (done : ℕ → Bool) → ((s : Source) → source_ready done s ≡ true → SourceEnds (W s)) → (gs : List Guard) → guards_ready done gs ≡ true → GuardsEnd (map (wire_guard W) gs)
     ready_guards-end done h [] e = tt
-    ready_guards-end done h (g ∷ gs) e = (h g.source (and-left (source_ready done g.source) (guards_ready done gs) e), ready_guards-end done h gs (and-right (source_ready done g.source) (guards_ready done gs) e))
+    ready_guards-end done h (g ∷ gs) e = (
+      h g.source (and-left (source_ready done g.source) (guards_ready done gs) e),
+      ready_guards-end done h gs (and-right (source_ready done g.source) (guards_ready done gs) e),
+    )
 
   at-own : (own : List Source) (k : ℕ) → AllEnd own → SourceEnds (slice_index_or own k nowhere)
   at-own [] k h = tt
@@ -162,7 +165,8 @@ module _ (F : List Node) (cells : Stages) where
     lead-by (merge values) m h g a p = op-ends b (operation_of W (at (l.part ∷ [])) 0 l (map W l.ins) l.outs (runs (merge values))) m.0 g a
 
   mutual
-    lead-vertex : (W : Source → Source) (b : ℕ) (at : Path → Path) (u : Vertex) → CanInline u → Placed b (inlined W b at u) → GuardsEnd (map (wire_guard W) (node u).guards) → AllEnd (map W (node u).asked) → (p : ℕ)
+    lead-vertex : (W : Source → Source) (b : ℕ) (at : Path → Path) (u : Vertex) → CanInline u → Placed b (inlined W b at u)
+        → GuardsEnd (map (wire_guard W) (node u).guards) → AllEnd (map W (node u).asked) → (p : ℕ)
         → SourceEnds ((wiring b u).gives (map W (wiring b u).asked) p)
     lead-vertex W b at (vertex l us) h m g a p =
         lead-by W b at l us (λ own c at' acyclic fed placed. lead-level us own c acyclic fed (lead-all (wire (wirings c us) own) c at' us h.1 placed)) l.kind m h.0 g a p
@@ -211,26 +215,44 @@ module _ (F : List Node) (cells : Stages) where
           ),
         )
 
-    each-by : (leads : Leads us) → ((own : List Source) (c : ℕ) (at' : Path → Path) → ((s : Source) → SourceEnds (wire (wirings c us) own s)) → Placed c (inside2 own c at') → EachEnds c (inside2 own c at'))
+    each-by : (leads : Leads us) → ((own : List Source) (c : ℕ) (at' : Path → Path)
+        → ((s : Source) → SourceEnds (wire (wirings c us) own s)) → Placed c (inside2 own c at') → EachEnds c (inside2 own c at'))
         → (k : Kind) → Placed b (inlined_by W b at l k inside2) → IsKindInlinable k l.guards (nodes us) → EachEnds b (inlined_by W b at l k inside2)
     each-by leads deeper (graph outs) m h = deeper (map W l.ins) b (λ q. at (l.part ∷ q)) (leads (map W l.ins) b (λ q. at (l.part ∷ q)) h.1.0 (wired-end W l.ins all) m) m
     each-by leads deeper (switch values names) m h = absurd h
     each-by leads deeper (repeat n feeds gives) m h = absurd h
     each-by leads deeper (delay vs) m h = each-stages b 0 vs m
     each-by leads deeper (sensor n) m h = (op-ends b (operation_of W (at (l.part ∷ [])) 0 l (map W l.ins) l.outs (runs (sensor n))) m.0 (wired_guards-end W l.guards all) (wired-end W l.ins all), tt)
-    each-by leads deeper (actuator n) m h = (op-ends b (operation_of W (at (l.part ∷ [])) 0 l (map W l.ins) l.outs (runs (actuator n))) m.0 (wired_guards-end W l.guards all) (wired-end W l.ins all), tt)
-    each-by leads deeper (constant v) m h = (op-ends b (operation_of W (at (l.part ∷ [])) 0 l (map W l.ins) l.outs (runs (constant v))) m.0 (wired_guards-end W l.guards all) (wired-end W l.ins all), tt)
-    each-by leads deeper (function es) m h = (op-ends b (operation_of W (at (l.part ∷ [])) 0 l (map W l.ins) l.outs (runs (function es))) m.0 (wired_guards-end W l.guards all) (wired-end W l.ins all), tt)
+    each-by leads deeper (actuator n) m h = (
+      op-ends b (operation_of W (at (l.part ∷ [])) 0 l (map W l.ins) l.outs (runs (actuator n))) m.0 (wired_guards-end W l.guards all)
+          (wired-end W l.ins all),
+      tt,
+    )
+    each-by leads deeper (constant v) m h = (
+      op-ends b (operation_of W (at (l.part ∷ [])) 0 l (map W l.ins) l.outs (runs (constant v))) m.0 (wired_guards-end W l.guards all)
+          (wired-end W l.ins all),
+      tt,
+    )
+    each-by leads deeper (function es) m h = (
+      op-ends b (operation_of W (at (l.part ∷ [])) 0 l (map W l.ins) l.outs (runs (function es))) m.0 (wired_guards-end W l.guards all)
+          (wired-end W l.ins all),
+      tt,
+    )
     each-by leads deeper explode m h = (op-ends b (operation_of W (at (l.part ∷ [])) 0 l (map W l.ins) l.outs (runs explode)) m.0 (wired_guards-end W l.guards all) (wired-end W l.ins all), tt)
     each-by leads deeper implode m h = (op-ends b (operation_of W (at (l.part ∷ [])) 0 l (map W l.ins) l.outs (runs implode)) m.0 (wired_guards-end W l.guards all) (wired-end W l.ins all), tt)
-    each-by leads deeper (merge values) m h = (op-ends b (operation_of W (at (l.part ∷ [])) 0 l (map W l.ins) l.outs (runs (merge values))) m.0 (wired_guards-end W l.guards all) (wired-end W l.ins all), tt)
+    each-by leads deeper (merge values) m h = (
+      op-ends b (operation_of W (at (l.part ∷ [])) 0 l (map W l.ins) l.outs (runs (merge values))) m.0 (wired_guards-end W l.guards all)
+          (wired-end W l.ins all),
+      tt,
+    )
 
   mutual
     each-vertex : (W : Source → Source) (b : ℕ) (at : Path → Path) (u : Vertex) → CanInline u → ((s : Source) → SourceEnds (W s)) → Placed b (inlined W b at u) → EachEnds b (inlined W b at u)
     each-vertex W b at (vertex l us) h all m =
         each-by W b at l us all (leads-all us h.1) (λ own c at' ends' placed. each-all (wire (wirings c us) own) c at' us h.1 ends' placed) l.kind m h.0
 
-    pub each-all : (W : Source → Source) (b : ℕ) (at : Path → Path) (us : Vertices) → AllCanInline us → ((s : Source) → SourceEnds (W s)) → Placed b (inlined_all W b at us) → EachEnds b (inlined_all W b at us)
+    pub each-all : (W : Source → Source) (b : ℕ) (at : Path → Path) (us : Vertices) → AllCanInline us → ((s : Source) → SourceEnds (W s))
+        → Placed b (inlined_all W b at us) → EachEnds b (inlined_all W b at us)
     each-all W b at no_vertices h all m = tt
     each-all W b at (and_vertex u us) h all m =
         let long = long-inlined W b at u h.0 in
@@ -243,5 +265,6 @@ module _ (F : List Node) (cells : Stages) where
   each-at b (op ∷ ops) h zero lt = subst (Ends F) (omega arith) h.0
   each-at b (op ∷ ops) h (suc i) lt = subst (Ends F) (omega arith) (each-at (suc b) ops h.1 i (omega arith))
 
-  pub each-level : (own : List Source) (b : ℕ) (at : Path → Path) (us : Vertices) → AllCanInline us → IsAcyclic (nodes us) → AllEnd own → Placed b (inlined_level own b at us) → EachEnds b (inlined_level own b at us)
+  pub each-level : (own : List Source) (b : ℕ) (at : Path → Path) (us : Vertices) → AllCanInline us → IsAcyclic (nodes us) → AllEnd own
+      → Placed b (inlined_level own b at us) → EachEnds b (inlined_level own b at us)
   each-level own b at us h acyclic fed m = each-all (wire (wirings b us) own) b at us h (leads-all us h own b at acyclic fed m) m

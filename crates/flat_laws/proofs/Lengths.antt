@@ -41,10 +41,13 @@ module _ (long : Source → ℕ) (none : (k : ℕ) → long (Own k) ≡ 0) where
   at_place W (s ∷ ss) zero = refl
   at_place W (s ∷ ss) (suc k) = at_place W ss k
 
-  pub at_same : (W : Source → Source) (len : Source → ℕ) (ss : List Source) → map (λ s. long (W s)) ss ≡ map len ss → (k : ℕ) → long (slice_index_or (map W ss) k nowhere) ≡ slice_index_or (map len ss) k 0
+  pub at_same : (W : Source → Source) (len : Source → ℕ) (ss : List Source) → map (λ s. long (W s)) ss ≡ map len ss → (k : ℕ)
+      → long (slice_index_or (map W ss) k nowhere) ≡ slice_index_or (map len ss) k 0
   at_same W len ss h k = at_place W ss k ∙ ap (λ ns. slice_index_or ns k 0) h
 
-  ready_same : (W : Source → Source) (len : Source → ℕ) (done : ℕ → Bool) → ((s : Source) → source_ready done s ≡ true → long (W s) ≡ len s) → (ss : List Source) → sources_ready done ss ≡ true → map (λ s. long (W s)) ss ≡ map len ss
+  ready_same : (W : Source → Source) (len : Source → ℕ) (done : ℕ → Bool)
+      → ((s : Source) → source_ready done s ≡ true → long (W s) ≡ len s) → (ss : List Source) → sources_ready done ss ≡ true
+      → map (λ s. long (W s)) ss ≡ map len ss
   ready_same W len done h [] e = refl
   ready_same W len done h (s ∷ ss) e =
       ap₂ (λ n ns. n ∷ ns) (h s (and-left (source_ready done s) (sources_ready done ss) e)) (ready_same W len done h ss (and-right (source_ready done s) (sources_ready done ss) e))
@@ -56,14 +59,16 @@ module _ (long : Source → ℕ) (none : (k : ℕ) → long (Own k) ≡ 0) where
       → (s : Source) → long (wire (wirings b us) own s) ≡ source_length lens (outs_of us) s
 
   module _ (us : Vertices) (own : List Source) (lens : List ℕ) (b : ℕ) (acyclic : IsAcyclic (nodes us)) (fed : (k : ℕ) → long (slice_index_or own k nowhere) ≡ slice_index_or lens k 0)
-      (each : (done : ℕ → Bool) → ((s : Source) → source_ready done s ≡ true → long (wire (wirings b us) own s) ≡ source_length lens (outs_of us) s) → (r : ℕ) → with_node (slice_get (nodes us) r) false (is_ready done) ≡ true → (p : ℕ)
+      (each : (done : ℕ → Bool) → ((s : Source) → source_ready done s ≡ true → long (wire (wirings b us) own s)
+      ≡ source_length lens (outs_of us) s) → (r : ℕ) → with_node (slice_get (nodes us) r) false (is_ready done) ≡ true → (p : ℕ)
       → long (with_wiring (slice_get (wirings b us) r) nowhere (λ w. w.gives (map (wire (wirings b us) own) w.asked) p)) ≡ slice_index_or (slice_index_or (outs_of us) r []) p 0) where
     rounds : (k : ℕ) (s : Source) → source_ready (settled (nodes us) k) s ≡ true → long (wire (wirings b us) own s) ≡ source_length lens (outs_of us) s
     rounds k (Own j) h = fed j
     rounds zero (Of r p) h = absurd (false≢true h)
     rounds (suc k) (Of r p) h = ap long (sym (wire_fix own (wirings b us) (nodes us) (matched b us) acyclic r p)) ∙ each (settled (nodes us) k) (rounds k) r h p
 
-    outside : (w : Source → Source) (c : ℕ) (vs : Vertices) (r p : ℕ) → length (nodes vs) ≤ r → long (with_wiring (slice_get (wirings c vs) r) nowhere (λ x. x.gives (map w x.asked) p)) ≡ slice_index_or (slice_index_or (outs_of vs) r []) p 0
+    outside : (w : Source → Source) (c : ℕ) (vs : Vertices) (r p : ℕ) → length (nodes vs) ≤ r
+        → long (with_wiring (slice_get (wirings c vs) r) nowhere (λ x. x.gives (map w x.asked) p)) ≡ slice_index_or (slice_index_or (outs_of vs) r []) p 0
     outside w c no_vertices r p h = none 0
     outside w c (and_vertex u vs) zero p h = absurd (omega arith)
     outside w c (and_vertex u vs) (suc r) p h = outside w (c + count u) vs r p (omega arith)
@@ -84,7 +89,8 @@ module _ (long : Source → ℕ) (none : (k : ℕ) → long (Own k) ≡ 0) where
         → map (λ s. long (W s)) (asked_by k l.ins) ≡ map len (asked_by k l.ins) → (p : ℕ) → long (gives_by b k (λ c. wirings c us) (map W (asked_by k l.ins)) p) ≡ slice_index_or l.outs p 0
     measure-by (graph sources) m h t a p =
         at_same (wire (wirings b us) (map W l.ins)) (source_length (map len l.ins) (outs_of us)) sources
-        (same_map (λ s. long (wire (wirings b us) (map W l.ins) s)) (source_length (map len l.ins) (outs_of us)) (measures (map W l.ins) (map len l.ins) b (λ q. at (l.part ∷ q)) h.1.0 t.0 (at_same W len l.ins a) m) sources) p
+        (same_map (λ s. long (wire (wirings b us) (map W l.ins) s)) (source_length (map len l.ins) (outs_of us))
+        (measures (map W l.ins) (map len l.ins) b (λ q. at (l.part ∷ q)) h.1.0 t.0 (at_same W len l.ins a) m) sources) p
         ∙ ap (λ ns. slice_index_or ns p 0) (sym t.1)
     measure-by (switch values names) m h t a p = absurd h
     measure-by (repeat n feeds gives) m h t a p = absurd h
@@ -102,7 +108,8 @@ module _ (long : Source → ℕ) (none : (k : ℕ) → long (Own k) ≡ 0) where
     measure-vertex : (W : Source → Source) (b : ℕ) (at : Path → Path) (u : Vertex) (len : Source → ℕ) → CanInline u → Outs b (inlined W b at u) → IsTyped (map len (label_of u).ins) u
         → map (λ s. long (W s)) (node u).asked ≡ map len (node u).asked → (p : ℕ) → long ((wiring b u).gives (map W (wiring b u).asked) p) ≡ slice_index_or (label_of u).outs p 0
     measure-vertex W b at (vertex l us) len h m t a p =
-        measure-by W b at l us len (λ own lens c below acyclic typed fed outs. measured us own lens c acyclic fed (measure-all (wire (wirings c us) own) c below us lens (outs_of us) h.1 typed outs)) l.kind m h.0 t.1 a p
+        measure-by W b at l us len (λ own lens c below acyclic typed fed outs. measured us own lens c acyclic fed
+        (measure-all (wire (wirings c us) own) c below us lens (outs_of us) h.1 typed outs)) l.kind m h.0 t.1 a p
 
     measure-all : (W : Source → Source) (b : ℕ) (at : Path → Path) (us : Vertices) (lens : List ℕ) (outs : List (List ℕ)) → AllCanInline us → AllTyped lens outs us → Outs b (inlined_all W b at us)
         → (done : ℕ → Bool) → ((s : Source) → source_ready done s ≡ true → long (W s) ≡ source_length lens outs s) → (r : ℕ) → with_node (slice_get (nodes us) r) false (is_ready done) ≡ true → (p : ℕ)
@@ -112,7 +119,8 @@ module _ (long : Source → ℕ) (none : (k : ℕ) → long (Own k) ≡ 0) where
         measure-vertex W b at u (source_length lens outs) h.0 (outs-left b (inlined W b at u) _ m) t.0.1
         (ready_same W (source_length lens outs) done ih (node u).asked (and-right (guards_ready done (node u).guards) (sources_ready done (node u).asked) ready)) p
     measure-all W b at (and_vertex u us) lens outs h t m done ih (suc r) ready p =
-        measure-all W (b + count u) at us lens outs h.1 t.1 (subst (λ n. Outs (b + n) (inlined_all W (b + count u) at us)) (long-inlined W b at u h.0) (outs-right b (inlined W b at u) _ m)) done ih r ready p
+        measure-all W (b + count u) at us lens outs h.1 t.1
+        (subst (λ n. Outs (b + n) (inlined_all W (b + count u) at us)) (long-inlined W b at u h.0) (outs-right b (inlined W b at u) _ m)) done ih r ready p
 
   pub measures-all : (us : Vertices) → AllCanInline us → Measures us
   measures-all us h own lens b at acyclic typed fed m = measured us own lens b acyclic fed (measure-all (wire (wirings b us) own) b at us lens (outs_of us) h typed m)

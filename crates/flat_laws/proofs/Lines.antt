@@ -235,11 +235,13 @@ not-later name x k len (f ∷ fs) h l = elim l [
 ]
 
 -- what stands for a fork line stands at its place
-pub at-place : {A : Type 0} (value : ℕ → ℕ → A) (d : A) (name : List ℕ) (k len : ℕ) (fs : List Feed) → AreApart fs → IsLine (Fork name k len) fs → get_or (forked value fs) (fork_place name fs) d ≡ value k len
+pub at-place : {A : Type 0} (value : ℕ → ℕ → A) (d : A) (name : List ℕ) (k len : ℕ) (fs : List Feed) → AreApart fs
+    → IsLine (Fork name k len) fs → get_or (forked value fs) (fork_place name fs) d ≡ value k len
 at-place value d name k len [] apart l = absurd l
 at-place value d name k len (Fork x j m ∷ fs) apart l = by (bytes_eq name x) refl (λ later. at-place value d name k len fs apart.1 later)
   where
-    by : (b : Bool) → bytes_eq name x ≡ b → (IsLine (Fork name k len) fs → get_or (forked value fs) (fork_place name fs) d ≡ value k len) → get_or (value j m ∷ forked value fs) (cond b 0 (suc (fork_place name fs))) d ≡ value k len
+    by : (b : Bool) → bytes_eq name x ≡ b → (IsLine (Fork name k len) fs → get_or (forked value fs) (fork_place name fs) d ≡ value k len)
+        → get_or (value j m ∷ forked value fs) (cond b 0 (suc (fork_place name fs))) d ≡ value k len
     by true e go = elim l [
       | inl same ↦ cc
       | inr later ↦

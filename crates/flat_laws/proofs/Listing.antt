@@ -69,12 +69,24 @@ same-task before more (gets v) h = refl
 same-task before more sets h = refl
 
 module _ (names : List (List ℕ)) where
-  same-row : (before more : List (List Expr)) (v : ℕ) (op : Operation) → IsFlatTask op.task → AreFound op.ins × GuardsFound op.guards → vertex_row names (before ++ (body_of op.task ++ more)) (vertex_of v (length before) op) ≡ operation_row names op
+  same-row : (before more : List (List Expr)) (v : ℕ) (op : Operation) → IsFlatTask op.task → AreFound op.ins × GuardsFound op.guards
+      → vertex_row names (before ++ (body_of op.task ++ more)) (vertex_of v (length before) op) ≡ operation_row names op
   same-row before more v op h found =
-      ap (λ t. record { name = name_of op; definition = op.definition; ins = map (source_origin names) (map flat_source op.ins); conditions = map (guard_condition names) (map flat_guard op.guards); outs = op.outs; task = t }) (same-task before more op.task h)
-      ∙ ap₂ (λ os cs. record { name = name_of op; definition = op.definition; ins = os; conditions = cs; outs = op.outs; task = op.task }) (flat-ins names op.ins found.0) (flat-conditions names op.guards found.1)
+      ap (λ t. record {
+        name = name_of op;
+        definition = op.definition;
+        ins =
+            map (source_origin names) (map flat_source op.ins);
+        conditions = map (guard_condition names) (map flat_guard op.guards);
+        outs =
+            op.outs;
+        task = t;
+      }) (same-task before more op.task h)
+      ∙ ap₂ (λ os cs. record { name = name_of op; definition = op.definition; ins = os; conditions = cs; outs = op.outs; task = op.task })
+      (flat-ins names op.ins found.0) (flat-conditions names op.guards found.1)
 
-  same-rows : (before : List (List Expr)) (v : ℕ) (ops : List Operation) → AllFlat ops → AllLinked ops → map (vertex_row names (before ++ bodies_of ops)) (vertices_from v (length before) ops) ≡ map (operation_row names) ops
+  same-rows : (before : List (List Expr)) (v : ℕ) (ops : List Operation) → AllFlat ops → AllLinked ops
+      → map (vertex_row names (before ++ bodies_of ops)) (vertices_from v (length before) ops) ≡ map (operation_row names) ops
   same-rows before v [] h found = refl
   same-rows before v (op ∷ ops) h found =
       let own = body_of op.task in

@@ -50,7 +50,9 @@ cond_long false P f g h k = k
 module _ (row : Values) where
   module _ (l : Label) (us : Vertices) (look : Source → Vector) (st : State) where
     next-by : (k : Kind) → IsKindInlinable k l.guards (nodes us) → (HasDistinctParts (nodes us) → AllLong us st → AllLong us (graph_next (nodes us) row st (map look l.ins)))
-        → IsKindLong k st (AllLong us st) → IsKindLong k (cond (all_hold look l.guards) (kind_next k (nodes us) row st (map look l.ins)) st) (AllLong us (cond (all_hold look l.guards) (kind_next k (nodes us) row st (map look l.ins)) st))
+        → IsKindLong k st (AllLong us st)
+        → IsKindLong k (cond (all_hold look l.guards) (kind_next k (nodes us) row st (map look l.ins)) st)
+        (AllLong us (cond (all_hold look l.guards) (kind_next k (nodes us) row st (map look l.ins)) st))
     next-by (graph outs) h deep long = cond_long (all_hold look l.guards) (AllLong us) _ st (deep h.1.1 long) long
     next-by (delay vs) h deep long =
         cond_long (all_hold look l.guards) (λ (s : State). length (s []) ≡ length vs) (delay_next st (map look l.ins)) st (same_long (st []) _ (omega (arith, long, h)) ∙ long) long

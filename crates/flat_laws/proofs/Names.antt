@@ -1,6 +1,37 @@
 -- The name of an operation is a path: letters, digits, `_`, `/`, `.` and `:`. That of a half of a delay reads like a path with one
 -- part more.
-use Rattle.std.proofs.Common.{◌≡◌, ℕ, zero, suc, ◌+◌, ◌^◌, ◌<◌, ◌≤◌, ◌==◌, ◌||◌, nat_le, true, List, [], ◌∷◌, ◌++◌, length, map, decimal, codes, refl, sym, ap, ◌∙◌, subst, arith, append_assoc, append-nil, length-append, le-leb}
+use Rattle.std.proofs.Common.{
+  ◌≡◌,
+  ℕ,
+  zero,
+  suc,
+  ◌+◌,
+  ◌^◌,
+  ◌<◌,
+  ◌≤◌,
+  ◌==◌,
+  ◌||◌,
+  nat_le,
+  true,
+  List,
+  [],
+  ◌∷◌,
+  ◌++◌,
+  length,
+  map,
+  decimal,
+  codes,
+  refl,
+  sym,
+  ap,
+  ◌∙◌,
+  subst,
+  arith,
+  append_assoc,
+  append-nil,
+  length-append,
+  le-leb,
+}
 use Rattle.std.specs.List.{list_all}
 use Rattle.std.proofs.lemmas.Bool.{false≢true, and_parts, and_from, or_left}
 use Rattle.std.proofs.lemmas.List.Folds.{list_all-append}
@@ -110,7 +141,9 @@ bytes-pass : (x : List ℕ) → AreNameBytes x → list_all is_path_byte x ≡ t
 bytes-pass [] h = refl
 bytes-pass (b ∷ x) h =
     let both = and_parts (is_name_byte b) (list_all is_name_byte x) h in
-    and_from (is_path_byte b) (list_all is_path_byte x) (or_left (is_name_byte b || (b == 46) || (b == 47)) (b == 58) (or_left (is_name_byte b || (b == 46)) (b == 47) (or_left (is_name_byte b) (b == 46) both.0))) (bytes-pass x both.1)
+    and_from (is_path_byte b) (list_all is_path_byte x)
+    (or_left (is_name_byte b || (b == 46) || (b == 47)) (b == 58)
+    (or_left (is_name_byte b || (b == 46)) (b == 47) (or_left (is_name_byte b) (b == 46) both.0))) (bytes-pass x both.1)
 
 joined-pass : (x y : List ℕ) → list_all is_path_byte x ≡ true → list_all is_path_byte y ≡ true → list_all is_path_byte (x ++ y) ≡ true
 joined-pass x y h k = list_all-append is_path_byte x y ∙ and_from (list_all is_path_byte x) (list_all is_path_byte y) h k
@@ -157,13 +190,15 @@ name-pass op h =
 
 -- all paths of a flat list are of this form
 mutual
-  told-vertex : (W : Source → Source) (b : ℕ) (at : Path → Path) (u : Vertex) → IsNamed u → IsBounded u → ((p : Part) (q : Path) → IsPathNamed (p ∷ q) → IsPathBounded (p ∷ q) → IsTold (at (p ∷ q))) → AtAll IsTold (inlined W b at u)
+  told-vertex : (W : Source → Source) (b : ℕ) (at : Path → Path) (u : Vertex) → IsNamed u → IsBounded u
+      → ((p : Part) (q : Path) → IsPathNamed (p ∷ q) → IsPathBounded (p ∷ q) → IsTold (at (p ∷ q))) → AtAll IsTold (inlined W b at u)
   told-vertex W b at (vertex l us) n d h =
       paths-by IsTold W b at l l.kind _
       (λ own. told-all (wire (wirings b us) own) b (λ q. at (l.part ∷ q)) us n.1 d.1 (λ p q x y. h l.part (p ∷ q) (n.0.part, x) (d.0.part, y)))
       (h l.part [] (n.0.part, tt) (d.0.part, tt))
 
-  told-all : (W : Source → Source) (b : ℕ) (at : Path → Path) (us : Vertices) → AllNamed us → AllBounded us → ((p : Part) (q : Path) → IsPathNamed (p ∷ q) → IsPathBounded (p ∷ q) → IsTold (at (p ∷ q))) → AtAll IsTold (inlined_all W b at us)
+  told-all : (W : Source → Source) (b : ℕ) (at : Path → Path) (us : Vertices) → AllNamed us → AllBounded us
+      → ((p : Part) (q : Path) → IsPathNamed (p ∷ q) → IsPathBounded (p ∷ q) → IsTold (at (p ∷ q))) → AtAll IsTold (inlined_all W b at us)
   told-all W b at no_vertices n d h = tt
   told-all W b at (and_vertex u us) n d h = all-append IsTold (inlined W b at u) _ (told-vertex W b at u n.0 d.0 h) (told-all W (b + count u) at us n.1 d.1 h)
 
@@ -184,7 +219,8 @@ module _ (n : ℕ) (some : 0 < n) where
   small-stages W b path l i [] h = tt
   small-stages W b path l i (v ∷ vs) h = let lt : i < n = omega (arith, h) in (lt, (lt, small-stages W (b + 2) path l (suc i) vs (omega (arith, h))))
 
-  small-by : (W : Source → Source) (b : ℕ) (at : Path → Path) (l : Label) (k : Kind) (inner : List Source → ℕ → (Path → Path) → List Operation) (m : ℕ) → ((own : List Source) → m ≤ n → SmallStages n (inner own b (λ q. at (l.part ∷ q))))
+  small-by : (W : Source → Source) (b : ℕ) (at : Path → Path) (l : Label) (k : Kind)
+      (inner : List Source → ℕ → (Path → Path) → List Operation) (m : ℕ) → ((own : List Source) → m ≤ n → SmallStages n (inner own b (λ q. at (l.part ∷ q))))
       → operations_by k m ≤ n → SmallStages n (inlined_by W b at l k inner)
   small-by W b at l (graph outs) inner m deep h = deep (map W l.ins) h
   small-by W b at l (delay vs) inner m deep h = small-stages W b (at (l.part ∷ [])) l 0 vs (omega (arith, h))

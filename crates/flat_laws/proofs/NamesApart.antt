@@ -62,7 +62,8 @@ record IsPlace (at : Path → Path) : Type 0 where
 place-below : (at : Path → Path) (p : Part) → IsPlace at → IsPlace (λ q. at (p ∷ q))
 place-below at p h = record { keeps = keeps-below at p h.keeps; appends = λ q r. h.appends (p ∷ q) r }
 
-below-apart : (W : Source → Source) (b : ℕ) (at : Path → Path) (us : Vertices) (p : Part) (q : Path) → IsPlace at → IsApart p (nodes us) → AtAll (λ y. (r : Path) → same_path (at (p ∷ q)) (y ++ r) ≡ false) (inlined_all W b at us)
+below-apart : (W : Source → Source) (b : ℕ) (at : Path → Path) (us : Vertices) (p : Part) (q : Path) → IsPlace at → IsApart p (nodes us)
+    → AtAll (λ y. (r : Path) → same_path (at (p ∷ q)) (y ++ r) ≡ false) (inlined_all W b at us)
 below-apart W b at no_vertices p q place h = tt
 below-apart W b at (and_vertex u us) p q place h =
     all-append (λ y. (r : Path) → same_path (at (p ∷ q)) (y ++ r) ≡ false) (inlined W b at u) _
@@ -110,7 +111,8 @@ module _ (W : Source → Source) (at : Path → Path) (l : Label) (place : IsPla
     (later-apart sets i tt (b + 2) (suc i) vs (omega arith), stages-apart (b + 2) (suc i) vs),
   )
 
-apart-by : (W : Source → Source) (b : ℕ) (at : Path → Path) (l : Label) (k : Kind) (cs : List Node) (inner : List Source → ℕ → (Path → Path) → List Operation) → IsPlace at → IsKindInlinable k l.guards cs
+apart-by : (W : Source → Source) (b : ℕ) (at : Path → Path) (l : Label) (k : Kind) (cs : List Node)
+    (inner : List Source → ℕ → (Path → Path) → List Operation) → IsPlace at → IsKindInlinable k l.guards cs
     → ((own : List Source) → HasDistinctParts cs → AllApart (inner own b (λ q. at (l.part ∷ q)))) → AllApart (inlined_by W b at l k inner)
 apart-by W b at l (graph outs) cs inner place h deep = deep (map W l.ins) h.1.1
 apart-by W b at l (delay vs) cs inner place h deep = stages-apart W at l place b 0 vs
@@ -153,7 +155,8 @@ names-differ x y hx hy h =
     ap₂ bytes_eq (full-text x.path x.task x.stage) (full-text y.path y.task y.stage) ∙ texts-differ (full x) (full y) (full-named x hx) (full-named y hy) (full-bounded x hx) (full-bounded y hy) h
 
 module _ (bodies : List (List Expr)) where
-  none-same : (op : Operation) (name : List ℕ) (a : ℕ) (xs : List Vertex) (ops : List Operation) → name ≡ name_of op → IsNamedOperation op → AllStand bodies a xs ops → AreNamed ops → NoFull (full op) ops → list_any (λ y. bytes_eq name y.name) xs ≡ false
+  none-same : (op : Operation) (name : List ℕ) (a : ℕ) (xs : List Vertex) (ops : List Operation) → name ≡ name_of op → IsNamedOperation op
+      → AllStand bodies a xs ops → AreNamed ops → NoFull (full op) ops → list_any (λ y. bytes_eq name y.name) xs ≡ false
   none-same op name a [] ops e t h told apart = refl
   none-same op name a (x ∷ xs) [] e t h told apart = absurd h
   none-same op name a (x ∷ xs) (o ∷ ops) e t h told apart =

@@ -5,7 +5,27 @@ use Rattle.algo_tree.specs.declared.Source.{Source}
 use Rattle.algo_tree.specs.declared.Part.TheVariants.{Numbered}
 use Rattle.algo_tree.specs.Level.{Path, Node, level_value}
 use Rattle.algo_tree.proofs.SameParts.{same_itself}
-use Rattle.flat_laws.specs.Flat.{Operation, Task, runs, gets, sets, flat_level, flat_value, Stages, stages_of, same_path, is_cell, is_set, is_get, set_value, initial_value, task_outputs, pick, next_cells, flat_past}
+use Rattle.flat_laws.specs.Flat.{
+  Operation,
+  Task,
+  runs,
+  gets,
+  sets,
+  flat_level,
+  flat_value,
+  Stages,
+  stages_of,
+  same_path,
+  is_cell,
+  is_set,
+  is_get,
+  set_value,
+  initial_value,
+  task_outputs,
+  pick,
+  next_cells,
+  flat_past,
+}
 use Rattle.flat_laws.specs.Numbered.{Cells, numbered_node, numbered_level, numbered_value, numbered_set, numbered_past, with_operation, SameCells}
 use Rattle.flat_graph.specs.Meaning.{no_state}
 use Rattle.syn_base.specs.Vectors.{Vector, Values}
@@ -33,7 +53,8 @@ module _ (test : Task → Bool) where
   no_later-at x (y ∷ ops) h (suc v) op is t = no_later-at x ops h.1 v op is t
 
   module _ (value : Operation → Vector) (other : Stages) where
-    passed : (b : Bool) (y : Operation) (ops : List Operation) (x : Path) (i : ℕ) → test y.task ≡ b → (b ≡ true → is_cell y x i ≡ false) → pick test value other (y ∷ ops) x i ≡ pick test value other ops x i
+    passed : (b : Bool) (y : Operation) (ops : List Operation) (x : Path) (i : ℕ) → test y.task ≡ b → (b ≡ true → is_cell y x i ≡ false)
+        → pick test value other (y ∷ ops) x i ≡ pick test value other ops x i
     passed true y ops x i e h = ap₂ (λ s t. cond (s && t) (value y) (pick test value other ops x i)) e (h refl)
     passed false y ops x i e h = ap (λ s. cond (s && is_cell y x i) (value y) (pick test value other ops x i)) e
 
@@ -41,7 +62,8 @@ module _ (test : Task → Bool) where
     pick-at [] d v op is t = cc
     pick-at (y ∷ ops) d zero op is t =
         let e : y ≡ op = cc in
-        subst (λ o. pick test value other (y ∷ ops) o.path o.stage ≡ value o) e (ap₂ (λ s t. cond (s && t) (value y) (pick test value other ops y.path y.stage)) (subst (λ o. test o.task ≡ true) (sym e) t) (cell_itself y))
+        subst (λ o. pick test value other (y ∷ ops) o.path o.stage ≡ value o) e
+        (ap₂ (λ s t. cond (s && t) (value y) (pick test value other ops y.path y.stage)) (subst (λ o. test o.task ≡ true) (sym e) t) (cell_itself y))
     pick-at (y ∷ ops) d (suc v) op is t = passed (test y.task) y ops op.path op.stage refl (λ b. no_later-at y ops (d.0 b) v op is t) ∙ pick-at ops d.1 v op is t
 
 -- a get half's set half is the next operation
@@ -55,13 +77,15 @@ abbrev pub Paired : List Operation → Type 0
 Paired [] = Unit {0}
 Paired (op ∷ ops) = PairHead op op.task ops × Paired ops
 
-head-pair : (op : Operation) (t : Task) (ops : List Operation) → PairHead op t ops → is_get t ≡ true → (s : Operation) × (slice_get ops 0 ≡ Some s) × (s.task ≡ sets) × (s.path ≡ op.path) × (s.stage ≡ op.stage)
+head-pair : (op : Operation) (t : Task) (ops : List Operation) → PairHead op t ops → is_get t ≡ true → (s : Operation)
+    × (slice_get ops 0 ≡ Some s) × (s.task ≡ sets) × (s.path ≡ op.path) × (s.stage ≡ op.stage)
 head-pair op (runs k) ops h g = absurd (false≢true g)
 head-pair op sets ops h g = absurd (false≢true g)
 head-pair op (gets v) [] h g = absurd h
 head-pair op (gets v) (s ∷ ops) h g = (s, refl, h.0, h.1, h.2)
 
-pub pair-at : (ops : List Operation) → Paired ops → (v : ℕ) (op : Operation) → slice_get ops v ≡ Some op → is_get op.task ≡ true → (s : Operation) × (slice_get ops (suc v) ≡ Some s) × (s.task ≡ sets) × (s.path ≡ op.path) × (s.stage ≡ op.stage)
+pub pair-at : (ops : List Operation) → Paired ops → (v : ℕ) (op : Operation) → slice_get ops v ≡ Some op → is_get op.task ≡ true
+    → (s : Operation) × (slice_get ops (suc v) ≡ Some s) × (s.task ≡ sets) × (s.path ≡ op.path) × (s.stage ≡ op.stage)
 pair-at [] h v op is g = cc
 pair-at (y ∷ ops) h zero op is g =
     let e : y ≡ op = cc in
@@ -87,7 +111,9 @@ module _ (ops : List Operation) (paired : Paired ops) (one_set : Distinct is_set
   node-same (runs k) a b op e same = ap (kid op a) e ∙ sym (ap (kid op b) e)
   node-same sets a b op e same = ap (kid op a) e ∙ sym (ap (kid op b) e)
 
-  level-from : (cells : Cells) (st : Stages) (v : ℕ) (ys : List Operation) → ((i : ℕ) (op : Operation) → slice_get ys i ≡ Some op → is_get op.task ≡ true → cells (v + i) ≡ st op.path op.stage) → numbered_level cells v ys ≡ flat_level st ys
+  level-from : (cells : Cells) (st : Stages) (v : ℕ) (ys : List Operation)
+      → ((i : ℕ) (op : Operation) → slice_get ys i ≡ Some op → is_get op.task ≡ true → cells (v + i) ≡ st op.path op.stage)
+      → numbered_level cells v ys ≡ flat_level st ys
   level-from cells st v [] h = refl
   level-from cells st v (y ∷ ys) h =
       ap₂ (λ c cs. c ∷ cs) (node-same y.task (cells v) (st y.path y.stage) y refl (λ g. ap cells (omega arith) ∙ h 0 y refl g))

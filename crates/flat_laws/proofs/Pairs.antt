@@ -32,7 +32,9 @@ module _ (P : Path → Type 0) where
   paths-stages W b path l i [] h = tt
   paths-stages W b path l i (v ∷ vs) h = (h, (h, paths-stages W (b + 2) path l (suc i) vs h))
 
-  pub paths-by : (W : Source → Source) (b : ℕ) (at : Path → Path) (l : Label) (k : Kind) (inner : List Source → ℕ → (Path → Path) → List Operation) → ((own : List Source) → AtAll P (inner own b (λ q. at (l.part ∷ q)))) → P (at (l.part ∷ [])) → AtAll P (inlined_by W b at l k inner)
+  pub paths-by : (W : Source → Source) (b : ℕ) (at : Path → Path) (l : Label) (k : Kind)
+      (inner : List Source → ℕ → (Path → Path) → List Operation) → ((own : List Source) → AtAll P (inner own b (λ q. at (l.part ∷ q))))
+      → P (at (l.part ∷ [])) → AtAll P (inlined_by W b at l k inner)
   paths-by W b at l (graph outs) inner deep h = deep (map W l.ins)
   paths-by W b at l (delay vs) inner deep h = paths-stages W b (at (l.part ∷ [])) l 0 vs h
   paths-by W b at l (switch values names) inner deep h = (h, tt)
@@ -94,7 +96,9 @@ module _ (test : Task → Bool) (one : (v : Vector) → test (gets v) ≡ true �
     ),
   )
 
-  distinct-by : (W : Source → Source) (b : ℕ) (at : Path → Path) (l : Label) (k : Kind) (cs : List Node) (inner : List Source → ℕ → (Path → Path) → List Operation) → IsKindInlinable k l.guards cs → ((own : List Source) → HasDistinctParts cs → Distinct test (inner own b (λ q. at (l.part ∷ q)))) → Distinct test (inlined_by W b at l k inner)
+  distinct-by : (W : Source → Source) (b : ℕ) (at : Path → Path) (l : Label) (k : Kind) (cs : List Node)
+      (inner : List Source → ℕ → (Path → Path) → List Operation) → IsKindInlinable k l.guards cs
+      → ((own : List Source) → HasDistinctParts cs → Distinct test (inner own b (λ q. at (l.part ∷ q)))) → Distinct test (inlined_by W b at l k inner)
   distinct-by W b at l (graph outs) cs inner h deep = deep (map W l.ins) h.1.1
   distinct-by W b at l (delay vs) cs inner h deep = distinct-stages W b (at (l.part ∷ [])) l 0 vs
   distinct-by W b at l (switch values names) cs inner h deep = ((λ t. tt), tt)
@@ -133,7 +137,9 @@ paired-stages : (W : Source → Source) (b : ℕ) (path : Path) (l : Label) (i :
 paired-stages W b path l i [] = tt
 paired-stages W b path l i (v ∷ vs) = ((refl, refl, refl), (tt, paired-stages W (b + 2) path l (suc i) vs))
 
-paired-by : (W : Source → Source) (b : ℕ) (at : Path → Path) (l : Label) (k : Kind) (inner : List Source → ℕ → (Path → Path) → List Operation) → ((own : List Source) → Paired (inner own b (λ q. at (l.part ∷ q)))) → Paired (inlined_by W b at l k inner)
+paired-by : (W : Source → Source) (b : ℕ) (at : Path → Path) (l : Label) (k : Kind)
+    (inner : List Source → ℕ → (Path → Path) → List Operation) → ((own : List Source) → Paired (inner own b (λ q. at (l.part ∷ q))))
+    → Paired (inlined_by W b at l k inner)
 paired-by W b at l (graph outs) inner deep = deep (map W l.ins)
 paired-by W b at l (delay vs) inner deep = paired-stages W b (at (l.part ∷ [])) l 0 vs
 paired-by W b at l (switch values names) inner deep = (tt, tt)

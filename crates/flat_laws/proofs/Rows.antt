@@ -25,7 +25,8 @@ pub outlets-join : (p : Path) (us vs : Vertices) → outlets p (join us vs) ≡ 
 outlets-join p no_vertices vs = refl
 outlets-join p (and_vertex u us) vs = ap (λ xs. unit_of p u ∷ xs) (outlets-join p us vs)
 
-pub rows-append : (p : Path) (cs : List Condition) (lead : Source → Origin) (xs ys : List Vertex) → graph_rows p cs lead (vertices_of (xs ++ ys)) ≡ graph_rows p cs lead (vertices_of xs) ++ graph_rows p cs lead (vertices_of ys)
+pub rows-append : (p : Path) (cs : List Condition) (lead : Source → Origin) (xs ys : List Vertex)
+    → graph_rows p cs lead (vertices_of (xs ++ ys)) ≡ graph_rows p cs lead (vertices_of xs) ++ graph_rows p cs lead (vertices_of ys)
 rows-append p cs lead [] ys = refl
 rows-append p cs lead (x ∷ xs) ys =
     ap (λ rs. vertex_rows p cs lead x ++ rs) (rows-append p cs lead xs ys)

@@ -38,7 +38,8 @@ length-guards : (f : Source → Origin) (gs : List Guard) → length (map f (gua
 length-guards f [] = refl
 length-guards f (g ∷ gs) = ap suc (length-guards f gs)
 
-pub handed : (f g : Source → Origin) (gs : List Guard) (n : ℕ) (ss : List Source) → map f (map (shift n) ss) ≡ map g ss → (k : ℕ) → origin_at (map f (guard_sources gs ++ map (shift n) ss)) (length gs + k) ≡ origin_at (map g ss) k
+pub handed : (f g : Source → Origin) (gs : List Guard) (n : ℕ) (ss : List Source) → map f (map (shift n) ss) ≡ map g ss → (k : ℕ)
+    → origin_at (map f (guard_sources gs ++ map (shift n) ss)) (length gs + k) ≡ origin_at (map g ss) k
 handed f g gs n ss e k =
     ap (λ (os : List Origin). origin_at os (length gs + k)) (map-append f (guard_sources gs) (map (shift n) ss))
     ∙ ap (λ (m : ℕ). origin_at (map f (guard_sources gs) ++ map f (map (shift n) ss)) (m + k)) (sym (length-guards f gs))
@@ -52,10 +53,12 @@ SameUnits p m vs us = (f g : Source → Origin) → ((s : Source) → f (shift m
 -- the cases of a switch before and after
 abbrev pub SameCases : Path → ℕ → Vertices → Vertices → Type 0
 SameCases p m vs us =
-    (f : Source → Origin) (own : List Origin) → ((k : ℕ) → f (Own (m + k)) ≡ origin_at own k) → (r q : ℕ) → given f q (slice_get (outlets p vs) r) ≡ given (case_origin own) q (slice_get (outlets p us) r)
+    (f : Source → Origin) (own : List Origin) → ((k : ℕ) → f (Own (m + k)) ≡ origin_at own k) → (r q : ℕ)
+    → given f q (slice_get (outlets p vs) r) ≡ given (case_origin own) q (slice_get (outlets p us) r)
 
 -- the sources of a graph
-module _ (p : Path) (m : ℕ) (vs us : Vertices) (long : length (outlets p vs) ≡ length (outlets p us)) (same : SameUnits p m vs us) (more own : List Origin) (fed : (k : ℕ) → origin_at more (m + k) ≡ origin_at own k) where
+module _ (p : Path) (m : ℕ) (vs us : Vertices) (long : length (outlets p vs) ≡ length (outlets p us)) (same : SameUnits p m vs us)
+    (more own : List Origin) (fed : (k : ℕ) → origin_at more (m + k) ≡ origin_at own k) where
   at-source : (x y : ℕ → ℕ → Origin) → ((r q : ℕ) → x r q ≡ y r q) → (s : Source) → origin_by more x (shift m s) ≡ origin_by own y s
   at-source x y h (Own k) = fed k
   at-source x y h (Of r q) = h r q
@@ -63,7 +66,8 @@ module _ (p : Path) (m : ℕ) (vs us : Vertices) (long : length (outlets p vs) �
   by-fuel : (fuel r q : ℕ) → output_origin (outlets p vs) more fuel r q ≡ output_origin (outlets p us) own fuel r q
   by-fuel zero r q = refl
   by-fuel (suc fuel) r q =
-      same (origin_by more (output_origin (outlets p vs) more fuel)) (origin_by own (output_origin (outlets p us) own fuel)) (at-source (output_origin (outlets p vs) more fuel) (output_origin (outlets p us) own fuel) (by-fuel fuel)) r q
+      same (origin_by more (output_origin (outlets p vs) more fuel)) (origin_by own (output_origin (outlets p us) own fuel))
+      (at-source (output_origin (outlets p vs) more fuel) (output_origin (outlets p us) own fuel) (by-fuel fuel)) r q
 
   pub graph-leads : (s : Source) → origin_in (outlets p vs) more (shift m s) ≡ origin_in (outlets p us) own s
   graph-leads s = ap (λ (n : ℕ). origin_by more (output_origin (outlets p vs) more n) (shift m s)) long
@@ -71,7 +75,8 @@ module _ (p : Path) (m : ℕ) (vs us : Vertices) (long : length (outlets p vs) �
 
 -- the merges of a switch
 module _ (p : Path) (d : List ℕ) (gs : List Guard) (m : ℕ) (values : List ℤ) (count : ℕ) (lens : List ℕ) where
-  merge-leads : (f : Source → Origin) (j : ℕ) (names : List (List ℕ)) (i : ℕ) (name : List ℕ) → slice_get names i ≡ Some name → given f 0 (slice_get (outlets p (merges d gs m values count lens j names)) i) ≡ output_of (port p name) (merge values) 0
+  merge-leads : (f : Source → Origin) (j : ℕ) (names : List (List ℕ)) (i : ℕ) (name : List ℕ) → slice_get names i ≡ Some name
+      → given f 0 (slice_get (outlets p (merges d gs m values count lens j names)) i) ≡ output_of (port p name) (merge values) 0
   merge-leads f j [] i name is = absurd (cc)
   merge-leads f j (x ∷ names) zero name is = let e : x ≡ name = cc in ap (λ y. output_of (port p y) (merge values) 0) e
   merge-leads f j (x ∷ names) (suc i) name is = merge-leads f (suc j) names i name is
@@ -81,7 +86,8 @@ module _ (p : Path) (d : List ℕ) (gs : List Guard) (m : ℕ) (values : List �
   long-merges j (x ∷ names) = ap suc (long-merges (suc j) names)
 
 -- the sources of the graph that a switch becomes, where the cases become these
-module _ (p : Path) (d : List ℕ) (hs : List Guard) (m : ℕ) (values : List ℤ) (lens : List ℕ) (names : List (List ℕ)) (cs us : Vertices) (long : length (outlets p cs) ≡ count_of us) (more : List Origin) where
+module _ (p : Path) (d : List ℕ) (hs : List Guard) (m : ℕ) (values : List ℤ) (lens : List ℕ) (names : List (List ℕ)) (cs us : Vertices)
+    (long : length (outlets p cs) ≡ count_of us) (more : List Origin) where
   abbrev pub whole : Vertices
   whole = join cs (merges d hs m values (count_of us) lens 0 names)
 
@@ -101,7 +107,8 @@ module _ (p : Path) (d : List ℕ) (hs : List Guard) (m : ℕ) (values : List �
   merge-by zero some i name is = absurd (omega arith)
   merge-by (suc fuel) some i name is =
       let f = origin_by more (output_origin (outlets p whole) more fuel) in
-      ap₂ (λ (xs : List Outlet) (k : ℕ). given f 0 (slice_get xs (k + i))) joined (sym long) ∙ ap (given f 0) (slice_right (outlets p cs) Ms i) ∙ merge-leads p d hs m values (count_of us) lens f 0 names i name is
+      ap₂ (λ (xs : List Outlet) (k : ℕ). given f 0 (slice_get xs (k + i))) joined (sym long)
+      ∙ ap (given f 0) (slice_right (outlets p cs) Ms i) ∙ merge-leads p d hs m values (count_of us) lens f 0 names i name is
 
   there : (xs : List (List ℕ)) (i : ℕ) (name : List ℕ) → slice_get xs i ≡ Some name → 1 ≤ length xs
   there [] i name is = absurd (cc)
@@ -114,7 +121,8 @@ module _ (p : Path) (d : List ℕ) (hs : List Guard) (m : ℕ) (values : List �
       ∙ by-places (λ i. leads (Of (count_of us + i) 0)) (λ name. output_of (port p name) (merge values) 0) names (λ i name is.
       merge-by (length (outlets p whole)) (let e = many in let some = there names i name is in omega (arith, e, some)) i name is)
 
-  case-by : (same : SameCases p m cs us) (own : List Origin) → ((k : ℕ) → origin_at more (m + k) ≡ origin_at own k) → (fuel : ℕ) → 1 ≤ fuel → (q i : ℕ) (u : Outlet) → slice_get (outlets p us) i ≡ Some u → i < count_of us
+  case-by : (same : SameCases p m cs us) (own : List Origin) → ((k : ℕ) → origin_at more (m + k) ≡ origin_at own k) → (fuel : ℕ) → 1 ≤ fuel
+      → (q i : ℕ) (u : Outlet) → slice_get (outlets p us) i ≡ Some u → i < count_of us
       → output_origin (outlets p whole) more fuel i q ≡ case_output own q u
   case-by same own fed zero some q i u is lt = absurd (omega arith)
   case-by same own fed (suc fuel) some q i u is lt =
@@ -133,7 +141,8 @@ module _ (p : Path) (d : List ℕ) (hs : List Guard) (m : ℕ) (values : List �
   count-outlets (and_vertex u xs) = ap suc (count-outlets xs)
 
   -- what a merge reads of the cases
-  pub cases-lead : SameCases p m cs us → (own : List Origin) → ((k : ℕ) → origin_at more (m + k) ≡ origin_at own k) → (q : ℕ) → map leads (map (λ i. Of i q) (numbers_below (count_of us))) ≡ map (case_output own q) (outlets p us)
+  pub cases-lead : SameCases p m cs us → (own : List Origin) → ((k : ℕ) → origin_at more (m + k) ≡ origin_at own k) → (q : ℕ)
+      → map leads (map (λ i. Of i q) (numbers_below (count_of us))) ≡ map (case_output own q) (outlets p us)
   cases-lead same own fed q =
       map_map leads (λ i. Of i q) (numbers_below (count_of us))
       ∙ ap (λ n. map (λ i. leads (Of i q)) (numbers_below n)) (sym (count-outlets us))
@@ -149,7 +158,8 @@ by-kind : (gs : List Guard) (n : ℕ) (p : Path) (l : Label) (k : Kind) (us : Ve
     → ((q : Path) (hs : List Guard) (m : ℕ) → (length (outlets q (inner hs m)) ≡ length (outlets q us)) × SameUnits q m (inner hs m) us)
     → ((q : Path) (hs : List Guard) (m : ℕ) (values : List ℤ) → length (outlets q (cases hs m values)) ≡ count_of us)
     → (f g : Source → Origin) → map f (map (shift n) (asked_by k l.ins)) ≡ map g (asked_by k l.ins) → (q : ℕ)
-    → (unit_of p (guarded_by gs n l k us inner cases)).leads (map f (unit_of p (guarded_by gs n l k us inner cases)).asked) q ≡ leads_by (inside p l.part) k (outlets (inside p l.part) us) body (map g (asked_by k l.ins)) q
+    → (unit_of p (guarded_by gs n l k us inner cases)).leads (map f (unit_of p (guarded_by gs n l k us inner cases)).asked) q
+    ≡ leads_by (inside p l.part) k (outlets (inside p l.part) us) body (map g (asked_by k l.ins)) q
 by-kind gs n p l (graph sources) us none inner cases body I C f g e q =
     let P = inside p l.part in
     let m = length gs in

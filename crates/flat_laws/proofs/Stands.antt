@@ -1,5 +1,38 @@
 -- A flat graph that stands for a flat list gives and keeps the same.
-use Rattle.std.proofs.Common.{◌≡◌, ℕ, zero, suc, ◌+◌, ℤ, List, [], ◌∷◌, ◌++◌, take, drop, length, map, slice_index_or, Bool, true, false, cond, Option, Some, slice_get, refl, sym, ap, ap₂, ◌∙◌, subst, arith, add-zero, add-one, zero-add}
+use Rattle.std.proofs.Common.{
+  ◌≡◌,
+  ℕ,
+  zero,
+  suc,
+  ◌+◌,
+  ℤ,
+  List,
+  [],
+  ◌∷◌,
+  ◌++◌,
+  take,
+  drop,
+  length,
+  map,
+  slice_index_or,
+  Bool,
+  true,
+  false,
+  cond,
+  Option,
+  Some,
+  slice_get,
+  refl,
+  sym,
+  ap,
+  ap₂,
+  ◌∙◌,
+  subst,
+  arith,
+  add-zero,
+  add-one,
+  zero-add,
+}
 use Rattle.std.specs.Prelude.{if◌then◌else◌}
 use mathlib.Core.Path.{fun_ext}
 use Rattle.std.proofs.lemmas.Bool.{false≢true}
@@ -16,7 +49,28 @@ use Rattle.flat_graph.specs.declared.vertex.Kind.TheVariants.{Sensor, Actuator, 
 use Rattle.flat_graph.specs.declared.vertex.Vertex.{Vertex}
 use Rattle.flat_graph.specs.Graph.{Graph, with_vertex}
 use Rattle.flat_graph.specs.Fire.{guards_hold, kind_outputs, kept as kept_by, stored}
-use Rattle.flat_graph.specs.Meaning.{level_source, level_guard, sensed, is_get, delay_number, no_state, node_of, cell_of, nodes_from, level, value_in, conditions, inputs, reads, initial_cell, initial_cells, taken_by, taken, cells_after, flat_act_row}
+use Rattle.flat_graph.specs.Meaning.{
+  level_source,
+  level_guard,
+  sensed,
+  is_get,
+  delay_number,
+  no_state,
+  node_of,
+  cell_of,
+  nodes_from,
+  level,
+  value_in,
+  conditions,
+  inputs,
+  reads,
+  initial_cell,
+  initial_cells,
+  taken_by,
+  taken,
+  cells_after,
+  flat_act_row,
+}
 use Rattle.flat_graph.proofs.Settled.{same_guards, same_inputs}
 use Rattle.flat_graph.proofs.Fired.{is_kept, first_reads, last_reads}
 use Rattle.flat_laws.specs.Flat as list
@@ -208,8 +262,10 @@ module _ (g : Graph) (ops : List Operation) (stands : Stands g ops) (paired : Pa
       let set : y.0.kind ≡ Set = kind_set g.bodies y.0.kind (ap (λ (o : Operation). is_set o.task) (sym y.2.same) ∙ ap is_set p.2) in
       next rows k v x z.0 s y.0 is z.1 twin p.1 y.1 y.2.same set (agrees rows k v x is e) (agrees rows k)
     where
-      next : (rows : List Values) (k v : ℕ) (x : Vertex) (z : List ℤ) (s : Operation) (y : Vertex) → slice_get g.vertices v ≡ Some x → x.kind ≡ Get z → x.twin ≡ Some (suc v) → slice_get ops (suc v) ≡ Some s
-          → slice_get g.vertices (suc v) ≡ Some y → s ≡ operation_at g.bodies s.path s.stage y → y.kind ≡ Set → numbered_past ops rows k v ≡ cell_of g (cells_after g rows opening k) v → Agrees (cells_after g rows opening k) (numbered_past ops rows k)
+      next : (rows : List Values) (k v : ℕ) (x : Vertex) (z : List ℤ) (s : Operation) (y : Vertex) → slice_get g.vertices v ≡ Some x
+          → x.kind ≡ Get z → x.twin ≡ Some (suc v) → slice_get ops (suc v) ≡ Some s
+          → slice_get g.vertices (suc v) ≡ Some y → s ≡ operation_at g.bodies s.path s.stage y → y.kind ≡ Set → numbered_past ops rows k v
+          ≡ cell_of g (cells_after g rows opening k) v → Agrees (cells_after g rows opening k) (numbered_past ops rows k)
           → numbered_past ops rows (suc k) v ≡ cell_of g (cells_after g rows opening (suc k)) v
       next rows k v x z s y is kind twin at there same set here all =
           let row = slice_index_or rows k [] in
@@ -232,7 +288,8 @@ module _ (g : Graph) (ops : List Operation) (stands : Stands g ops) (paired : Pa
       let values = same_value row (cells_after g rows opening k) (numbered_past ops rows k) (agrees rows k) ∙ fun_ext (λ s. cells.values rows k s) in
       taken_same g.bodies (level_value (level g (cells_after g rows opening k)) row no_state []) 0 g.vertices ops stands ∙ ap (λ (f : Source → Vector). flat_taken f ops) values
 
-  kept_list : SameCells ops → (rows : List Values) (k v : ℕ) (op : Operation) → slice_get ops v ≡ Some op → list.is_get op.task ≡ true → flat_past ops rows k op.path op.stage ≡ cell_of g (cells_after g rows opening k) v
+  kept_list : SameCells ops → (rows : List Values) (k v : ℕ) (op : Operation) → slice_get ops v ≡ Some op → list.is_get op.task ≡ true
+      → flat_past ops rows k op.path op.stage ≡ cell_of g (cells_after g rows opening k) v
   kept_list cells rows k v op is e =
       let x = vertex_of g.bodies 0 g.vertices ops stands v op is in
       let get : is_get x.0.kind ≡ true = sym (get_task g.bodies x.0.kind) ∙ ap (λ (o : Operation). list.is_get o.task) (sym x.2.same) ∙ e in

@@ -17,7 +17,8 @@ use Rattle.flat_laws.specs.Unrolled.{made, explode_of, explodes, copy, implode_o
 use Rattle.syn_base.specs.Numbers.{numbers_below}
 
 module _ (one : Vertex → ℕ) (all : Vertices → ℕ) (none : all no_vertices ≡ 0) (more : (u : Vertex) (us : Vertices) → all (and_vertex u us) ≡ one u + all us)
-    (explode_is : (d name : List ℕ) (ins : List Source) (outs : List ℕ) → one (made d name ins outs explode) ≡ 1) (implode_is : (d name : List ℕ) (ins : List Source) (outs : List ℕ) → one (made d name ins outs implode) ≡ 1)
+    (explode_is : (d name : List ℕ) (ins : List Source) (outs : List ℕ) → one (made d name ins outs explode) ≡ 1)
+    (implode_is : (d name : List ℕ) (ins : List Source) (outs : List ℕ) → one (made d name ins outs implode) ≡ 1)
     (copy_is : (c : ℕ) (feeds : List Feed) (lb : Label) (vs : Vertices) (i : ℕ) → one (copy c feeds lb vs i) ≡ one (vertex lb vs)) where
   summed-append : (xs ys : List Vertex) → all (vertices_of (xs ++ ys)) ≡ all (vertices_of xs) + all (vertices_of ys)
   summed-append [] ys = omega (arith, none)
@@ -63,5 +64,7 @@ module _ (one : Vertex → ℕ) (all : Vertices → ℕ) (none : all no_vertices
       let alone : one (vertex lb vs) ≡ all (and_vertex (vertex lb vs) no_vertices) = omega (arith, none, whole) in
       summed-append (explodes d n S) _
       ∙ ap (λ m. all (vertices_of (explodes d n S)) + m) (summed-append (map (copy c feeds lb vs) (numbers_below n)) (implodes d c n l.outs 0 gives))
-      ∙ subst (λ m. all (vertices_of (explodes d n S)) + (all (vertices_of (map (copy c feeds lb vs) (numbers_below n))) + all (vertices_of (implodes d c n l.outs 0 gives))) ≡ length (fork_names feeds) + n * m + length (join_names gives)) alone
+      ∙ subst (λ m. all (vertices_of (explodes d n S)) +
+      (all (vertices_of (map (copy c feeds lb vs) (numbers_below n))) + all (vertices_of (implodes d c n l.outs 0 gives)))
+      ≡ length (fork_names feeds) + n * m + length (join_names gives)) alone
       (omega (arith, before, each, after))

@@ -1,5 +1,34 @@
 -- The two halves of a delay are each other's twins, and have one length.
-use Rattle.std.proofs.Common.{◌≡◌, ℕ, zero, suc, ◌+◌, nat_lt, ℤ, true, false, List, [], ◌∷◌, length, map, Option, Some, None, is_none, slice_get, refl, sym, ap, ◌∙◌, subst, arith, lt-ltb, eq-eqb, zero-add}
+use Rattle.std.proofs.Common.{
+  ◌≡◌,
+  ℕ,
+  zero,
+  suc,
+  ◌+◌,
+  nat_lt,
+  ℤ,
+  true,
+  false,
+  List,
+  [],
+  ◌∷◌,
+  length,
+  map,
+  Option,
+  Some,
+  None,
+  is_none,
+  slice_get,
+  refl,
+  sym,
+  ap,
+  ◌∙◌,
+  subst,
+  arith,
+  lt-ltb,
+  eq-eqb,
+  zero-add,
+}
 use Rattle.std.proofs.lemmas.Bool.{and_from}
 use Rattle.algo_tree.specs.declared.Source.{Source}
 use Rattle.flat_graph.specs.declared.vertex.Kind.{Kind}
@@ -17,7 +46,8 @@ use Rattle.flat_laws.proofs.Fits.{IsTaskFit, IsFit, AllFit, fit-at}
 use Rattle.flat_laws.proofs.KindTests.{long, lens-same, only-pass}
 
 -- an operation of some number has a fit place
-pub fit-some : (length_of : Source → ℕ) (before : Option Operation) (ops : List Operation) → AllFit length_of before ops → (v : ℕ) (op : Operation) → slice_get ops v ≡ Some op → (b : Option Operation) × IsFit length_of b op
+pub fit-some : (length_of : Source → ℕ) (before : Option Operation) (ops : List Operation) → AllFit length_of before ops
+    → (v : ℕ) (op : Operation) → slice_get ops v ≡ Some op → (b : Option Operation) × IsFit length_of b op
 fit-some length_of before [] h v op is = absurd (cc)
 fit-some length_of before (x ∷ ops) h zero op is = let e : x ≡ op = cc in (before, subst (IsFit length_of before) e h.0)
 fit-some length_of before (x ∷ ops) h (suc v) op is = fit-some length_of (Some x) ops h.1 v op is
@@ -79,7 +109,8 @@ module _ (g : Graph) (ops : List Operation) (stands : Stands g ops) (halves : Fo
       ∙ and_from (nat_lt v (suc v)) (with_vertex (slice_get g.vertices (suc v)) false (is_set_half_of g.vertices v n)) (lt-ltb v (suc v) (omega arith))
       (ap (λ y. with_vertex y false (is_set_half_of g.vertices v n)) h.is
       ∙ ap (is_set_half_by g.vertices v n h.vertex) h.kind
-      ∙ and_from (is_number h.vertex.twin v) (is_only n (lens_of g.vertices h.vertex.ins)) (ap (λ t. is_number t v) h.twin ∙ eq-eqb v v refl) (only-pass n (lens_of g.vertices h.vertex.ins) (h.lens ∙ outs)))
+      ∙ and_from (is_number h.vertex.twin v) (is_only n (lens_of g.vertices h.vertex.ins))
+      (ap (λ t. is_number t v) h.twin ∙ eq-eqb v v refl) (only-pass n (lens_of g.vertices h.vertex.ins) (h.lens ∙ outs)))
 
   -- a set half's twin
   get-half : (u : ℕ) (o : Operation) (twin : Option ℕ) → Getting u o → twin ≡ Some u → has_get_half g.vertices (suc u) twin ≡ true

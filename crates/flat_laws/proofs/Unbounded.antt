@@ -1,6 +1,6 @@
--- Why a valid flat graph asks for bounds: a tree of one function of n outputs has a graph that stands for it, and this graph is
--- not valid where n is 0 or 65, even where the body is there.
-use Rattle.std.proofs.Common.{◌≡◌, ℕ, zero, suc, pos, true, false, List, [], ◌∷◌, replicate, None, refl, sym, ◌∙◌, codes, arith}
+-- Why a tree keeps bounds: what would be a tree of one function of n outputs has a graph that stands for it, and this graph
+-- is not valid if n is 0 or 65, even if the body is there.
+use Rattle.std.proofs.Common.{◌≡◌, ◌≤◌, ℕ, zero, suc, pos, true, false, List, [], ◌∷◌, replicate, None, refl, sym, subst, ◌∙◌, codes, arith}
 use Rattle.std.proofs.lemmas.List.{length-replicate}
 use Rattle.algo_tree.specs.declared.Part.TheVariants.{Named}
 use Rattle.algo_tree.specs.Order.{IsAcyclic}
@@ -14,8 +14,6 @@ use Rattle.flat_graph.specs.Graph.{Graph}
 use Rattle.flat_graph.specs.Valid.{is_flat}
 use Rattle.flat_laws.specs.Inlined.{operations}
 use Rattle.flat_laws.specs.Plain.{IsPlain}
-use Rattle.algo_tree.specs.Named.{HasNames}
-use Rattle.algo_tree.specs.Bounded.{HasBounds}
 use Rattle.flat_laws.specs.Stands.{Stands}
 use Rattle.flat_laws.proofs.Valid.{stands-flat}
 
@@ -46,21 +44,20 @@ module _ (n : ℕ) where
   ports zero = tt
   ports (suc m) = (tt, ports m)
 
-  valid : IsTree main
-  valid = record {
+  valid : 1 ≤ n → n ≤ 64 → IsTree main
+  valid some few = record {
     portless = record { kind = refl; ins = refl };
     well = ((refl, (acyclic, (tt, tt))), ((tt, tt), tt));
     typed = ((tt, tt), (((tt, ((tt, lengths n), (length-replicate n (literal (pos 0)) ∙ sym (length-replicate n 1), ports n))), tt), refl));
     inside = (tt, tt);
     numbered = record { sensors = refl; actuators = refl };
     few = omega arith;
+    named = ((record { part = refl; definition = refl; kind = tt }, tt), tt);
+    bounded = ((record { part = tt; kind = (subst (λ m. 1 ≤ m) (sym (length-replicate n 1)) some, subst (λ m. m ≤ 64) (sym (length-replicate n 1)) few) }, tt), tt);
   }
 
   plain : IsPlain main
   plain = (tt, ((tt, tt), tt))
-
-  named : HasNames main
-  named = ((record { part = refl; definition = refl; kind = tt }, tt), tt)
 
 stands_none : Stands (graph 0 ([] ∷ [])) (operations (main 0))
 stands_none = (record { same = refl; name = refl; twin = refl }, tt)
@@ -75,8 +72,5 @@ not_flat_many : is_flat (graph 65 (body 65 ∷ [])) ≡ false
 not_flat_many = refl
 
 -- one output is well
-bounded_one : HasBounds (main 1)
-bounded_one = ((record { part = tt; kind = (omega arith, omega arith) }, tt), tt)
-
 flat_one : is_flat (graph 1 (body 1 ∷ [])) ≡ true
-flat_one = stands-flat (main 1) (graph 1 (body 1 ∷ [])) (valid 1) (plain 1) (named 1) bounded_one (record { same = refl; name = refl; twin = refl }, tt)
+flat_one = stands-flat (main 1) (graph 1 (body 1 ∷ [])) (valid 1 (omega arith) (omega arith)) (plain 1) (record { same = refl; name = refl; twin = refl }, tt)

@@ -33,7 +33,8 @@ no_case-by gs n l (merge values) us inner cases a b = (tt, tt)
 mutual
   pub no_case : (gs : List Guard) (n : ℕ) (u : Vertex) → HasNoCase (guarded gs n u)
   no_case gs n (vertex l us) =
-      no_case-by gs n l l.kind us (λ inside m. guarded_all inside m us) (λ inside m values. guarded_cases inside m values 0 us) (no_case-all (own_guards 0 gs) (length gs) us) (λ values. no_case-cases (own_guards 0 gs) (length gs) values 0 us)
+      no_case-by gs n l l.kind us (λ inside m. guarded_all inside m us) (λ inside m values. guarded_cases inside m values 0 us)
+      (no_case-all (own_guards 0 gs) (length gs) us) (λ values. no_case-cases (own_guards 0 gs) (length gs) values 0 us)
 
   no_case-all : (gs : List Guard) (n : ℕ) (us : Vertices) → AllNoCase (guarded_all gs n us)
   no_case-all gs n no_vertices = tt

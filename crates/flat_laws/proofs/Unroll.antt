@@ -53,7 +53,8 @@ nodes-unrolled d n feeds gives outs lb vs =
     nodes-vertices_of (unrolled_inside d n feeds gives outs (and_vertex (vertex lb vs) no_vertices))
     ∙ map-append node (explodes d n (in_line_order feeds)) _
     ∙ ap (λ xs. map node (explodes d n (in_line_order feeds)) ++ xs)
-    (map-append node (map (copy c feeds lb vs) (numbers_below n)) (implodes d c n outs 0 gives) ∙ ap (λ xs. xs ++ map node (implodes d c n outs 0 gives)) (map_map node (copy c feeds lb vs) (numbers_below n)))
+    (map-append node (map (copy c feeds lb vs) (numbers_below n)) (implodes d c n outs 0 gives)
+    ∙ ap (λ xs. xs ++ map node (implodes d c n outs 0 gives)) (map_map node (copy c feeds lb vs) (numbers_below n)))
 
 same-repeat : (l : Label) (n : ℕ) (feeds : List Feed) (gives : List Give) (us : Vertices) → 0 < n → IsOne us → AreApart feeds
     → behaviour_of (with_kind l (graph (give_sources (begin feeds) n 0 gives))) (nodes (vertices_of (unrolled_inside l.definition n feeds gives l.outs us)))

@@ -1,5 +1,50 @@
 -- A repetition and its graph give the same.
-use Rattle.std.proofs.Common.{◌≡◌, ℤ, ℕ, zero, suc, ◌+◌, ◌-◌, ◌*◌, ◌<◌, ◌≤◌, ◌==◌, List, [], ◌∷◌, ◌++◌, length, get_or, slice_index_or, take, drop, map, replicate, Bool, true, false, cond, Option, Some, None, refl, sym, ap, ap₂, ◌∙◌, subst, arith, eq-eqb, inl, inr, append-nil, zero-mul, zero-add, suc-add, add_assoc}
+use Rattle.std.proofs.Common.{
+  ◌≡◌,
+  ℤ,
+  ℕ,
+  zero,
+  suc,
+  ◌+◌,
+  ◌-◌,
+  ◌*◌,
+  ◌<◌,
+  ◌≤◌,
+  ◌==◌,
+  List,
+  [],
+  ◌∷◌,
+  ◌++◌,
+  length,
+  get_or,
+  slice_index_or,
+  take,
+  drop,
+  map,
+  replicate,
+  Bool,
+  true,
+  false,
+  cond,
+  Option,
+  Some,
+  None,
+  refl,
+  sym,
+  ap,
+  ap₂,
+  ◌∙◌,
+  subst,
+  arith,
+  eq-eqb,
+  inl,
+  inr,
+  append-nil,
+  zero-mul,
+  zero-add,
+  suc-add,
+  add_assoc,
+}
 use mathlib.Core.Path.{fun_ext}
 use Rattle.std.proofs.lemmas.List.{map-append, append_assoc}
 use Rattle.std.proofs.lemmas.Bool.{cases_lt, lt-ltb, le-ltb}
@@ -15,7 +60,32 @@ use Rattle.algo_tree.specs.declared.Feed.{Feed}
 use Rattle.algo_tree.specs.declared.Feed.TheVariants.{Fork, Diffuse, Iterate}
 use Rattle.algo_tree.specs.declared.Give.{Give}
 use Rattle.algo_tree.specs.declared.Give.TheVariants.{Last, Join}
-use Rattle.algo_tree.specs.Level.{State, Path, Node, find_node, node_next, graph_next, repeat_next, graph_initial, repeat_initial, Behaviour, below, all_joined, joined, source_value, with_node, node_outputs, out, level_value, copy_input, copy_outputs, copy_before, give_value, graph_outputs, repeat_outputs}
+use Rattle.algo_tree.specs.Level.{
+  State,
+  Path,
+  Node,
+  find_node,
+  node_next,
+  graph_next,
+  repeat_next,
+  graph_initial,
+  repeat_initial,
+  Behaviour,
+  below,
+  all_joined,
+  joined,
+  source_value,
+  with_node,
+  node_outputs,
+  out,
+  level_value,
+  copy_input,
+  copy_outputs,
+  copy_before,
+  give_value,
+  graph_outputs,
+  repeat_outputs,
+}
 use Rattle.algo_tree.specs.Order.{IsBefore, AreBefore, IsAcyclic, MeetsLevel}
 use Rattle.algo_tree.proofs.Fuel.{unique}
 use Rattle.algo_tree.proofs.InOrder.{acyclic-in_order}
@@ -53,7 +123,8 @@ joined_snoc (y ∷ xs) x = ap (λ z. y ++ z) (joined_snoc xs x) ∙ sym (append_
 joined_is : (copy : ℕ → Values) (y n : ℕ) → all_joined (map (λ i. vector_at (copy i) y) (numbers_below n)) ≡ joined copy y n
 joined_is copy y zero = refl
 joined_is copy y (suc n) =
-    ap all_joined (map-append (λ i. vector_at (copy i) y) (numbers_below n) (n ∷ [])) ∙ joined_snoc (map (λ i. vector_at (copy i) y) (numbers_below n)) (vector_at (copy n) y) ∙ ap (λ v. v ++ vector_at (copy n) y) (joined_is copy y n)
+    ap all_joined (map-append (λ i. vector_at (copy i) y) (numbers_below n) (n ∷ []))
+    ∙ joined_snoc (map (λ i. vector_at (copy i) y) (numbers_below n)) (vector_at (copy n) y) ∙ ap (λ v. v ++ vector_at (copy n) y) (joined_is copy y n)
 
 abbrev explode_values : ℕ → Values → List Feed → List Values
 explode_values n ins = forked (λ k len. cut (replicate n len) (vector_at ins k))
@@ -176,7 +247,8 @@ module _ (d : List ℕ) (n : ℕ) (feeds : List Feed) (gives : List Give) (lens 
         ∙ at-place (λ j m. cut (replicate n m) (vector_at ins j)) [] name k len S (apart-lines feeds apart) line
 
     -- the inputs of copy i
-    copy_meets : AreApart feeds → (i : ℕ) → i < n → (fs : List Feed) → AllLines (λ f. IsLine f S) fs → map look (copy_sources c i S fs) ≡ map (copy_input ins (copy_before feeds body row st ins i) i) fs
+    copy_meets : AreApart feeds → (i : ℕ) → i < n → (fs : List Feed) → AllLines (λ f. IsLine f S) fs → map look (copy_sources c i S fs)
+        ≡ map (copy_input ins (copy_before feeds body row st ins i) i) fs
     copy_meets apart i lt [] h = refl
     copy_meets apart i lt (Fork name k len ∷ fs) h =
         ap₂ (λ v vs. v ∷ vs) (ap (λ vs. vector_at vs i) (at_explode apart name k len h.0) ∙ part_at n len i (vector_at ins k) lt) (copy_meets apart i lt fs h.1)
@@ -185,7 +257,8 @@ module _ (d : List ℕ) (n : ℕ) (feeds : List Feed) (gives : List Give) (lens 
 
     copies_meet : AreApart feeds → map F (map kid (numbers_below n)) ≡ CV
     copies_meet apart = map_map F (kid) (numbers_below n) ∙ map_below n (λ i. F (kid i)) copy
-        (λ i lt. blind lb.kind lb.outs (nodes vs) row (below (Numbered i) st) look (copy_sources c i S feeds) ∙ ap (λ xs. body.outputs row (below (Numbered i) st) xs) (copy_meets apart i lt feeds (lines-are feeds)) ∙ sym (copy_unfold i))
+        (λ i lt. blind lb.kind lb.outs (nodes vs) row (below (Numbered i) st) look (copy_sources c i S feeds)
+        ∙ ap (λ xs. body.outputs row (below (Numbered i) st) xs) (copy_meets apart i lt feeds (lines-are feeds)) ∙ sym (copy_unfold i))
 
     implodes_meet : (gs : List Give) (j : ℕ) → map F (map node (implodes d c n lens j gs)) ≡ implode_values n copy gs
     implodes_meet [] j = refl
@@ -198,7 +271,9 @@ module _ (d : List ℕ) (n : ℕ) (feeds : List Feed) (gives : List Give) (lens 
     all_meet : AreApart feeds → map F (level) ≡ EV ++ (CV ++ IV)
     all_meet apart =
         map-append F (map node (explodes d n S)) (map kid (numbers_below n) ++ map node (implodes d c n lens 0 gives))
-        ∙ ap₂ (λ xs ys. xs ++ ys) (explodes_meet S) (map-append F (map kid (numbers_below n)) (map node (implodes d c n lens 0 gives)) ∙ ap₂ (λ xs ys. xs ++ ys) (copies_meet apart) (implodes_meet gives 0))
+        ∙ ap₂ (λ xs ys. xs ++ ys) (explodes_meet S)
+        (map-append F (map kid (numbers_below n)) (map node (implodes d c n lens 0 gives))
+        ∙ ap₂ (λ xs ys. xs ++ ys) (copies_meet apart) (implodes_meet gives 0))
 
     pub unrolled_meets : AreApart feeds → MeetsLevel (level) row st ins expected
     unrolled_meets apart r = mapped (level) F r ∙ ap (λ xs. get_or xs r []) (all_meet apart)
@@ -220,7 +295,8 @@ module _ (d : List ℕ) (n : ℕ) (feeds : List Feed) (gives : List Give) (lens 
     at_implode j =
         let e : c ≡ length EV = long_explodes in
         let k : length CV ≡ n = long_below n copy in
-        ap expected (add_assoc c n j) ∙ ap (λ m. get_or (EV ++ (CV ++ IV)) (m + (n + j)) []) e ∙ append_right EV (CV ++ IV) (n + j) [] ∙ ap (λ m. get_or (CV ++ IV) (m + j) []) (sym k) ∙ append_right CV IV j []
+        ap expected (add_assoc c n j) ∙ ap (λ m. get_or (EV ++ (CV ++ IV)) (m + (n + j)) []) e ∙ append_right EV (CV ++ IV) (n + j) []
+        ∙ ap (λ m. get_or (CV ++ IV) (m + j) []) (sym k) ∙ append_right CV IV j []
 
     gives_meet : 0 < n → (m : ℕ) (gs : List Give) → ((j : ℕ) → expected (c + n + (m + j)) ≡ get_or (implode_values n copy gs) j []) → map look (give_sources c n m gs) ≡ map (give_value copy n) gs
     gives_meet some m [] h = refl
@@ -229,7 +305,8 @@ module _ (d : List ℕ) (n : ℕ) (feeds : List Feed) (gives : List Give) (lens 
     gives_meet some m (Last y ∷ gs) h = ap₂ (λ v vs. v ∷ vs) (ap (λ vs. vector_at vs y) (at_copy (n - 1) (omega arith))) (gives_meet some m gs h)
 
     pub unrolled_outputs : AreApart feeds → IsAcyclic level → 0 < n → graph_outputs (give_sources c n 0 gives) level row st ins ≡ repeat_outputs n feeds gives body row st ins
-    unrolled_outputs apart acyclic some = ap (λ (f : Source → Vector). map f (give_sources c n 0 gives)) (same_look apart acyclic) ∙ gives_meet some 0 gives (λ j. ap (λ k. expected (c + n + k)) (zero-add j) ∙ at_implode j)
+    unrolled_outputs apart acyclic some = ap (λ (f : Source → Vector). map f (give_sources c n 0 gives)) (same_look apart acyclic)
+        ∙ gives_meet some 0 gives (λ j. ap (λ k. expected (c + n + k)) (zero-add j) ∙ at_implode j)
 
     -- what is kept next at a path: nothing new at the explodes and implodes, and that of copy i at copy i
     abbrev at_found : Part → Path → (Source → Vector) → Option Node → List Vector
@@ -316,7 +393,9 @@ module _ (d : List ℕ) (n : ℕ) (feeds : List Feed) (gives : List Give) (lens 
     unrolled_next apart acyclic (Named x ∷ q) =
         ap (at_found (Named x) q (level_value level row st ins)) (named_explodes S x _ ∙ named_copies (numbers_below n) x (map node (implodes d c n lens 0 gives)) ∙ named_implodes gives 0 x)
     unrolled_next apart acyclic (Port y ∷ q) =
-        port_explodes S y q (level_value level row st ins) _ (ap (at_found (Port y) q (level_value level row st ins)) (port_copies (numbers_below n) y (map node (implodes d c n lens 0 gives))) ∙ port_implodes gives 0 y q (level_value level row st ins))
+        port_explodes S y q (level_value level row st ins) _
+        (ap (at_found (Port y) q (level_value level row st ins))
+        (port_copies (numbers_below n) y (map node (implodes d c n lens 0 gives))) ∙ port_implodes gives 0 y q (level_value level row st ins))
     unrolled_next apart acyclic (Numbered i ∷ q) = elim (cases_lt i n) [
       | inl lt ↦
           ap (at_found (Numbered i) q (level_value level row st ins)) (copy_explodes S i _ ∙ found_copy n i (map node (implodes d c n lens 0 gives)) lt) ∙ copy_next apart acyclic i lt q
@@ -334,7 +413,8 @@ module _ (d : List ℕ) (n : ℕ) (feeds : List Feed) (gives : List Give) (lens 
     none_kept true q k o is later = is
     none_kept false q k o is later = later
 
-    first_explodes : (fs : List Feed) (y : List ℕ) (q : Path) (others : List Node) → first_found q (find_node (Port y) others) ≡ [] → first_found q (find_node (Port y) (map node (explodes d n fs) ++ others)) ≡ []
+    first_explodes : (fs : List Feed) (y : List ℕ) (q : Path) (others : List Node) → first_found q (find_node (Port y) others) ≡ []
+        → first_found q (find_node (Port y) (map node (explodes d n fs) ++ others)) ≡ []
     first_explodes [] y q others h = h
     first_explodes (Fork name k len ∷ fs) y q others h = none_kept (bytes_eq name y) q (node (explode_of d n name k len)) _ refl (first_explodes fs y q others h)
     first_explodes (Diffuse k ∷ fs) y q others h = first_explodes fs y q others h

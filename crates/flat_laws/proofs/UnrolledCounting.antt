@@ -8,7 +8,9 @@ use Rattle.flat_laws.proofs.Unroll.{IsRepeatable, can_unroll, repeatable-unrolle
 use Rattle.flat_laws.proofs.Summed.{summed-repeat}
 
 counted-at : (l : Label) (k : Kind) (us : Vertices) → IsRepeatable k us → operations (unrolled_at l k us) ≡ operations_by k (operations_in us)
-counted-at l (repeat n feeds gives) us h = summed-repeat operations operations_in refl (λ u us. refl) (λ d name ins outs. refl) (λ d name ins outs. refl) (λ c feeds lb vs i. refl) l n feeds gives us h.0.1
+counted-at l (repeat n feeds gives) us h =
+    summed-repeat operations operations_in refl (λ u us. refl) (λ d name ins outs. refl) (λ d name ins outs. refl)
+    (λ c feeds lb vs i. refl) l n feeds gives us h.0.1
 counted-at l (sensor m) us h = refl
 counted-at l (actuator m) us h = refl
 counted-at l (constant v) us h = refl

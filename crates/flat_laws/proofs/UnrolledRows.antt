@@ -47,11 +47,13 @@ abbrev rows_at : Path → List Condition → List Origin → Label → Kind → 
 rows_at p cs own l k us = rows_by p cs l.definition own l.outs k (inside_by p cs us)
 
 -- the graph that a repetition becomes has no cycle
-acyclic-level : (p : Path) (d : List ℕ) (n : ℕ) (feeds : List Feed) (gives : List Give) (lens : List ℕ) (lb : Label) (vs : Vertices) (own : List Origin) → IsAcyclic (nodes (level p d n feeds gives lens lb vs own))
+acyclic-level : (p : Path) (d : List ℕ) (n : ℕ) (feeds : List Feed) (gives : List Give) (lens : List ℕ) (lb : Label) (vs : Vertices)
+    (own : List Origin) → IsAcyclic (nodes (level p d n feeds gives lens lb vs own))
 acyclic-level p d n feeds gives lens lb vs own = subst IsAcyclic (sym (nodes-unrolled d n feeds gives lens lb vs)) (level_acyclic d n feeds gives lens lb vs)
 
 -- a repetition and its graph lead to the same
-outlet-repeat : (p : Path) (l : Label) (n : ℕ) (feeds : List Feed) (gives : List Give) (us : Vertices) → 0 < n → IsOne us → outlet p (unrolled_at l (repeat n feeds gives) us) ≡ outlet_by p l (repeat n feeds gives) us
+outlet-repeat : (p : Path) (l : Label) (n : ℕ) (feeds : List Feed) (gives : List Give) (us : Vertices) → 0 < n → IsOne us
+    → outlet p (unrolled_at l (repeat n feeds gives) us) ≡ outlet_by p l (repeat n feeds gives) us
 outlet-repeat p l n feeds gives no_vertices some one = absurd one
 outlet-repeat p l n feeds gives (and_vertex u (and_vertex v us)) some one = absurd one
 outlet-repeat p l n feeds gives (and_vertex (vertex lb vs) no_vertices) some one =
@@ -101,14 +103,16 @@ rows-explodes p cs lead own fed d n (Fork name k len ∷ fs) =
 rows-explodes p cs lead own fed d n (Diffuse k ∷ fs) = rows-explodes p cs lead own fed d n fs
 rows-explodes p cs lead own fed d n (Iterate k y ∷ fs) = rows-explodes p cs lead own fed d n fs
 
-rows-implodes : (p : Path) (cs : List Condition) (lead : Source → Origin) (c n : ℕ) (copies : ℕ → List Origin) → ((y : ℕ) → map lead (map (λ i. Of (c + i) y) (numbers_below n)) ≡ copies y) → (d : List ℕ) (outs : List ℕ) (j : ℕ) (gs : List Give)
+rows-implodes : (p : Path) (cs : List Condition) (lead : Source → Origin) (c n : ℕ) (copies : ℕ → List Origin)
+    → ((y : ℕ) → map lead (map (λ i. Of (c + i) y) (numbers_below n)) ≡ copies y) → (d : List ℕ) (outs : List ℕ) (j : ℕ) (gs : List Give)
     → graph_rows p cs lead (vertices_of (implodes d c n outs j gs)) ≡ implode_rows p cs d copies outs j gs
 rows-implodes p cs lead c n copies fed d outs j [] = refl
 rows-implodes p cs lead c n copies fed d outs j (Join name y ∷ gs) =
     ap₂ (λ x rs. x ∷ rs) (ap₂ (λ os x. row (port p name) d os x (slice_index_or outs j 0 ∷ []) (runs implode)) (fed y) (append-nil cs)) (rows-implodes p cs lead c n copies fed d outs (suc j) gs)
 rows-implodes p cs lead c n copies fed d outs j (Last y ∷ gs) = rows-implodes p cs lead c n copies fed d outs (suc j) gs
 
-rows-of : (p : Path) (cs : List Condition) (lead : Source → Origin) (make : ℕ → Vertex) (is : List ℕ) → graph_rows p cs lead (vertices_of (map make is)) ≡ flat_map (λ i. vertex_rows p cs lead (make i)) is
+rows-of : (p : Path) (cs : List Condition) (lead : Source → Origin) (make : ℕ → Vertex) (is : List ℕ)
+    → graph_rows p cs lead (vertices_of (map make is)) ≡ flat_map (λ i. vertex_rows p cs lead (make i)) is
 rows-of p cs lead make [] = refl
 rows-of p cs lead make (i ∷ is) = ap (λ rs. vertex_rows p cs lead (make i) ++ rs) (rows-of p cs lead make is)
 
@@ -171,13 +175,17 @@ mutual
   rows-unroll_all : (p : Path) (cs : List Condition) (lead : Source → Origin) (us : Vertices) → AllWell us → graph_rows p cs lead (unroll_all us) ≡ graph_rows p cs lead us
   rows-unroll_all p cs lead no_vertices h = refl
   rows-unroll_all p cs lead (and_vertex u us) h =
-      ap₂ (λ xs ys. xs ++ ys) (moved p cs lead u ∙ rows-unroll (inside p (label_of u).part) (cs ++ conditions_of lead (label_of u)) (map lead (label_of u).ins) u h.0) (rows-unroll_all p cs lead us h.1)
+      ap₂ (λ xs ys. xs ++ ys) (moved p cs lead u
+      ∙ rows-unroll (inside p (label_of u).part) (cs ++ conditions_of lead (label_of u)) (map lead (label_of u).ins) u h.0)
+      (rows-unroll_all p cs lead us h.1)
 
-  cases-unroll : (p : Path) (cs : List Condition) (own : List Origin) (values : List ℤ) (c : ℕ) (us : Vertices) → AllWell us → case_rows p cs own values c (unroll_all us) ≡ case_rows p cs own values c us
+  cases-unroll : (p : Path) (cs : List Condition) (own : List Origin) (values : List ℤ) (c : ℕ) (us : Vertices) → AllWell us
+      → case_rows p cs own values c (unroll_all us) ≡ case_rows p cs own values c us
   cases-unroll p cs own values c no_vertices h = refl
   cases-unroll p cs own values c (and_vertex u us) h =
       let more = cs ++ record { source = origin_at own 0; values = values; case = c } ∷ [] in
-      ap₂ (λ xs ys. xs ++ ys) (moved p more (case_origin own) u ∙ rows-unroll (inside p (label_of u).part) (more ++ conditions_of (case_origin own) (label_of u)) (map (case_origin own) (label_of u).ins) u h.0)
+      ap₂ (λ xs ys. xs ++ ys) (moved p more (case_origin own) u
+      ∙ rows-unroll (inside p (label_of u).part) (more ++ conditions_of (case_origin own) (label_of u)) (map (case_origin own) (label_of u).ins) u h.0)
       (cases-unroll p cs own values (suc c) us h.1)
 
   copy-unroll : (p : Path) (cs : List Condition) (own : List Origin) (us : Vertices) → AllWell us → copy_rows p cs own (unroll_all us) ≡ copy_rows p cs own us

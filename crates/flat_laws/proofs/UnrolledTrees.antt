@@ -10,6 +10,8 @@ use Rattle.flat_laws.proofs.Labels.{unrolled_kind, label-unroll}
 use Rattle.flat_laws.proofs.UnrolledWellness.{well-unroll}
 use Rattle.flat_laws.proofs.UnrolledTyping.{typed-unroll}
 use Rattle.flat_laws.proofs.UnrolledCounting.{counted-unroll}
+use Rattle.flat_laws.proofs.UnrolledNames.{names-unroll}
+use Rattle.flat_laws.proofs.UnrollBounds.{unroll-keeps}
 use Rattle.flat_laws.proofs.UnrolledEndings.{inside-unroll, numbered-unroll}
 
 -- a graph has the unrolled vertices inside
@@ -32,4 +34,6 @@ tree-unroll main h =
       inside = subst NoneInside (sym inner) (inside-unroll (vertices_in main) h.inside);
       numbered = subst AreEndsNumbered (sym inner) (numbered-unroll (vertices_in main) h.numbered);
       few = subst (λ m. m ≤ 2048) (sym (counted-unroll main h.well)) h.few;
+      named = names-unroll main h h.named;
+      bounded = unroll-keeps main h h.bounded;
     }

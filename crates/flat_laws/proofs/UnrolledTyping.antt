@@ -1,5 +1,38 @@
 -- In an unrolled tree the lengths of values fit.
-use Rattle.std.proofs.Common.{◌≡◌, ℕ, zero, suc, ◌+◌, ◌-◌, ◌*◌, ◌<◌, ◌≤◌, ◌==◌, cond, List, [], ◌∷◌, ◌++◌, length, get_or, map, replicate, false, refl, sym, ap, ap₂, ◌∙◌, subst, arith, add_assoc, zero-add, mul-pos, mul_comm, le-mul_of_pos_right}
+use Rattle.std.proofs.Common.{
+  ◌≡◌,
+  ℕ,
+  zero,
+  suc,
+  ◌+◌,
+  ◌-◌,
+  ◌*◌,
+  ◌<◌,
+  ◌≤◌,
+  ◌==◌,
+  cond,
+  List,
+  [],
+  ◌∷◌,
+  ◌++◌,
+  length,
+  get_or,
+  map,
+  replicate,
+  false,
+  refl,
+  sym,
+  ap,
+  ap₂,
+  ◌∙◌,
+  subst,
+  arith,
+  add_assoc,
+  zero-add,
+  mul-pos,
+  mul_comm,
+  le-mul_of_pos_right,
+}
 use Rattle.std.proofs.Math.Dec.{eqb-suc-zero}
 use Rattle.std.specs.Prelude.{sum}
 use Rattle.std.proofs.lemmas.List.{map-append, get_or-replicate, length-replicate}
@@ -13,7 +46,23 @@ use Rattle.algo_tree.specs.declared.Give.TheVariants.{Last, Join}
 use Rattle.algo_tree.specs.Tree.{Label, Kind, sensor, actuator, constant, delay, function, explode, implode, merge, graph, switch, repeat, Vertex, vertex, Vertices, no_vertices, and_vertex}
 use Rattle.algo_tree.specs.View.{vertices_of}
 use Rattle.algo_tree.specs.Well.{IsOne, IsWell, AllWell}
-use Rattle.algo_tree.specs.Typed.{IsLength, AreLengths, label_of, outs_of, source_length, IsFed, AllFed, fed_length, given_length, IsKindTyped, IsTyped, AllTyped, IsBodyTyped, AreGuardsTyped}
+use Rattle.algo_tree.specs.Typed.{
+  IsLength,
+  AreLengths,
+  AreEqual,
+  label_of,
+  outs_of,
+  source_length,
+  IsFed,
+  AllFed,
+  fed_length,
+  given_length,
+  IsKindTyped,
+  IsTyped,
+  AllTyped,
+  IsBodyTyped,
+  AreGuardsTyped,
+}
 use Rattle.algo_tree.specs.Relabelled.{with_kind}
 use Rattle.algo_tree.proofs.Appends.{outs-append, typed-append}
 use Rattle.flat_laws.specs.Unrolled.{explodes, copy_sources, copy, implodes, give_sources, begin, unrolled_inside, unrolled_at, unroll, unroll_all}
@@ -39,6 +88,10 @@ one_part n (suc len) some h =
 
 sum-replicate : (n len : ℕ) → sum (replicate n len) ≡ n * len
 sum-replicate n len = sum_by-replicate (λ x. x) n len
+
+equal-replicate : (n len : ℕ) → AreEqual (replicate n len)
+equal-replicate zero len = refl
+equal-replicate (suc n) len = ap (λ k. len ∷ replicate k len) (sym (length-replicate n len))
 
 -- the lengths of the outputs of the explodes, and of the implodes from output j on
 abbrev explode_outs : ℕ → List Feed → List (List ℕ)
@@ -129,10 +182,12 @@ module _ (d : List ℕ) (n : ℕ) (feeds : List Feed) (gives : List Give) (outs 
     copy_lengths apart i lt (Diffuse k ∷ fs) at fed = ap (λ xs. get_or lens k 0 ∷ xs) (copy_lengths apart i lt fs at.1 fed.1)
     copy_lengths apart i lt (Iterate k y ∷ fs) at fed = ap₂ (λ x xs. x ∷ xs) (iterated i k y lt fed.0) (copy_lengths apart i lt fs at.1 fed.1)
 
-    typed-copies : AreApart feeds → (k : ℕ) → k ≤ n → AllFed n lens lb.outs feeds → IsTyped (map (fed_length lens) feeds) (vertex lb vs) → AllTyped lens O (vertices_of (map (copy c feeds lb vs) (numbers_below k)))
+    typed-copies : AreApart feeds → (k : ℕ) → k ≤ n → AllFed n lens lb.outs feeds → IsTyped (map (fed_length lens) feeds) (vertex lb vs)
+        → AllTyped lens O (vertices_of (map (copy c feeds lb vs) (numbers_below k)))
     typed-copies apart zero le fed body = tt
     typed-copies apart (suc k) le fed body =
-        let here : IsTyped (map len_of (copy_sources c k S feeds)) (vertex lb vs) = subst (λ ns. IsTyped ns (vertex lb vs)) (sym (copy_lengths apart k (omega arith) feeds (lines-are feeds) fed)) body in
+        let here : IsTyped (map len_of (copy_sources c k S feeds)) (vertex lb vs) =
+        subst (λ ns. IsTyped ns (vertex lb vs)) (sym (copy_lengths apart k (omega arith) feeds (lines-are feeds) fed)) body in
         subst (λ xs. AllTyped lens O (vertices_of xs)) (sym (map-append (copy c feeds lb vs) (numbers_below k) (k ∷ [])))
         (typed-append lens O (map (copy c feeds lb vs) (numbers_below k)) (copy c feeds lb vs k ∷ []) (typed-copies apart k (omega arith) fed body) ((tt, here), tt))
 
@@ -150,14 +205,15 @@ module _ (d : List ℕ) (n : ℕ) (feeds : List Feed) (gives : List Give) (outs 
         let whole : get_or lens k 0 ≡ n * len = fed.0.0 in
         let one : 0 < len = let e = fed.0.1.0 in omega (arith, e) in
         let there : 0 < get_or lens k 0 = subst (λ m. 0 < m) (sym whole) (mul-pos some one) in
-        ((tt, (((length_at lens k h there, tt), lengths-replicate n len fed.0.1), ap (λ m. m ∷ []) (whole ∙ sym (sum-replicate n len)))), typed-explodes fs h fed.1)
+        ((tt, (((length_at lens k h there, tt), lengths-replicate n len fed.0.1), (ap (λ m. m ∷ []) (whole ∙ sym (sum-replicate n len)), equal-replicate n len))), typed-explodes fs h fed.1)
     typed-explodes (Diffuse k ∷ fs) h fed = typed-explodes fs h fed.1
     typed-explodes (Iterate k y ∷ fs) h fed = typed-explodes fs h fed.1
 
     abbrev given : List Give → List ℕ
     given gs = map (given_length n lb.outs) gs
 
-    typed-implodes : (j : ℕ) (gs : List Give) → AreLengths (given gs) → ((q : ℕ) → q < length gs → get_or outs (j + q) 0 ≡ get_or (given gs) q 0) → AllTyped lens O (vertices_of (implodes d c n outs j gs))
+    typed-implodes : (j : ℕ) (gs : List Give) → AreLengths (given gs)
+        → ((q : ℕ) → q < length gs → get_or outs (j + q) 0 ≡ get_or (given gs) q 0) → AllTyped lens O (vertices_of (implodes d c n outs j gs))
     typed-implodes j [] h at = tt
     typed-implodes j (Join name y ∷ gs) h at =
         let len = get_or lb.outs y 0 in
@@ -166,12 +222,17 @@ module _ (d : List ℕ) (n : ℕ) (feeds : List Feed) (gives : List Give) (outs 
         map_map len_of (λ i. Of (c + i) y) (numbers_below n) ∙ map_below n (λ i. len_of (Of (c + i) y)) (λ i. len) (λ i lt. ap (λ os. get_or os y 0) (at_copy i lt)) ∙ same_below n len in
         let parts : AreLengths (replicate n len) = lengths-replicate n len (one_part n len some h.0) in
         let joins : get_or outs j 0 ∷ [] ≡ sum (replicate n len) ∷ [] = ap (λ m. m ∷ []) (is ∙ sym (sum-replicate n len)) in (
-          (tt, subst (λ ns. (AreLengths ns × AreLengths (get_or outs j 0 ∷ [])) × (get_or outs j 0 ∷ [] ≡ sum ns ∷ [])) (sym ins) ((parts, (subst IsLength (sym is) h.0, tt)), joins)),
+          (
+            tt,
+            subst (λ ns. (AreLengths ns × AreLengths (get_or outs j 0 ∷ [])) × ((get_or outs j 0 ∷ [] ≡ sum ns ∷ []) × AreEqual ns))
+                (sym ins) ((parts, (subst IsLength (sym is) h.0, tt)), (joins, equal-replicate n len)),
+          ),
           typed-implodes (suc j) gs h.1 (λ q lt. ap (λ m. get_or outs m 0) (omega arith) ∙ at (suc q) (omega arith)),
         )
     typed-implodes j (Last y ∷ gs) h at = typed-implodes (suc j) gs h.1 (λ q lt. ap (λ m. get_or outs m 0) (omega arith) ∙ at (suc q) (omega arith))
 
-    gives_lengths : (j m : ℕ) (gs : List Give) → ((q : ℕ) → get_or O (c + n + (m + q)) [] ≡ get_or (implode_outs outs j gs) q []) → ((q : ℕ) → q < length gs → get_or outs (j + q) 0 ≡ get_or (given gs) q 0)
+    gives_lengths : (j m : ℕ) (gs : List Give) → ((q : ℕ) → get_or O (c + n + (m + q)) [] ≡ get_or (implode_outs outs j gs) q [])
+        → ((q : ℕ) → q < length gs → get_or outs (j + q) 0 ≡ get_or (given gs) q 0)
         → given gs ≡ map len_of (give_sources c n m gs)
     gives_lengths j m [] behind at = refl
     gives_lengths j m (Join name y ∷ gs) behind at =
@@ -198,7 +259,8 @@ module _ (d : List ℕ) (n : ℕ) (feeds : List Feed) (gives : List Give) (outs 
         )
 
 -- a vertex of a kind, where what is inside it has become other vertices of the same lengths
-typed-repeat : (l : Label) (n : ℕ) (feeds : List Feed) (gives : List Give) (us : Vertices) (lens : List ℕ) → 0 < n → IsOne us → AreApart feeds → IsTyped lens (vertex (with_kind l (repeat n feeds gives)) us) → IsTyped lens (unrolled_at l (repeat n feeds gives) us)
+typed-repeat : (l : Label) (n : ℕ) (feeds : List Feed) (gives : List Give) (us : Vertices) (lens : List ℕ) → 0 < n → IsOne us
+    → AreApart feeds → IsTyped lens (vertex (with_kind l (repeat n feeds gives)) us) → IsTyped lens (unrolled_at l (repeat n feeds gives) us)
 typed-repeat l n feeds gives no_vertices lens some one apart h = absurd one
 typed-repeat l n feeds gives (and_vertex u (and_vertex v us)) lens some one apart h = absurd one
 typed-repeat l n feeds gives (and_vertex (vertex lb vs) no_vertices) lens some one apart h =
@@ -219,7 +281,8 @@ typed-at l (switch values names) us lens can h = h
 
 -- what a kind asks of its inside, where another inside has the same outputs and is as well typed
 typed-kind : (k : Kind) (lens outs : List ℕ) (inner : List (List ℕ)) (level level' : List ℕ → List (List ℕ) → Type 0) (body body' : List ℕ → Type 0)
-    → ((own : List ℕ) (os : List (List ℕ)) → level own os → level' own os) → ((fed : List ℕ) → body fed → body' fed) → IsKindTyped k lens outs inner level body → IsKindTyped k lens outs inner level' body'
+    → ((own : List ℕ) (os : List (List ℕ)) → level own os → level' own os) → ((fed : List ℕ) → body fed → body' fed)
+    → IsKindTyped k lens outs inner level body → IsKindTyped k lens outs inner level' body'
 typed-kind (repeat n feeds gives) lens outs inner level level' body body' L B h = ((h.0.0, B (map (fed_length lens) feeds) h.0.1), h.1)
 typed-kind (graph sources) lens outs inner level level' body body' L B h = (L lens inner h.0, h.1)
 typed-kind (switch values names) lens outs inner level level' body body' L B h = ((h.0.0, L lens [] h.0.1), h.1)

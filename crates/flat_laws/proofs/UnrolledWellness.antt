@@ -70,7 +70,8 @@ module _ (d : List ℕ) (n : ℕ) (feeds : List Feed) (gives : List Give) (outs 
   kids-implodes [] gs j = tt
   kids-implodes (i ∷ is) gs j = (number-implodes i gs j, kids-implodes is gs j)
 
-  explodes-rest : (fs : List Feed) (is : List ℕ) (gs : List Give) (j : ℕ) → AreDistinctNames (fork_names fs ++ join_names gs) → AllApart (map node (explodes d n fs)) (kids is ++ map node (implodes d c n outs j gs))
+  explodes-rest : (fs : List Feed) (is : List ℕ) (gs : List Give) (j : ℕ) → AreDistinctNames (fork_names fs ++ join_names gs)
+      → AllApart (map node (explodes d n fs)) (kids is ++ map node (implodes d c n outs j gs))
   explodes-rest [] is gs j h = tt
   explodes-rest (Fork name k len ∷ fs) is gs j h =
       (apart-append (Port name) (kids is) _ (Port-kids name is) (Port-implodes name gs j (new-right name (fork_names fs) (join_names gs) h.0)), explodes-rest fs is gs j h.1)
@@ -82,7 +83,8 @@ module _ (d : List ℕ) (n : ℕ) (feeds : List Feed) (gives : List Give) (outs 
 
   below-Last : (m k : ℕ) → k ≤ m → AllApart (kids (numbers_below k)) (kids (m ∷ []))
   below-Last m zero le = tt
-  below-Last m (suc k) le = subst (λ xs. AllApart xs (kids (m ∷ []))) (sym (map-append (kid d n feeds gives outs lb vs) (numbers_below k) (k ∷ []))) (all-append (kids (numbers_below k)) (below-Last m k (omega arith)))
+  below-Last m (suc k) le = subst (λ xs. AllApart xs (kids (m ∷ [])))
+      (sym (map-append (kid d n feeds gives outs lb vs) (numbers_below k) (k ∷ []))) (all-append (kids (numbers_below k)) (below-Last m k (omega arith)))
     where
       all-append : (xs : List Node) → AllApart xs (kids (m ∷ [])) → AllApart (xs ++ kids (k ∷ [])) (kids (m ∷ []))
       all-append [] h = ((unequal k m (omega arith), tt), tt)
@@ -90,7 +92,8 @@ module _ (d : List ℕ) (n : ℕ) (feeds : List Feed) (gives : List Give) (outs 
 
   distinct-kids : (k : ℕ) → HasDistinctParts (kids (numbers_below k))
   distinct-kids zero = tt
-  distinct-kids (suc k) = subst HasDistinctParts (sym (map-append (kid d n feeds gives outs lb vs) (numbers_below k) (k ∷ []))) (distinct-append (kids (numbers_below k)) (kids (k ∷ [])) (distinct-kids k) (tt, tt) (below-Last k k (omega arith)))
+  distinct-kids (suc k) = subst HasDistinctParts (sym (map-append (kid d n feeds gives outs lb vs) (numbers_below k) (k ∷ [])))
+      (distinct-append (kids (numbers_below k)) (kids (k ∷ [])) (distinct-kids k) (tt, tt) (below-Last k k (omega arith)))
 
   pub distinct-level : AreDistinctNames (fork_names feeds ++ join_names gives) → HasDistinctParts (level d n feeds gives outs lb vs)
   distinct-level given =
@@ -128,7 +131,8 @@ well-copies : (c : ℕ) (feeds : List Feed) (lb : Label) (vs : Vertices) → IsW
 well-copies c feeds lb vs h [] = tt
 well-copies c feeds lb vs h (i ∷ is) = ((no_guards lb.kind lb.guards vs h.0, h.1), well-copies c feeds lb vs h is)
 
-well-repeat : (l : Label) (n : ℕ) (feeds : List Feed) (gives : List Give) (us : Vertices) → IsKindWell (repeat n feeds gives) l.guards us → AllWell us → IsWell (unrolled_at l (repeat n feeds gives) us)
+well-repeat : (l : Label) (n : ℕ) (feeds : List Feed) (gives : List Give) (us : Vertices) → IsKindWell (repeat n feeds gives) l.guards us
+    → AllWell us → IsWell (unrolled_at l (repeat n feeds gives) us)
 well-repeat l n feeds gives no_vertices h all = absurd h.1.0.1
 well-repeat l n feeds gives (and_vertex u (and_vertex v us)) h all = absurd h.1.0.1
 well-repeat l n feeds gives (and_vertex (vertex lb vs) no_vertices) h all =
@@ -136,7 +140,8 @@ well-repeat l n feeds gives (and_vertex (vertex lb vs) no_vertices) h all =
     let c = begin feeds in
     let e = sym (nodes-unrolled d n feeds gives l.outs lb vs) in (
       (h.0, (subst IsAcyclic e (level_acyclic d n feeds gives l.outs lb vs), subst HasDistinctParts e (distinct-level d n feeds gives l.outs lb vs h.1.1))),
-      well-append (explodes d n (in_line_order feeds)) _ (well-explodes d n (in_line_order feeds)) (well-append (map (copy c feeds lb vs) (numbers_below n)) _ (well-copies c feeds lb vs all.0 (numbers_below n)) (well-implodes d c n l.outs 0 gives)),
+      well-append (explodes d n (in_line_order feeds)) _ (well-explodes d n (in_line_order feeds))
+          (well-append (map (copy c feeds lb vs) (numbers_below n)) _ (well-copies c feeds lb vs all.0 (numbers_below n)) (well-implodes d c n l.outs 0 gives)),
     )
 
 abbrev IsCase : Vertex → Type 0
@@ -166,7 +171,8 @@ empty-unrolled : (us : Vertices) → IsEmpty us → IsEmpty (unroll_all us)
 empty-unrolled no_vertices h = tt
 empty-unrolled (and_vertex u us) h = absurd h
 
-well-at : (l : Label) (k : Kind) (us vs : Vertices) → nodes vs ≡ nodes us → (AreCases us → AreCases vs) → (IsOne us → IsOne vs) → (IsEmpty us → IsEmpty vs) → IsKindWell k l.guards us → AllWell vs → IsWell (unrolled_at l k vs)
+well-at : (l : Label) (k : Kind) (us vs : Vertices) → nodes vs ≡ nodes us → (AreCases us → AreCases vs) → (IsOne us → IsOne vs)
+    → (IsEmpty us → IsEmpty vs) → IsKindWell k l.guards us → AllWell vs → IsWell (unrolled_at l k vs)
 well-at l (repeat n feeds gives) us vs e cases one empty h all = well-repeat l n feeds gives vs (h.0, ((h.1.0.0, one h.1.0.1), h.1.1)) all
 well-at l (graph sources) us vs e cases one empty h all = ((h.0, subst (λ cs. IsAcyclic cs × HasDistinctParts cs) (sym e) h.1), all)
 well-at l (switch values names) us vs e cases one empty h all =

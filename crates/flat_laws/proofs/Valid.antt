@@ -1,5 +1,33 @@
 -- A flat graph that stands for the flat list of a tree is valid.
-use Rattle.std.proofs.Common.{◌≡◌, ℕ, zero, suc, ◌+◌, ◌&&◌, nat_le, Bool, true, List, [], ◌∷◌, length, map, slice_index_or, Some, None, slice_get, refl, sym, ap, ◌∙◌, subst, arith, add-zero, zero-add, le-leb}
+use Rattle.std.proofs.Common.{
+  ◌≡◌,
+  ℕ,
+  zero,
+  suc,
+  ◌+◌,
+  ◌&&◌,
+  nat_le,
+  Bool,
+  true,
+  List,
+  [],
+  ◌∷◌,
+  length,
+  map,
+  slice_index_or,
+  Some,
+  None,
+  slice_get,
+  refl,
+  sym,
+  ap,
+  ◌∙◌,
+  subst,
+  arith,
+  add-zero,
+  zero-add,
+  le-leb,
+}
 use Rattle.std.specs.List.{list_all}
 use Rattle.std.proofs.lemmas.Bool.{and_from}
 use Rattle.algo_tree.specs.declared.Source.TheVariants.{Of}
@@ -15,8 +43,6 @@ use Rattle.flat_laws.specs.Flat.{Operation}
 use Rattle.flat_laws.specs.Inlined.{operations}
 use Rattle.flat_laws.specs.Plain.{IsPlain}
 use Rattle.flat_laws.proofs.Pairs.{paired-main}
-use Rattle.algo_tree.specs.Named.{HasNames}
-use Rattle.algo_tree.specs.Bounded.{HasBounds}
 use Rattle.flat_laws.specs.Stands.{task_of, Stands}
 use Rattle.flat_laws.proofs.Stands.{vertex_of, operation_of}
 use Rattle.flat_laws.proofs.Halves.{follow-main}
@@ -31,7 +57,9 @@ use Rattle.flat_laws.proofs.Names.{IsNamedOperation, AreNamed, name-pass, named-
 use Rattle.flat_laws.proofs.NamesApart.{apart-main, named-apart}
 
 -- the outputs of operations have the lengths of the vertices that stand for them
-pub outs-from : (vertices : List Vertex) (b : ℕ) (ops : List Operation) → ((i : ℕ) (op : Operation) → slice_get ops i ≡ Some op → (p : ℕ) → long vertices (Of (b + i) p) ≡ slice_index_or op.outs p 0) → Outs (long vertices) (λ k. refl) b ops
+pub outs-from : (vertices : List Vertex) (b : ℕ) (ops : List Operation)
+    → ((i : ℕ) (op : Operation) → slice_get ops i ≡ Some op → (p : ℕ) → long vertices (Of (b + i) p) ≡ slice_index_or op.outs p 0)
+    → Outs (long vertices) (λ k. refl) b ops
 outs-from vertices b [] h = tt
 outs-from vertices b (op ∷ ops) h = (
   (λ p. subst (λ m. long vertices (Of m p) ≡ slice_index_or op.outs p 0) (add-zero b) (h 0 op refl p)),
@@ -59,7 +87,7 @@ all_six : (a b c d e f : Bool) → a ≡ true → b ≡ true → c ≡ true → 
 all_six a b c d e f ha hb hc hd he hf =
     and_from (a && b && c && d && e) f (and_from (a && b && c && d) e (and_from (a && b && c) d (and_from (a && b) c (and_from a b ha hb) hc) hd) he) hf
 
-module _ (main : tree.Vertex) (g : Graph) (valid : IsTree main) (plain : IsPlain main) (names : HasNames main) (bounds : HasBounds main) (stands : Stands g (operations main)) where
+module _ (main : tree.Vertex) (g : Graph) (valid : IsTree main) (plain : IsPlain main) (stands : Stands g (operations main)) where
   abbrev ops : List Operation
   ops = operations main
 
@@ -70,23 +98,27 @@ module _ (main : tree.Vertex) (g : Graph) (valid : IsTree main) (plain : IsPlain
   vertex-valid v x is =
       let f = operation_of g.bodies 0 g.vertices ops stands v x is in
       let t = fit-some (long g.vertices) None ops fit v f.0 f.1 in
-      let bounded : IsTaskBounded (task_of g.bodies x.kind) x.outs = subst (λ (o : Operation). IsTaskBounded o.task o.outs) f.2.same (tasks-at ops (tasks-main main bounds) v f.0 f.1) in
+      let bounded : IsTaskBounded (task_of g.bodies x.kind) x.outs = subst (λ (o : Operation). IsTaskBounded o.task o.outs) f.2.same (tasks-at ops (tasks-main main valid.bounded) v f.0 f.1) in
       let guards : AreGuardsTyped (long g.vertices) (map level_guard x.guards) = subst (λ (o : Operation). AreGuardsTyped (long g.vertices) o.guards) f.2.same t.1.guards in
       let ins : AreLengths (lens_of g.vertices x.ins) = subst AreLengths (lens-same g.vertices x.ins) (subst (λ (o : Operation). AreLengths (map (long g.vertices) o.ins)) f.2.same t.1.ins) in
       let outs : AreLengths x.outs = subst (λ (o : Operation). AreLengths o.outs) f.2.same t.1.outs in
       let task : IsTaskFit (task_of g.bodies x.kind) t.0 (lens_of g.vertices x.ins) x.outs =
-      subst (λ ns. IsTaskFit (task_of g.bodies x.kind) t.0 ns x.outs) (lens-same g.vertices x.ins) (subst (λ (o : Operation). IsTaskFit o.task t.0 (map (long g.vertices) o.ins) o.outs) f.2.same t.1.task) in
-      all_six (is_path x.name) (nat_le (length x.outs) 64 && list_all is_len x.outs) (list_all (is_guard g.vertices) x.guards) (list_all (nat_le 1) (lens_of g.vertices x.ins)) (fits g.bodies x.kind (lens_of g.vertices x.ins) x.outs)
+      subst (λ ns. IsTaskFit (task_of g.bodies x.kind) t.0 ns x.outs) (lens-same g.vertices x.ins)
+      (subst (λ (o : Operation). IsTaskFit o.task t.0 (map (long g.vertices) o.ins) o.outs) f.2.same t.1.task) in
+      all_six (is_path x.name) (nat_le (length x.outs) 64 && list_all is_len x.outs) (list_all (is_guard g.vertices) x.guards)
+      (list_all (nat_le 1) (lens_of g.vertices x.ins)) (fits g.bodies x.kind (lens_of g.vertices x.ins) x.outs)
       (has_twin g.vertices v x.kind x.twin)
-      (ap is_path f.2.name ∙ name-pass f.0 (named-at ops (named-main main valid names bounds) v f.0 f.1))
-      (and_from (nat_le (length x.outs) 64) (list_all is_len x.outs) (le-leb (length x.outs) 64 (outs-few g.bodies t.0 x.kind (lens_of g.vertices x.ins) x.outs ins outs task bounded)) (lens-pass x.outs outs))
+      (ap is_path f.2.name ∙ name-pass f.0 (named-at ops (named-main main valid valid.named valid.bounded) v f.0 f.1))
+      (and_from (nat_le (length x.outs) 64) (list_all is_len x.outs)
+      (le-leb (length x.outs) 64 (outs-few g.bodies t.0 x.kind (lens_of g.vertices x.ins) x.outs ins outs task bounded)) (lens-pass x.outs outs))
       (guards-pass g.vertices x.guards guards) (some-pass (lens_of g.vertices x.ins) ins)
       (fits-pass g.bodies t.0 x.kind (lens_of g.vertices x.ins) x.outs task bounded (set-single g ops stands (follow-main main) (paired-main main) fit v x f.0 f.1 f.2))
       (twins-pass g ops stands (follow-main main) (paired-main main) fit v x f.0 f.1 f.2)
 
   pub stands-flat : is_flat g ≡ true
   stands-flat =
-      all_six (nat_le (length g.vertices) 2048) (are_named_apart g.vertices) (all_from (is_vertex g) 0 g.vertices) (sensors_from 0 (kinds_of g.vertices)) (actuators_from 0 (kinds_of g.vertices)) (is_acyclic g.vertices)
-      (le-leb (length g.vertices) 2048 (few main g valid plain stands)) (named-apart g.bodies 0 g.vertices ops stands (named-main main valid names bounds) (apart-main main valid plain))
+      all_six (nat_le (length g.vertices) 2048) (are_named_apart g.vertices) (all_from (is_vertex g) 0 g.vertices)
+      (sensors_from 0 (kinds_of g.vertices)) (actuators_from 0 (kinds_of g.vertices)) (is_acyclic g.vertices)
+      (le-leb (length g.vertices) 2048 (few main g valid plain stands)) (named-apart g.bodies 0 g.vertices ops stands (named-main main valid valid.named valid.bounded) (apart-main main valid plain))
       (all_from-each (is_vertex g) 0 g.vertices (λ i x is. subst (λ m. is_vertex g m x ≡ true) (sym (zero-add i)) (vertex-valid i x is)))
       (sensors-numbered main g valid plain stands) (actuators-numbered main g valid plain stands) (stands-acyclic main g valid plain stands)

@@ -1,5 +1,40 @@
 -- Where a source of a level leads in the flat list, and the values that are found there.
-use Rattle.std.proofs.Common.{◌≡◌, ℕ, zero, suc, ◌+◌, ◌*◌, ◌≤◌, ◌==◌, inl, inr, List, [], ◌∷◌, ◌++◌, length, map, slice_index_or, Bool, true, false, cond, ◌&&◌, Option, Some, None, slice_get, refl, sym, ap, ap₂, ◌∙◌, subst, arith, length-append}
+use Rattle.std.proofs.Common.{
+  ◌≡◌,
+  ℕ,
+  zero,
+  suc,
+  ◌+◌,
+  ◌*◌,
+  ◌≤◌,
+  ◌==◌,
+  inl,
+  inr,
+  List,
+  [],
+  ◌∷◌,
+  ◌++◌,
+  length,
+  map,
+  slice_index_or,
+  Bool,
+  true,
+  false,
+  cond,
+  ◌&&◌,
+  Option,
+  Some,
+  None,
+  slice_get,
+  refl,
+  sym,
+  ap,
+  ap₂,
+  ◌∙◌,
+  subst,
+  arith,
+  length-append,
+}
 use Rattle.std.proofs.lemmas.Bool.{cases_lt, false≢true}
 use Rattle.algo_tree.specs.declared.Source.{Source}
 use Rattle.algo_tree.specs.declared.Source.TheVariants.{Own, Of}
@@ -10,7 +45,24 @@ use Rattle.algo_tree.proofs.Fuel.{Agree, same_outputs, and-left, and-right}
 use Rattle.algo_tree.specs.Tree.{Label, Kind, sensor, actuator, constant, delay, function, explode, implode, merge, graph, switch, repeat, Vertex, vertex, Vertices, no_vertices, and_vertex}
 use Rattle.algo_tree.specs.Meaning.{asked_by, node, nodes, kind_outputs}
 use Rattle.flat_laws.specs.Flat.{Operation, Task, runs, gets, task_outputs, stages_of, node_of}
-use Rattle.flat_laws.specs.Inlined.{nowhere, Wiring, with_wiring, wire_source, wire_out, wire, gives_by, wiring, wirings, wire_guard, operation_of, stages, inlined_by, inlined, inlined_all, inlined_level}
+use Rattle.flat_laws.specs.Inlined.{
+  nowhere,
+  Wiring,
+  with_wiring,
+  wire_source,
+  wire_out,
+  wire,
+  gives_by,
+  wiring,
+  wirings,
+  wire_guard,
+  operation_of,
+  stages,
+  inlined_by,
+  inlined,
+  inlined_all,
+  inlined_level,
+}
 use Rattle.algo_tree.specs.Counted.{operations as count, operations_in as count_all, operations_by as count_by}
 use Rattle.flat_laws.specs.Plain.{IsKindPlain, IsPlain, AllPlain}
 use Rattle.flat_laws.proofs.Inlinable.{with_kind, IsKindInlinable, CanInline, AllCanInline, is_plain}
@@ -70,7 +122,8 @@ matched_length (w ∷ ws) [] h = absurd h
 matched_length (w ∷ ws) (c ∷ cs) h = ap suc (matched_length ws cs h.1)
 
 module _ (own : List Source) where
-  wires_agree : (done : ℕ → Bool) (f g : ℕ → ℕ → Source) → ((r : ℕ) → done r ≡ true → (p : ℕ) → f r p ≡ g r p) → (ss : List Source) → sources_ready done ss ≡ true → map (wire_source own f) ss ≡ map (wire_source own g) ss
+  wires_agree : (done : ℕ → Bool) (f g : ℕ → ℕ → Source) → ((r : ℕ) → done r ≡ true → (p : ℕ) → f r p ≡ g r p) → (ss : List Source)
+      → sources_ready done ss ≡ true → map (wire_source own f) ss ≡ map (wire_source own g) ss
   wires_agree done f g same [] h = refl
   wires_agree done f g same (Own k ∷ ss) h = ap (λ xs. slice_index_or own k nowhere ∷ xs) (wires_agree done f g same ss h)
   wires_agree done f g same (Of r p ∷ ss) h =
@@ -79,7 +132,8 @@ module _ (own : List Source) where
   abbrev given : (ℕ → ℕ → Source) → ℕ → Option Wiring → Source
   given f p o = with_wiring o nowhere (λ w. w.gives (map (wire_source own f) w.asked) p)
 
-  at_wiring : (ws : List Wiring) (cs : List Node) → Matched ws cs → (r : ℕ) (done : ℕ → Bool) (f g : ℕ → ℕ → Source) → ((r : ℕ) → done r ≡ true → (p : ℕ) → f r p ≡ g r p) → with_node (slice_get cs r) false (is_ready done) ≡ true
+  at_wiring : (ws : List Wiring) (cs : List Node) → Matched ws cs → (r : ℕ) (done : ℕ → Bool) (f g : ℕ → ℕ → Source)
+      → ((r : ℕ) → done r ≡ true → (p : ℕ) → f r p ≡ g r p) → with_node (slice_get cs r) false (is_ready done) ≡ true
       → (p : ℕ) → given f p (slice_get ws r) ≡ given g p (slice_get ws r)
   at_wiring [] [] m r done f g same h p = refl
   at_wiring [] (c ∷ cs) m r done f g same h p = absurd m
@@ -103,7 +157,8 @@ module _ (own : List Source) where
     wire_fix acyclic r p = elim (cases_lt r (length ws)) [
       | inl lt ↦
           let len = matched_length ws cs m in
-          more_wire (length cs) (suc (length ws)) r (acyclic r (omega (arith, len, lt))) (omega (arith, len)) p ∙ sym (more_wire (length cs) (length ws) r (acyclic r (omega (arith, len, lt))) (omega (arith, len)) p)
+          more_wire (length cs) (suc (length ws)) r (acyclic r (omega (arith, len, lt))) (omega (arith, len)) p
+          ∙ sym (more_wire (length cs) (length ws) r (acyclic r (omega (arith, len, lt))) (omega (arith, len)) p)
       | inr past ↦ ap (given (wire_out ws own (length ws)) p) (none_past ws r past) ∙ sym (wire_past (length ws) r past p)
     ]
 
@@ -160,7 +215,9 @@ module _ (row : Values) (kept : State) (V : Source → Vector) (nothing : (k : �
   hold-wired W (g ∷ gs) = ap (λ b. (selected g.values (V (W g.source)) == g.case) && b) (hold-wired W gs)
 
   -- what an operation gives, as its vertex
-  pub op_is : (W : Source → Source) (b : ℕ) (path : Path) (i : ℕ) (l : Label) (ss : List Source) (task : Task) (gives : Values → Values) → Meets b (operation_of W path i l (map W ss) l.outs task ∷ []) → ((ins : Values) → task_outputs task l.outs (vector_at (kept path) i) row ins ≡ gives ins) → (p : ℕ)
+  pub op_is : (W : Source → Source) (b : ℕ) (path : Path) (i : ℕ) (l : Label) (ss : List Source) (task : Task) (gives : Values → Values)
+      → Meets b (operation_of W path i l (map W ss) l.outs task ∷ [])
+      → ((ins : Values) → task_outputs task l.outs (vector_at (kept path) i) row ins ≡ gives ins) → (p : ℕ)
       → vector_at (cond (all_hold (λ s. V (W s)) l.guards) (gives (map (λ s. V (W s)) ss)) (map zeros l.outs)) p ≡ V (Of b p)
   op_is W b path i l ss task gives h same p =
       sym (h.0 p ∙ ap (λ vs. vector_at vs p) (ap₂ (λ t vs. cond t vs (map zeros l.outs)) (hold-wired W l.guards) (same (map V (map W ss)) ∙ ap gives (map_map V W ss))))

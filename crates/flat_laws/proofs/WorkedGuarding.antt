@@ -65,7 +65,9 @@ by_case = between (of (Named (codes "w")) (codes "Sw") (Of 0 0 ∷ Of 0 0 ∷ []
 abbrev four : List Values
 four = row_of (pos 3 ∷ []) ∷ row_of (pos 0 ∷ []) ∷ row_of (pos 3 ∷ []) ∷ row_of (negsuc 4 ∷ []) ∷ []
 
-taken : (act_row (guard by_case) four 0 ≡ row_of (pos 100 ∷ [])) × ((act_row (guard by_case) four 1 ≡ row_of (pos 0 ∷ [])) × ((act_row (guard by_case) four 2 ≡ row_of (pos 103 ∷ [])) × (act_row (guard by_case) four 3 ≡ row_of (pos 5 ∷ []))))
+taken : (act_row (guard by_case) four 0 ≡ row_of (pos 100 ∷ []))
+    × ((act_row (guard by_case) four 1 ≡ row_of (pos 0 ∷ []))
+    × ((act_row (guard by_case) four 2 ≡ row_of (pos 103 ∷ [])) × (act_row (guard by_case) four 3 ≡ row_of (pos 5 ∷ []))))
 taken = (refl, (refl, (refl, refl)))
 
 -- in the second reaction and in the last the case of the delay is not selected, and it keeps its value
@@ -116,7 +118,8 @@ case_in_case = three_ends (of (Named (codes "o")) (codes "Out2") three_sources [
 abbrev three : List Values
 three = row_of (pos 1 ∷ pos 0 ∷ pos 5 ∷ []) ∷ row_of (pos 0 ∷ pos 0 ∷ pos 5 ∷ []) ∷ row_of (pos 1 ∷ pos 2 ∷ pos 5 ∷ []) ∷ []
 
-nested : (act_row (guard case_in_case) three 0 ≡ row_of (pos 5 ∷ [])) × ((act_row (guard case_in_case) three 1 ≡ row_of (pos 77 ∷ [])) × (act_row (guard case_in_case) three 2 ≡ row_of (negsuc 4 ∷ [])))
+nested : (act_row (guard case_in_case) three 0 ≡ row_of (pos 5 ∷ []))
+    × ((act_row (guard case_in_case) three 1 ≡ row_of (pos 77 ∷ [])) × (act_row (guard case_in_case) three 2 ≡ row_of (negsuc 4 ∷ [])))
 nested = (refl, (refl, refl))
 
 -- An operation in the inner case carries the outer guard first, and the inner merge carries the outer one alone.

@@ -97,7 +97,8 @@ three = (pos 1 ∷ []) ∷ (pos 2 ∷ []) ∷ (pos 3 ∷ []) ∷ []
 deep_in_the_tree : map (act_row (looks_back three) five) (numbers_below 5) ≡ ((pos 1 ∷ []) ∷ []) ∷ ((pos 2 ∷ []) ∷ []) ∷ ((pos 3 ∷ []) ∷ []) ∷ ((pos 5 ∷ []) ∷ []) ∷ ((pos 6 ∷ []) ∷ []) ∷ []
 deep_in_the_tree = refl
 
-deep_in_the_list : map (flat_act_row (operations (looks_back three)) five) (numbers_below 5) ≡ ((pos 1 ∷ []) ∷ []) ∷ ((pos 2 ∷ []) ∷ []) ∷ ((pos 3 ∷ []) ∷ []) ∷ ((pos 5 ∷ []) ∷ []) ∷ ((pos 6 ∷ []) ∷ []) ∷ []
+deep_in_the_list : map (flat_act_row (operations (looks_back three)) five) (numbers_below 5) ≡ ((pos 1 ∷ []) ∷ []) ∷ ((pos 2 ∷ []) ∷ [])
+    ∷ ((pos 3 ∷ []) ∷ []) ∷ ((pos 5 ∷ []) ∷ []) ∷ ((pos 6 ∷ []) ∷ []) ∷ []
 deep_in_the_list = refl
 
 abbrev half : ℕ → List Source → List ℕ → Task → Operation

@@ -28,7 +28,16 @@ abbrev body : Vertex
 body = vertex (record { part = Numbered 0; definition = codes "Add"; ins = []; guards = []; outs = 2 ∷ []; names = []; kind = function [] }) no_vertices
 
 abbrev added : Vertex
-added = vertex (record { part = Named (codes "r"); definition = codes "R"; ins = Of 0 0 ∷ Of 1 0 ∷ Of 2 0 ∷ []; guards = []; outs = 4 ∷ []; names = []; kind = repeat 2 feeds (Join (codes "z") 0 ∷ []) }) (and_vertex body no_vertices)
+added = vertex (record {
+  part = Named (codes "r");
+  definition = codes "R";
+  ins = Of 0 0 ∷ Of 1 0 ∷ Of 2 0 ∷ [];
+  guards = [];
+  outs = 4
+      ∷ [];
+  names = [];
+  kind = repeat 2 feeds (Join (codes "z") 0 ∷ []);
+}) (and_vertex body no_vertices)
 
 -- the explode of q stands first, and input v of each copy takes from the one of p
 unrolled : unroll added ≡ vertex (record { part = Named (codes "r"); definition = codes "R"; ins = Of 0 0 ∷ Of 1 0 ∷ Of 2 0 ∷ []; guards = []; outs = 4 ∷ []; names = []; kind = graph (Of 4 0 ∷ []) })

@@ -149,7 +149,9 @@ in_graph = of (named (codes "g")) (codes "Acc") [] [] (graph [])
 names : map (λ (r : Row). r.name) (table (alone_in_main in_graph)) ≡ codes "g/d:get" ∷ codes "g/d:set" ∷ codes "g/f" ∷ []
 names = refl
 
-numbered_name : map (λ (r : Row). r.name) (table (alone_in_main (of (named (codes "c")) (codes "In") [] (2 ∷ []) (switch [] (codes "u" ∷ [])) (only (alone (Numbered 0) (codes "Same") [] (2 ∷ []) does)))))
+numbered_name : map (λ (r : Row). r.name)
+    (table (alone_in_main (of (named (codes "c")) (codes "In") [] (2 ∷ []) (switch [] (codes "u" ∷ []))
+    (only (alone (Numbered 0) (codes "Same") [] (2 ∷ []) does)))))
     ≡ (codes "c" ++ (codes "." ++ (decimal 0 ++ []) ++ [])) ∷ codes "c:u" ∷ []
 numbered_name = refl
 

@@ -16,7 +16,7 @@ abbrev pub shift : ℕ → Source → Source
 shift n (Own k) = Own (n + k)
 shift n (Of r p) = Of r p
 
--- The same guard in a level that has n further inputs before its own.
+-- A guard in a level that has n further inputs before its own.
 abbrev pub shift_guard : ℕ → Guard → Guard
 shift_guard n g = record { source = shift n g.source; values = g.values; case = g.case }
 
@@ -24,7 +24,7 @@ shift_guard n g = record { source = shift n g.source; values = g.values; case = 
 abbrev pub guard_sources : List Guard → List Source
 guard_sources gs = map (λ g. g.source) gs
 
--- The same conditions inside a graph to which their sources are handed, from input i on.
+-- Guards inside a graph to which their sources are handed, as its inputs from number i on.
 abbrev pub own_guards : ℕ → List Guard → List Guard
 own_guards i [] = []
 own_guards i (g ∷ gs) = record { source = Own i; values = g.values; case = g.case } ∷ own_guards (suc i) gs
@@ -107,7 +107,7 @@ abbrev mutual
       (λ inside m. guarded_all inside m us)
       (λ inside m values. guarded_cases inside m values 0 us)
 
-  -- The same for each of the vertices of a level, in order.
+  -- Each vertex of a level under these guards, in order.
   pub guarded_all : List Guard → ℕ → Vertices → Vertices
   guarded_all gs n no_vertices = no_vertices
   guarded_all gs n (and_vertex u us) = and_vertex (guarded gs n u) (guarded_all gs n us)

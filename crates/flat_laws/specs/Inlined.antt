@@ -74,7 +74,7 @@ abbrev mutual
   wirings first no_vertices = []
   wirings first (and_vertex u us) = wiring first u ∷ wirings (first + count u) us
 
--- The same guard, with its source replaced by the one to which w leads it.
+-- A guard whose source is replaced by the one to which w leads it.
 abbrev pub wire_guard : (Source → Source) → Guard → Guard
 wire_guard w g = record { source = w g.source; values = g.values; case = g.case }
 
@@ -120,7 +120,7 @@ abbrev mutual
   inlined w first at (vertex l us) =
       inlined_by w first at l l.kind (λ own c below. inlined_all (wire (wirings c us) own) c below us)
 
-  -- The same for the vertices of a level, one after another.
+  -- The operations that the vertices of a level become, one vertex after another.
   pub inlined_all : (Source → Source) → ℕ → (Path → Path) → Vertices → List Operation
   inlined_all w first at no_vertices = []
   inlined_all w first at (and_vertex u us) = inlined w first at u ++ inlined_all w (first + count u) at us

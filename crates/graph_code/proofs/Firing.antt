@@ -14,7 +14,7 @@ use Rattle.flat_graph.specs.declared.vertex.Kind.{Kind}
 use Rattle.flat_graph.specs.declared.vertex.Kind.TheVariants.{Sensor, Actuator, Function, Constant, Get, Set, Explode, Implode, Merge}
 use Rattle.flat_graph.specs.declared.vertex.Vertex.{Vertex}
 use Rattle.flat_graph.specs.Graph.{Graph}
-use Rattle.flat_graph.specs.Valid.{fits, is_body, is_merge, is_only, ports_below}
+use Rattle.flat_graph.specs.Valid.{are_equal, fits, is_body, is_in_equal_parts, is_merge, is_only, ports_below}
 use Rattle.flat_graph.specs.Fire.{kind_outputs, kind_seen_len}
 use Rattle.flat_graph.proofs.KindLens.{kind_lens, joined_len, only_is, HasSeen, HasCell, selected_le}
 use Rattle.expression_code.specs.Code.{words, size}
@@ -121,9 +121,10 @@ module _ (g : Graph) (x : Vertex) (o : Operation) (cell seen : Vector) (store : 
   -- what takes its input apart, and what puts its inputs together, gives its inputs one after another
   pub explode_is : x.kind ≡ Explode → all_joined ins ≡ joined_outputs g x o cell seen store
   explode_is kind =
-      let form : is_only (sum x.outs) (map (λ v. length v) ins) ≡ true = ap (λ k. fits g.bodies k (map (λ v. length v) ins) x.outs) (sym kind) ∙ r.form in
-      let lens = only_is (sum x.outs) (map (λ v. length v) ins) form in
-      one ins x.outs lens ∙ sym (ap (λ k. all_joined (kind_outputs g.bodies k x.outs cell seen ins)) kind)
+      let lens : List ℕ = map (λ v. length v) ins in
+      let form : is_in_equal_parts lens x.outs ≡ true = ap (λ k. fits g.bodies k lens x.outs) (sym kind) ∙ r.form in
+      let only = only_is (sum x.outs) lens (and_parts (is_only (sum x.outs) lens) (are_equal x.outs) form).0 in
+      one ins x.outs only ∙ sym (ap (λ k. all_joined (kind_outputs g.bodies k x.outs cell seen ins)) kind)
     where
       one : (vs : Values) (outs : List ℕ) → map (λ v. length v) vs ≡ sum outs ∷ [] → all_joined vs ≡ all_joined (cut outs (vector_at vs 0))
       one [] outs e = absurd (cc)

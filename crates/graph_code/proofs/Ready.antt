@@ -1,5 +1,37 @@
 -- An operation of a valid graph may be fired: its sources stand in the store, and none is its own output.
-use Rattle.std.proofs.Common.{◌≡◌, ◌≢◌, ℕ, zero, suc, ◌+◌, ◌<◌, ◌≤◌, Bool, true, false, ◌&&◌, inl, inr, ℤ, pos, List, [], ◌∷◌, ◌++◌, length, get_or, map, refl, sym, ap, ap₂, subst, ◌∙◌, arith, zero-add}
+use Rattle.std.proofs.Common.{
+  ◌≡◌,
+  ◌≢◌,
+  ℕ,
+  zero,
+  suc,
+  ◌+◌,
+  ◌<◌,
+  ◌≤◌,
+  Bool,
+  true,
+  false,
+  ◌&&◌,
+  inl,
+  inr,
+  ℤ,
+  pos,
+  List,
+  [],
+  ◌∷◌,
+  ◌++◌,
+  length,
+  get_or,
+  map,
+  refl,
+  sym,
+  ap,
+  ap₂,
+  subst,
+  ◌∙◌,
+  arith,
+  zero-add,
+}
 use Rattle.std.specs.Prelude.{Option, None, Some, IsTrue, if◌then◌else◌, slice_get, sum, ◌⊎◌}
 use Rattle.std.specs.List.{list_all, range_with_len}
 use Rattle.std.proofs.lemmas.Bool.{and_parts, false≢true}
@@ -63,7 +95,8 @@ module _ (xs : List Vertex) (store : List ℤ) where
       (lens_are wide ss)
 
 -- no operation reads itself
-done_before : (xs : List Vertex) (rounds v : ℕ) (x : Vertex) → slice_get xs v ≡ Some x → is_done xs (suc rounds) v ≡ true → (k : ℕ) → k < length x.ins → is_done xs rounds (get_or x.ins k none).vertex ≡ true
+done_before : (xs : List Vertex) (rounds v : ℕ) (x : Vertex) → slice_get xs v ≡ Some x → is_done xs (suc rounds) v ≡ true → (k : ℕ) → k
+    < length x.ins → is_done xs rounds (get_or x.ins k none).vertex ≡ true
 done_before xs rounds v x is h k l =
     let whole : list_all (is_done xs rounds) (depends_on x) ≡ true = sym (ap (λ (o : Option Vertex). with_vertex o false (λ y. list_all (is_done xs rounds) (depends_on y))) is) ∙ h in
     let parts = sym (ready_by_parts (is_done xs rounds) x) ∙ whole in
@@ -112,7 +145,8 @@ ready g valid v x is o cell seen store op cell_is seen_is wide =
           let own = not_own xs (length xs) v x is (all_done xs (acyclic_of g valid) v (slice_get_within xs v x is)) k l in
           subst (λ (t : Span). (t.start + t.len ≤ o.to.start) ⊎ (o.to.start + o.to.len ≤ t.start)) (sym (span k l))
           (subst (λ n. ((span_of xs (get_or x.ins k none)).start + (span_of xs (get_or x.ins k none)).len ≤ n) ⊎ (n + o.to.len ≤ (span_of xs (get_or x.ins k none)).start)) (sym to_start)
-          (subst (λ n. ((span_of xs (get_or x.ins k none)).start + (span_of xs (get_or x.ins k none)).len ≤ start_of xs v) ⊎ (start_of xs v + n ≤ (span_of xs (get_or x.ins k none)).start)) (sym to_len)
+          (subst (λ n. ((span_of xs (get_or x.ins k none)).start + (span_of xs (get_or x.ins k none)).len ≤ start_of xs v)
+          ⊎ (start_of xs v + n ≤ (span_of xs (get_or x.ins k none)).start)) (sym to_len)
           (span_apart xs (get_or x.ins k none) v x is own)));
       code = op.code;
     }
@@ -123,7 +157,8 @@ some_at [] v h = absurd (omega arith)
 some_at (x ∷ xs) zero h = (x, refl)
 some_at (x ∷ xs) (suc v) h = some_at xs v (omega arith)
 
-pub operation_at : (g : Graph) (room : ℕ) (os : List Operation) (v : ℕ) (x : Vertex) (o : Operation) → AreOperations g room os → slice_get g.vertices v ≡ Some x → o ≡ get_or os v o → IsOperation g room v x o
+pub operation_at : (g : Graph) (room : ℕ) (os : List Operation) (v : ℕ) (x : Vertex) (o : Operation) → AreOperations g room os
+    → slice_get g.vertices v ≡ Some x → o ≡ get_or os v o → IsOperation g room v x o
 operation_at g room os v x o are is same =
     let l : v < length os = omega (arith, slice_get_within g.vertices v x is, are.count) in
     let at : IsOperationAt g room (0 + v) (get_or os v o) = each_at (IsOperationAt g room) 0 os v o l are.each in
@@ -170,7 +205,8 @@ joined_zeros (n ∷ outs) =
     ap zeros (sum_by-cons (λ y. y) n outs) ∙ sym (replicate-append-replicate n (sum outs) (pos 0)) ∙ ap (λ v. zeros n ++ v) (joined_zeros outs)
 
 -- what was written is what the operation gives
-module _ (g : Graph) (room v : ℕ) (x : Vertex) (o : Operation) (cell seen : Vector) (store new : List ℤ) (is : slice_get g.vertices v ≡ Some x) (op : IsOperation g room v x o) (wide : width_of g.vertices ≤ length store) where
+module _ (g : Graph) (room v : ℕ) (x : Vertex) (o : Operation) (cell seen : Vector) (store new : List ℤ)
+    (is : slice_get g.vertices v ≡ Some x) (op : IsOperation g room v x o) (wide : width_of g.vertices ≤ length store) where
   to_start : o.to.start ≡ start_of g.vertices v
   to_start = ap (λ (t : Span). t.start) op.to
 
@@ -205,4 +241,5 @@ module _ (g : Graph) (room v : ℕ) (x : Vertex) (o : Operation) (cell seen : Ve
       let row : zeros o.to.len ≡ all_joined (map zeros x.outs) = ap (λ (t : Span). zeros t.len) op.to ∙ joined_zeros x.outs in
       gives (map zeros x.outs) (length-zeros x.outs)
       (sym (ap (λ (b : Bool). if b then kind_outputs g.bodies x.kind x.outs cell seen (inputs look x) else map zeros x.outs) fails))
-      (put_same (width_of g.vertices) o.to.start (zeros o.to.len) (all_joined (map zeros x.outs)) store new row (put_less (length store) (width_of g.vertices) o.to.start (zeros o.to.len) store new wide put))
+      (put_same (width_of g.vertices) o.to.start (zeros o.to.len) (all_joined (map zeros x.outs)) store new row
+      (put_less (length store) (width_of g.vertices) o.to.start (zeros o.to.len) store new wide put))

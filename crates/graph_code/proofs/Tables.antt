@@ -76,7 +76,8 @@ part_inside outs p = elim (cases_lt p (length outs)) [
 part_is : (outs : List ℕ) (store : List ℤ) (start p : ℕ) → vector_at (cut outs (words store start (sum outs))) p ≡ words store (start + sum (take p outs)) (get_or outs p 0)
 part_is outs store start p = elim (cases_lt p (length outs)) [
   | inl h ↦ vector-at outs (words store start (sum outs)) p h ∙ words_within store start (sum outs) (sum (take p outs)) (get_or outs p 0) (part_inside outs p)
-  | inr h ↦ get_or_past (cut outs (words store start (sum outs))) p [] (omega (arith, length-cut outs (words store start (sum outs)))) ∙ ap (words store (start + sum (take p outs))) (sym (get_or_past outs p 0 h))
+  | inr h ↦ get_or_past (cut outs (words store start (sum outs))) p [] (omega (arith, length-cut outs (words store start (sum outs))))
+      ∙ ap (words store (start + sum (take p outs))) (sym (get_or_past outs p 0 h))
 ]
 
 -- the value of a source is the words of its span

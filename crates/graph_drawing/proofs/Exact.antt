@@ -135,11 +135,14 @@ own_at v x zero st e =
     record { owned = ap owner (sym is); own = subst (λ (z : Statement). Own x z) is refl }
 own_at v x (suc n) st e = by (side (inputs_from v 0 x.ins) (conditions_from v 0 x.guards ++ keeping v x.kind x.twin) n st e)
   where
-    last : (k : ℕ) → (slice_get (conditions_from v 0 x.guards) k ≡ Some st) ⊎ ((m : ℕ) × (k ≡ length (conditions_from v 0 x.guards) + m) × (slice_get (keeping v x.kind x.twin) m ≡ Some st)) → IsOwn v x st
+    last : (k : ℕ) → (slice_get (conditions_from v 0 x.guards) k ≡ Some st)
+        ⊎ ((m : ℕ) × (k ≡ length (conditions_from v 0 x.guards) + m) × (slice_get (keeping v x.kind x.twin) m ≡ Some st)) → IsOwn v x st
     last k (inl h) = of_condition v x k st (condition_at v 0 x.guards k st h)
     last k (inr h) = of_kept v x h.0 st (kept_at v x.kind x.twin h.0 st h.2)
 
-    by : (slice_get (inputs_from v 0 x.ins) n ≡ Some st) ⊎ ((k : ℕ) × (n ≡ length (inputs_from v 0 x.ins) + k) × (slice_get (conditions_from v 0 x.guards ++ keeping v x.kind x.twin) k ≡ Some st)) → IsOwn v x st
+    by : (slice_get (inputs_from v 0 x.ins) n ≡ Some st)
+        ⊎ ((k : ℕ) × (n ≡ length (inputs_from v 0 x.ins) + k)
+        × (slice_get (conditions_from v 0 x.guards ++ keeping v x.kind x.twin) k ≡ Some st)) → IsOwn v x st
     by (inl h) = of_input v x n st (input_at v 0 x.ins n st h)
     by (inr h) = last h.0 (side (conditions_from v 0 x.guards) (keeping v x.kind x.twin) h.0 st h.2)
 
@@ -258,7 +261,8 @@ edges_once v x =
 edges_sort : (v : ℕ) (x : Vertex) (st : Statement) (n : ℕ) → slice_get (inputs_from v 0 x.ins ++ (conditions_from v 0 x.guards ++ keeping v x.kind x.twin)) n ≡ Some st → 1 ≤ sort st
 edges_sort v x st n e = by (side (inputs_from v 0 x.ins) (conditions_from v 0 x.guards ++ keeping v x.kind x.twin) n st e)
   where
-    by : (slice_get (inputs_from v 0 x.ins) n ≡ Some st) ⊎ ((m : ℕ) × (n ≡ length (inputs_from v 0 x.ins) + m) × (slice_get (conditions_from v 0 x.guards ++ keeping v x.kind x.twin) m ≡ Some st)) → 1 ≤ sort st
+    by : (slice_get (inputs_from v 0 x.ins) n ≡ Some st)
+        ⊎ ((m : ℕ) × (n ≡ length (inputs_from v 0 x.ins) + m) × (slice_get (conditions_from v 0 x.guards ++ keeping v x.kind x.twin) m ≡ Some st)) → 1 ≤ sort st
     by (inl h) = let z = ap sort (input_at v 0 x.ins n st h).is in omega arith
     by (inr h) = let z = rest_sort v x st h.0 h.2 in omega arith
 

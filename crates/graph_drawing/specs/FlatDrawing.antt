@@ -188,7 +188,8 @@ closing = codes "}\n"
 abbrev pub flat_drawing : Graph → Bytes
 flat_drawing g = opening ++ (statements_text [] (statements_from 0 g.vertices) ++ closing)
 
--- the same, in the colours of the operators and media that a schedule gives them
+-- The drawing of a flat graph in the colours of the operators and media that a schedule gives its
+-- operations.
 abbrev pub placed_drawing : Graph → Architecture → Schedule → Bytes
 placed_drawing g a s =
     opening ++ (legend a ++ (statements_text s.decisions (statements_from 0 g.vertices) ++ closing))

@@ -1,5 +1,40 @@
 -- What adding the operations of a vertex asks for, and what it answers, seen at a declared vertex.
-use Rattle.std.proofs.Common.{◌≡◌, ◌≢◌, ◌==◌, ◌⊎◌, inl, inr, true, false, min, ℕ, zero, suc, ◌+◌, ◌-◌, ◌*◌, ◌^◌, ◌<◌, List, [], ◌∷◌, ◌++◌, length, get_or, map, drop, drop-cons, append-nil, refl, sym, ap, ap₂, ◌∙◌, subst, arith}
+use Rattle.std.proofs.Common.{
+  ◌≡◌,
+  ◌≢◌,
+  ◌==◌,
+  ◌⊎◌,
+  inl,
+  inr,
+  true,
+  false,
+  min,
+  ℕ,
+  zero,
+  suc,
+  ◌+◌,
+  ◌-◌,
+  ◌*◌,
+  ◌^◌,
+  ◌<◌,
+  List,
+  [],
+  ◌∷◌,
+  ◌++◌,
+  length,
+  get_or,
+  map,
+  drop,
+  drop-cons,
+  append-nil,
+  refl,
+  sym,
+  ap,
+  ap₂,
+  ◌∙◌,
+  subst,
+  arith,
+}
 use Rattle.std.proofs.lemmas.Bool.{eq-eqb, ne_eqb}
 use Rattle.std.proofs.lemmas.Bool.Decides.{eqb_tells}
 use Rattle.algo_tree.specs.declared.Source.{Source}
@@ -66,7 +101,8 @@ run_by (Switch values names) h d g = absurd h
 run_by (Repeat n feeds gives) h d g = absurd h
 run_by _ h d g = tt
 
-pub is_run : (u : Declared) → IsPlain (view u) → ((groups : List Vector) → (out-Vertex u).kind ≡ Delay groups → ⊥) → ((outs : List Source) → (out-Vertex u).kind ≡ Graph outs → ⊥) → IsRun (kind_view (out-Vertex u).kind)
+pub is_run : (u : Declared) → IsPlain (view u) → ((groups : List Vector) → (out-Vertex u).kind ≡ Delay groups → ⊥)
+    → ((outs : List Source) → (out-Vertex u).kind ≡ Graph outs → ⊥) → IsRun (kind_view (out-Vertex u).kind)
 is_run u h d g = run_by (out-Vertex u).kind (subst IsPlain (view_out u) h).0 d g
 
 -- the operations of a vertex, by its kind
@@ -110,7 +146,8 @@ module _ (w : Source → Source) (u : Declared) where
   pub delay_linked : (groups : List Vector) → (out-Vertex u).kind ≡ Delay groups → (b : ℕ) → ((at : Path → Path) → AllLinked (inlined w b at (view u))) → AllLinked (stages w b [] (label u) 0 groups)
   delay_linked groups is b linked = subst AllLinked (by_kind (Delay groups) is b (λ q. [])) (linked (λ q. []))
 
-  pub run_linked : IsRun (kind_view (out-Vertex u).kind) → (b : ℕ) → AllLinked (inlined w b (λ q. q) (view u)) → AreFound (map w (out-Vertex u).ins) × GuardsFound (map (wire_guard w) (out-Vertex u).guards)
+  pub run_linked : IsRun (kind_view (out-Vertex u).kind) → (b : ℕ) → AllLinked (inlined w b (λ q. q) (view u))
+      → AreFound (map w (out-Vertex u).ins) × GuardsFound (map (wire_guard w) (out-Vertex u).guards)
   run_linked run b linked =
       let h = subst AllLinked (by_kind (out-Vertex u).kind refl b (λ q. q) ∙ one_operation (out-Vertex u).kind run b (λ q. q)) linked in h.0
 
@@ -145,7 +182,8 @@ main_linked u tree plain n none at =
     let all : AllLinked (inlined_level [] 0 (λ q. q) us) = subst (λ v. AllLinked (operations v)) (view_out u) (linked_main (view u) tree plain) in
     subst (λ b. AllLinked (inlined_level [] b at us)) (sym none) (linked_anywhere (wire (wirings 0 us) []) 0 us all at)
 
-pub level_linked : (w : Source → Source) (own : List Source) (first n : ℕ) (us : Vertices) → first ≡ n → w ≡ wire (wirings first us) own → ((at : Path → Path) → AllLinked (inlined_level own n at us)) → (at : Path → Path) → AllLinked (inlined_all w n at us)
+pub level_linked : (w : Source → Source) (own : List Source) (first n : ℕ) (us : Vertices) → first ≡ n → w ≡ wire (wirings first us) own
+    → ((at : Path → Path) → AllLinked (inlined_level own n at us)) → (at : Path → Path) → AllLinked (inlined_all w n at us)
 level_linked w own first n us number leads linked at = subst (λ f. AllLinked (inlined_all f n at us)) (sym (leads ∙ ap (λ b. wire (wirings b us) own) number)) (linked at)
 
 -- a count that stops at a bound is 0 where the whole one is

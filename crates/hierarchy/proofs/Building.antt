@@ -1,5 +1,40 @@
 -- Operations that are added one by one: what was built before stays, and the next one has the next number.
-use Rattle.std.proofs.Common.{◌≡◌, ℕ, zero, suc, ◌+◌, ◌<◌, ◌==◌, Bool, true, false, cond, ℤ, List, [], ◌∷◌, ◌++◌, length, map, get_or, drop, drop-cons, codes, Some, None, refl, sym, ap, ◌∙◌, subst, arith, length-append, append-nil, eq-eqb, ne_eqb}
+use Rattle.std.proofs.Common.{
+  ◌≡◌,
+  ℕ,
+  zero,
+  suc,
+  ◌+◌,
+  ◌<◌,
+  ◌==◌,
+  Bool,
+  true,
+  false,
+  cond,
+  ℤ,
+  List,
+  [],
+  ◌∷◌,
+  ◌++◌,
+  length,
+  map,
+  get_or,
+  drop,
+  drop-cons,
+  codes,
+  Some,
+  None,
+  refl,
+  sym,
+  ap,
+  ◌∙◌,
+  subst,
+  arith,
+  length-append,
+  append-nil,
+  eq-eqb,
+  ne_eqb,
+}
 use Rattle.std.proofs.lemmas.Bool.{false≢true, eqb-true}
 use Rattle.std.proofs.lemmas.List.{append_assoc, get_or_append_left}
 use Rattle.algo_tree.specs.declared.Source.{Source}
@@ -128,7 +163,8 @@ one_added old new x more op vertices bodies stands brings ops h =
     }
 
 -- the vertex that stands for an operation
-stands_for : (w : Source → Source) (l : Label) (ins : List Source) (outs : List ℕ) (x : Vertex) (bodies : List (List Expr)) (path : Path) (stage : ℕ) (task : Task) (v : ℕ) → IsOperation w l ins outs x → task_of bodies x.kind ≡ task
+stands_for : (w : Source → Source) (l : Label) (ins : List Source) (outs : List ℕ) (x : Vertex) (bodies : List (List Expr)) (path : Path)
+    (stage : ℕ) (task : Task) (v : ℕ) → IsOperation w l ins outs x → task_of bodies x.kind ≡ task
     → x.name ≡ path_text path ++ half_text task stage → IsTwin v task x.twin → StandsFor bodies v x (operation_of w path stage l ins outs task)
 stands_for w l ins outs x bodies path stage task v is kind name twin = record {
   same = λ i. record {
@@ -145,7 +181,8 @@ stands_for w l ins outs x bodies path stage task v is kind name twin = record {
 }
 
 -- the one operation of a vertex
-pub run_added : (old new : Graph) (w : Source → Source) (l : Label) (x : Vertex) (text : List ℕ) (k : tree.Kind) (t : Kind) (more : List (List Expr)) → new.vertices ≡ old.vertices ++ x ∷ [] → new.bodies ≡ old.bodies ++ more
+pub run_added : (old new : Graph) (w : Source → Source) (l : Label) (x : Vertex) (text : List ℕ) (k : tree.Kind) (t : Kind)
+    (more : List (List Expr)) → new.vertices ≡ old.vertices ++ x ∷ [] → new.bodies ≡ old.bodies ++ more
     → IsOperation w l (map w l.ins) l.outs x → x.name ≡ text → x.kind ≡ t → x.twin ≡ None → task_of new.bodies t ≡ runs k → Brings (length old.bodies) (length more) t
     → (at : Path) → path_text at ≡ text → Adds old new (λ v. operation_of w at 0 l (map w l.ins) l.outs (runs k) ∷ [])
 run_added old new w l x text k t more vertices bodies is name kind twin task brings at named =
@@ -157,7 +194,8 @@ abbrev with_one : Graph → Vertex → Graph
 with_one g x = record { vertices = g.vertices ++ x ∷ []; bodies = g.bodies }
 
 -- the two halves of a stage of a delay
-pub pair_added : (old new : Graph) (w : Source → Source) (l : Label) (i : ℕ) (z : List ℤ) (sources : List Source) (x y : Vertex) (text get_name set_name : List ℕ) (get set : ℕ) → new.vertices ≡ (old.vertices ++ x ∷ []) ++ y ∷ [] → new.bodies ≡ old.bodies
+pub pair_added : (old new : Graph) (w : Source → Source) (l : Label) (i : ℕ) (z : List ℤ) (sources : List Source) (x y : Vertex)
+    (text get_name set_name : List ℕ) (get set : ℕ) → new.vertices ≡ (old.vertices ++ x ∷ []) ++ y ∷ [] → new.bodies ≡ old.bodies
     → get ≡ length old.vertices → set ≡ suc (length old.vertices) → get_name ≡ text ++ (codes ":get" ++ stage_text i) → set_name ≡ text ++ (codes ":set" ++ stage_text i)
     → IsOperation w l [] l.outs x → x.name ≡ get_name → x.kind ≡ Get z → x.twin ≡ Some set → IsOperation w l sources [] y → y.name ≡ set_name → y.kind ≡ Set → y.twin ≡ Some get
     → (at : Path) → path_text at ≡ text → Adds old new (λ v. stage_pair w at i l z sources)
@@ -168,11 +206,13 @@ pair_added old new w l i z sources x y text get_name set_name get set vertices b
     let long : length mid.vertices ≡ suc (length old.vertices) = length-append old.vertices (x ∷ []) ∙ omega arith in
     let a : Adds old mid (λ v. first ∷ []) =
     one_added old mid x [] first refl (sym (append-nil old.bodies))
-    (stands_for w l [] l.outs x old.bodies at i (gets z) (length old.vertices) is (ap (task_of old.bodies) kind) (name ∙ get_named ∙ ap (λ t. t ++ (codes ":get" ++ stage_text i)) (sym named)) (twin ∙ ap Some set_is))
+    (stands_for w l [] l.outs x old.bodies at i (gets z) (length old.vertices) is (ap (task_of old.bodies) kind)
+    (name ∙ get_named ∙ ap (λ t. t ++ (codes ":get" ++ stage_text i)) (sym named)) (twin ∙ ap Some set_is))
     (subst (Brings (length old.bodies) 0) (sym kind) (record { numbered = tt; many = refl })) in
     let b : Adds mid new (λ v. second ∷ []) =
     one_added mid new y [] second vertices (bodies ∙ sym (append-nil old.bodies))
-    (stands_for w l sources [] y new.bodies at i sets (length mid.vertices) is' (ap (task_of new.bodies) kind') (name' ∙ set_named ∙ ap (λ t. t ++ (codes ":set" ++ stage_text i)) (sym named)) (length old.vertices, long, twin' ∙ ap Some get_is))
+    (stands_for w l sources [] y new.bodies at i sets (length mid.vertices) is' (ap (task_of new.bodies) kind')
+    (name' ∙ set_named ∙ ap (λ t. t ++ (codes ":set" ++ stage_text i)) (sym named)) (length old.vertices, long, twin' ∙ ap Some get_is))
     (subst (Brings (length old.bodies) 0) (sym kind') (record { numbered = tt; many = refl })) in
     subst (Built new) (append_assoc ops (first ∷ []) (second ∷ [])) (b (ops ++ first ∷ []) (a ops h))
 
@@ -202,7 +242,8 @@ pub stages_from : (i : ℕ) (vs : List Vector) → i < length vs → drop i vs �
 stages_from i vs lt = let next : suc i ≡ i + 1 = omega arith in drop-cons vs i [] lt ∙ ap (λ k. get_or vs i [] ∷ drop k vs) next
 
 pub stage_added : (old now next : Graph) (w : Source → Source) (at : Path) (l : Label) (i : ℕ) (z : Vector) (sources : List Source) (vs : List Vector) → drop i vs ≡ z ∷ drop (i + 1) vs
-    → sources ≡ stage_input (length now.vertices) (map w l.ins) (drop (i + 1) vs) → Adds now next (λ v. stage_pair w at i l z sources) → StagesRest old now w at l i vs → StagesRest old next w at l (i + 1) vs
+    → sources ≡ stage_input (length now.vertices) (map w l.ins) (drop (i + 1) vs) → Adds now next (λ v. stage_pair w at i l z sources)
+    → StagesRest old now w at l i vs → StagesRest old next w at l (i + 1) vs
 stage_added old now next w at l i z sources vs from takes one so_far last then = so_far last (λ ops h.
     let pair = stage_pair w at i l z sources in
     let rest = drop (i + 1) vs in
@@ -211,9 +252,13 @@ stage_added old now next w at l i z sources vs from takes one so_far last then =
     let next_stage : i + 1 ≡ suc i = omega arith in
     let built : Built last ((ops ++ pair) ++ stages w (length (ops ++ pair)) at l (i + 1) rest) = then (ops ++ pair) (one ops h) in
     let placed : Built last (ops ++ (pair ++ stages w (length ops + 2) at l (suc i) rest)) =
-    subst (Built last) (append_assoc ops pair (stages w (length ops + 2) at l (suc i) rest)) (subst (λ j. Built last ((ops ++ pair) ++ stages w (length ops + 2) at l j rest)) next_stage (subst (λ n. Built last ((ops ++ pair) ++ stages w n at l (i + 1) rest)) long built)) in
+    subst (Built last) (append_assoc ops pair (stages w (length ops + 2) at l (suc i) rest))
+    (subst (λ j. Built last ((ops ++ pair) ++ stages w (length ops + 2) at l j rest)) next_stage
+    (subst (λ n. Built last ((ops ++ pair) ++ stages w n at l (i + 1) rest)) long built)) in
     let wired : Built last (ops ++ stages w (length ops) at l i (z ∷ rest)) =
-    subst (λ ins. Built last (ops ++ (operation_of w at i l [] l.outs (gets z) ∷ operation_of w at i l ins [] sets ∷ stages w (length ops + 2) at l (suc i) rest))) (takes ∙ ap (λ n. stage_input n (map w l.ins) rest) number) placed in
+    subst (λ ins. Built last (ops ++
+    (operation_of w at i l [] l.outs (gets z) ∷ operation_of w at i l ins [] sets ∷ stages w (length ops + 2) at l (suc i) rest)))
+    (takes ∙ ap (λ n. stage_input n (map w l.ins) rest) number) placed in
     subst (λ us. Built last (ops ++ stages w (length ops) at l i us)) (sym from) wired)
 
 pub stages_begin : (g : Graph) (w : Source → Source) (at : Path) (l : Label) (vs : List Vector) → StagesRest g g w at l 0 vs

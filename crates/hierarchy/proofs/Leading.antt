@@ -1,5 +1,39 @@
 -- The table of a level: once a vertex is done, its outputs lead where the wires of the level lead.
-use Rattle.std.proofs.Common.{◌≡◌, ℕ, zero, suc, ◌+◌, ◌<◌, ◌≤◌, inl, inr, List, [], ◌∷◌, ◌++◌, length, get_or, set, map, take, Bool, true, false, Option, Some, None, slice_get, slice_index_or, refl, sym, ap, ap₂, ◌∙◌, subst, arith}
+use Rattle.std.proofs.Common.{
+  ◌≡◌,
+  ℕ,
+  zero,
+  suc,
+  ◌+◌,
+  ◌<◌,
+  ◌≤◌,
+  inl,
+  inr,
+  List,
+  [],
+  ◌∷◌,
+  ◌++◌,
+  length,
+  get_or,
+  set,
+  map,
+  take,
+  Bool,
+  true,
+  false,
+  Option,
+  Some,
+  None,
+  slice_get,
+  slice_index_or,
+  refl,
+  sym,
+  ap,
+  ap₂,
+  ◌∙◌,
+  subst,
+  arith,
+}
 use mathlib.Core.Path.{fun_ext}
 use Rattle.std.proofs.lemmas.Bool.{cases_lt, false≢true}
 use Rattle.algo_tree.specs.declared.Source.{Source}
@@ -123,7 +157,8 @@ module _ (b : ℕ) (own : List Source) (us : List Declared) where
       by_source (Own k) = refl
       by_source (Of q p) = refl
 
-  pub one_led : (before : List ℕ) (leds : List Led) (r : ℕ) (u : Declared) (x : Led) → IsAcyclic (nodes_of us) → r < length us → length leds ≡ length us → MayRun (nodes_of us) before r → AreLed before leds
+  pub one_led : (before : List ℕ) (leds : List Led) (r : ℕ) (u : Declared) (x : Led) → IsAcyclic (nodes_of us) → r < length us
+      → length leds ≡ length us → MayRun (nodes_of us) before r → AreLed before leds
       → Leads (get_or (first_numbers b (vertices_view us)) r 0) (led leds own) (view (get_or us r u)) x → AreLed (before ++ r ∷ []) (set leds r x)
   one_led before leds r u x acyclic lt count may done here q among p =
       let n = get_or (first_numbers b (vertices_view us)) r 0 in
@@ -155,7 +190,8 @@ module _ (b : ℕ) (own : List Source) (us : List Declared) where
   none_led leds r among p = cc
 
 -- the outputs of a vertex
-pub graph_led : (u : Declared) (outs : List Source) → (out-Vertex u).kind ≡ Graph outs → (b : ℕ) (w : Source → Source) (own sources : List Source) (f : Source → Source) → own ≡ map w (out-Vertex u).ins
+pub graph_led : (u : Declared) (outs : List Source) → (out-Vertex u).kind ≡ Graph outs
+    → (b : ℕ) (w : Source → Source) (own sources : List Source) (f : Source → Source) → own ≡ map w (out-Vertex u).ins
     → f ≡ wire (wirings b (vertices_view (inner_of u))) own → sources ≡ map f outs → Leads b w (view u) (row.Graph sources)
 graph_led u outs is b w own sources f from leads are =
     let us = vertices_view (inner_of u) in

@@ -1,5 +1,43 @@
 -- After a round, each vertex that is settled is done.
-use Rattle.std.proofs.Common.{◌≡◌, ℕ, zero, suc, ◌+◌, ◌<◌, inl, inr, List, [], ◌∷◌, ◌++◌, length, get_or, set, take, Bool, true, false, not, ◌&&◌, Option, Some, None, slice_get, refl, sym, ap, ◌∙◌, subst, arith, add-one, get_or-set_other, get_or-set_same, length-append, length-set, replicate}
+use Rattle.std.proofs.Common.{
+  ◌≡◌,
+  ℕ,
+  zero,
+  suc,
+  ◌+◌,
+  ◌<◌,
+  inl,
+  inr,
+  List,
+  [],
+  ◌∷◌,
+  ◌++◌,
+  length,
+  get_or,
+  set,
+  take,
+  Bool,
+  true,
+  false,
+  not,
+  ◌&&◌,
+  Option,
+  Some,
+  None,
+  slice_get,
+  refl,
+  sym,
+  ap,
+  ◌∙◌,
+  subst,
+  arith,
+  add-one,
+  get_or-set_other,
+  get_or-set_same,
+  length-append,
+  length-set,
+  replicate,
+}
 use mathlib.Core.Path.{fun_ext}
 use Rattle.std.proofs.lemmas.Bool.{cases_lt, false≢true}
 use Rattle.std.proofs.lemmas.List.{take-append-le, get_or_append_left, length-replicate}
@@ -31,11 +69,14 @@ module _ (f g : ℕ → Bool) (more : (r : ℕ) → f r ≡ true → g r ≡ tru
   more_guards : (gs : List Guard) → guards_ready f gs ≡ true → guards_ready g gs ≡ true
   more_guards [] h = refl
   more_guards (c ∷ gs) h =
-      both (source_ready g c.source) (guards_ready g gs) (more_source c.source (and-left (source_ready f c.source) (guards_ready f gs) h)) (more_guards gs (and-right (source_ready f c.source) (guards_ready f gs) h))
+      both (source_ready g c.source) (guards_ready g gs) (more_source c.source (and-left (source_ready f c.source) (guards_ready f gs) h))
+      (more_guards gs (and-right (source_ready f c.source) (guards_ready f gs) h))
 
   pub more_ready : (c : Node) → is_ready f c ≡ true → is_ready g c ≡ true
   more_ready c h =
-      both (guards_ready g c.guards) (sources_ready g c.asked) (more_guards c.guards (and-left (guards_ready f c.guards) (sources_ready f c.asked) h)) (more_sources c.asked (and-right (guards_ready f c.guards) (sources_ready f c.asked) h))
+      both (guards_ready g c.guards) (sources_ready g c.asked)
+      (more_guards c.guards (and-left (guards_ready f c.guards) (sources_ready f c.asked) h))
+      (more_sources c.asked (and-right (guards_ready f c.guards) (sources_ready f c.asked) h))
 
   pub more_ready_at : (o : Option Node) → with_node o false (is_ready f) ≡ true → with_node o false (is_ready g) ≡ true
   more_ready_at None h = absurd (false≢true h)
@@ -117,7 +158,8 @@ none_begun cs b none clear = record {
 }
 
 -- node r was not ready, or had run
-pub tried_in_vain : (cs : List Node) (r : ℕ) (c : Node) (b : Begun) → slice_get cs r ≡ Some c → false ≡ (not (is_done b.done.items r) && is_ready (is_done b.done.items) c) → IsBegun cs b → HasTried cs r b b
+pub tried_in_vain : (cs : List Node) (r : ℕ) (c : Node) (b : Begun) → slice_get cs r ≡ Some c → false
+    ≡ (not (is_done b.done.items r) && is_ready (is_done b.done.items) c) → IsBegun cs b → HasTried cs r b b
 tried_in_vain cs r c b is answer begun = record {
   begun = begun;
   still = λ q h. h;

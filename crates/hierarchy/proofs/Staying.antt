@@ -79,7 +79,8 @@ module _ (v : Vertex-F Vertex) (un : IsUnguarded v) where
 
   graph_stays : (outs : List Source) → v.kind ≡ Graph outs → StayGuarded v.inner.items → under (Graph outs) ≡ vertex (label_view v) inside_of
   graph_stays outs is inside =
-      ap₂ vertex (ap (λ (ss : List Source). label (map (shift 0) v.ins) [] (graph ss)) (not_shifted outs) ∙ same_label (Graph outs) is [] (sym un.guards) (map (shift 0) v.ins) (not_shifted v.ins)) inside
+      ap₂ vertex (ap (λ (ss : List Source). label (map (shift 0) v.ins) [] (graph ss)) (not_shifted outs)
+      ∙ same_label (Graph outs) is [] (sym un.guards) (map (shift 0) v.ins) (not_shifted v.ins)) inside
 
   by_kind : (k : Kind) → v.kind ≡ k → IsGraphOrOperation k v.inner.items → StayGuarded v.inner.items → under k ≡ vertex (label_view v) inside_of
   by_kind (Graph outs) is at inside = graph_stays outs is inside

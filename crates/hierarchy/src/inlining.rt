@@ -9,7 +9,7 @@ ghost use Rattle.algo_tree.specs.View.{view, vertices_view};
 ghost use Rattle.algo_tree.specs.Well.{AllWell, IsWell};
 ghost use Rattle.flat_laws.specs.Plain.{AllPlain, IsPlain};
 ghost use Rattle.flat_laws.specs.Inlined.{inlined, inlined_all, inlined_level, operations};
-ghost use Rattle.algo_tree.specs.Named.{AllNamed, HasNames, IsNamed};
+ghost use Rattle.algo_tree.specs.Named.{AllNamed, IsNamed};
 ghost use Rattle.hierarchy.specs.Order.{nodes_of};
 ghost use Rattle.flat_laws.specs.Numbering.{HasBodiesInOrder};
 ghost use Rattle.flat_laws.specs.Stands.{Stands};
@@ -29,8 +29,7 @@ use syn_base::{OutOfMemory, to_u32};
 
 /// The operations of a tree without repetitions and cases, and the bodies of its functions.
 pub fn inline(alloc: Global, tree: &Tree) -> Result<Inlined, OutOfMemory>
-    requires plain { IsPlain tree.now }
-    requires names { HasNames tree.now }
+    requires { IsPlain tree.now }
     ensures stands { IfOk result (λ all. Stands (graph_of all) (operations tree.now)) }
     ensures order { IfOk result (λ all. HasBodiesInOrder (graph_of all)) }
 {
@@ -41,7 +40,6 @@ pub fn inline(alloc: Global, tree: &Tree) -> Result<Inlined, OutOfMemory>
 fn inline_main(alloc: Global, main: &Vertex) -> Result<Inlined, OutOfMemory>
     requires tree { IsTree (view main.now) }
     requires plain { IsPlain (view main.now) }
-    requires names { HasNames (view main.now) }
     ensures stands { IfOk result (λ all. Stands (graph_of all) (operations (view main.now))) }
     ensures order { IfOk result (λ all. HasBodiesInOrder (graph_of all)) }
 {

@@ -7,8 +7,6 @@ ghost use Rattle.flat_laws.specs.Stands.{KeepsGraph, Stands};
 ghost use Rattle.flat_laws.specs.Guarded.{guard as guarded};
 ghost use Rattle.flat_laws.specs.Inlined.{operations};
 ghost use Rattle.flat_laws.specs.Listed.{HasOperations};
-ghost use Rattle.algo_tree.specs.Bounded.{HasBounds};
-ghost use Rattle.algo_tree.specs.Named.{HasNames};
 ghost use Rattle.flat_laws.specs.Unrolled.{unroll as unrolled};
 ghost use Rattle.flat_laws.specs.Numbering.{HasBodiesInOrder};
 ghost use Rattle.hierarchy.specs.Built.{graph_of};
@@ -30,8 +28,6 @@ use syn_base::OutOfMemory;
 /// each case around it, outer first, by the value that conditions the switch, and no other guard. Its sensors
 /// and actuators have the lengths of the tree's.
 pub fn flatten(alloc: Global, tree: &Tree) -> Result<Flat, OutOfMemory>
-    requires names { HasNames tree.now }
-    requires bounds { HasBounds tree.now }
     ensures same { IfOk result (λ g. g ≡ flat_of tree.now) }
     ensures stands { IfOk result (λ g. Stands g (operations (guarded (unrolled tree.now)))) }
     ensures kept { IfOk result (λ g. KeepsGraph tree.now g (operations (guarded (unrolled tree.now)))) }
@@ -47,10 +43,8 @@ pub fn flatten(alloc: Global, tree: &Tree) -> Result<Flat, OutOfMemory>
 
 /// The operations of a tree after both passes. One without repetitions need not be unrolled.
 fn inline_unrolled(alloc: Global, tree: &Tree) -> Result<Inlined, OutOfMemory>
-    requires names { HasNames tree.now }
     ensures stands { IfOk result (λ all. Stands (graph_of all) (operations (guarded (unrolled tree.now)))) }
     ensures order { IfOk result (λ all. HasBodiesInOrder (graph_of all)) }
-    ensures names { IfOk result (λ _. HasNames (guarded (unrolled tree.now))) }
 {
     if has_no_repeat(tree.main()) {
         return inline_guarded(alloc, tree);
@@ -64,11 +58,9 @@ fn inline_unrolled(alloc: Global, tree: &Tree) -> Result<Inlined, OutOfMemory>
 /// The operations of a tree without repetitions after its cases are put under guards. One without cases needs no
 /// guards.
 fn inline_guarded(alloc: Global, tree: &Tree) -> Result<Inlined, OutOfMemory>
-    requires repeats { HasNoRepeat tree.now }
-    requires names { HasNames tree.now }
+    requires { HasNoRepeat tree.now }
     ensures stands { IfOk result (λ all. Stands (graph_of all) (operations (guarded tree.now))) }
     ensures order { IfOk result (λ all. HasBodiesInOrder (graph_of all)) }
-    ensures names { IfOk result (λ _. HasNames (guarded tree.now)) }
 {
     if has_no_case(tree.main()) {
         return inline(alloc, tree);

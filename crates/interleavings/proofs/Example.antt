@@ -108,7 +108,8 @@ reader_signals = record {
     alone (suc (suc s)) n h = nowhere (is_signal 0) s n
 
 -- the other three tests are owned by one late place each
-late_owned : (p : Micro → Bool) (s a : ℕ) → s < 2 → IsSite p (codes s) (record { first = 0; early = 0; place = a }) → ((t n : ℕ) → (t ≡ s → ⊥) → hit p (step_at (codes t) n) ≡ 0) → IsOwned example p (late s a)
+late_owned : (p : Micro → Bool) (s a : ℕ) → s < 2 → IsSite p (codes s) (record { first = 0; early = 0; place = a })
+    → ((t n : ℕ) → (t ≡ s → ⊥) → hit p (step_at (codes t) n) ≡ 0) → IsOwned example p (late s a)
 late_owned p s a h site alone = record { here = h; site = site; alone = alone }
 
 writer_signals : IsOwned example (is_signal 1) (late 0 2)
@@ -128,7 +129,16 @@ writer_signals = late_owned (is_signal 1) 0 2 (omega arith)
 
 reader_takes : IsOwned example (is_take 1) (late 1 0)
 reader_takes = late_owned (is_take 1) 1 0 (omega arith)
-    (record { within = omega arith; here = refl; only = only; within_early = omega arith; here_early = λ i a b. absurd (omega arith); before_early = λ i a. absurd (omega arith); after_early = λ i a. one (is_take 1) (signal 0) refl i }) alone
+    (record {
+      within = omega arith;
+      here = refl;
+      only = only;
+      within_early = omega arith;
+      here_early =
+          λ i a b. absurd (omega arith);
+      before_early = λ i a. absurd (omega arith);
+      after_early = λ i a. one (is_take 1) (signal 0) refl i;
+    }) alone
   where
     only : (i : ℕ) → (i ≡ 0 → ⊥) → hit (is_take 1) (slice_get (codes 1).turn i) ≡ 0
     only zero h = absurd (h refl)
@@ -324,10 +334,12 @@ synchronized = record {
   joined = joined;
   binary = λ s l x e. binary_at x (⊎_elim (λ q. inl q.2) (λ q. inr q.2) (take_in s l x (inl e)));
   signalled = λ s n x e. ⊎_elim (λ q. subst Signalled (sym q) (0, 0, 0, empty_is)) (λ q. subst Signalled (sym q) (1, 0, 0, full_is)) (signal_in s n x e);
-  loads = λ s l y i e. let q = load_in s l y i e in inr (inl (subst (λ (a : ℕ). IsPairLoad example signaller half a l y i) (sym q.0) (subst (λ (a : ℕ). IsPairLoad example signaller half 1 a y i) (sym q.1)
+  loads = λ s l y i e. let q = load_in s l y i e in
+      inr (inl (subst (λ (a : ℕ). IsPairLoad example signaller half a l y i) (sym q.0) (subst (λ (a : ℕ). IsPairLoad example signaller half 1 a y i) (sym q.1)
       (subst (λ (a : ℕ). IsPairLoad example signaller half 1 1 a i) (sym q.2) (subst (λ (a : ℕ). IsPairLoad example signaller half 1 1 0 a) (sym q.3) pair_load)))));
   stores = λ s l y i e. let q = store_in s l y i e in inl (record {
-    buffer = subst (λ (a : ℕ). IsBuffer example signaller half y a l) (sym q.0) (subst (λ (a : ℕ). IsBuffer example signaller half y 0 a) (sym q.1) (subst (λ (a : ℕ). IsBuffer example signaller half a 0 1) (sym q.2) buffer_is));
+    buffer = subst (λ (a : ℕ). IsBuffer example signaller half y a l) (sym q.0)
+        (subst (λ (a : ℕ). IsBuffer example signaller half y 0 a) (sym q.1) (subst (λ (a : ℕ). IsBuffer example signaller half a 0 1) (sym q.2) buffer_is));
     first = q.3;
   });
 }

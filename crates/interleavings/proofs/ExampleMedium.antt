@@ -58,7 +58,21 @@ abbrev NotHit : (Micro → Bool) → Option Micro → Type 0
 NotHit p m = hit p m ≡ 0
 
 send_owned : IsOwned example (advances_half 0 0) (owner_of (half 0 0))
-send_owned = record { here = omega arith; site = record { within = omega arith; here = refl; only = only; within_early = omega arith; here_early = λ i a b. absurd (omega arith); before_early = λ i a. refl; after_early = λ i a. refl }; alone = alone }
+send_owned = record {
+  here = omega arith;
+  site =
+      record {
+        within = omega arith;
+        here = refl;
+        only = only;
+        within_early = omega arith;
+        here_early =
+            λ i a b. absurd (omega arith);
+        before_early = λ i a. refl;
+        after_early = λ i a. refl;
+      };
+  alone = alone;
+}
   where
     only : (i : ℕ) → (i ≡ 2 → ⊥) → hit (advances_half 0 0) (slice_get (codes 0).turn i) ≡ 0
     only zero h = refl
@@ -72,7 +86,21 @@ send_owned = record { here = omega arith; site = record { within = omega arith; 
     alone (suc (suc s)) n h = each (NotHit (advances_half 0 0)) (suc (suc s)) (λ i. refl) (λ i. refl) n
 
 receive_owned : IsOwned example (advances_half 0 1) (owner_of (half 0 1))
-receive_owned = record { here = omega arith; site = record { within = omega arith; here = refl; only = only; within_early = omega arith; here_early = λ i a b. absurd (omega arith); before_early = λ i a. refl; after_early = λ i a. refl }; alone = alone }
+receive_owned = record {
+  here = omega arith;
+  site =
+      record {
+        within = omega arith;
+        here = refl;
+        only = only;
+        within_early = omega arith;
+        here_early =
+            λ i a b. absurd (omega arith);
+        before_early = λ i a. refl;
+        after_early = λ i a. refl;
+      };
+  alone = alone;
+}
   where
     only : (i : ℕ) → (i ≡ 2 → ⊥) → hit (advances_half 0 1) (slice_get (codes 1).turn i) ≡ 0
     only zero h = refl
@@ -106,7 +134,21 @@ abbrev Stored : Option Micro → Type 0
 Stored m = hit (stores 0) m ≡ sum_below (λ i. hit (stores_access 0 i) m) 1
 
 store_owned : IsOwned example (stores_access 0 0) (writer_of example half 0 (λ _. 0) (λ _. 1) 0)
-store_owned = record { here = omega arith; site = record { within = omega arith; here = refl; only = only; within_early = omega arith; here_early = λ i a b. absurd (omega arith); before_early = λ i a. refl; after_early = λ i a. refl }; alone = alone }
+store_owned = record {
+  here = omega arith;
+  site =
+      record {
+        within = omega arith;
+        here = refl;
+        only = only;
+        within_early = omega arith;
+        here_early =
+            λ i a b. absurd (omega arith);
+        before_early = λ i a. refl;
+        after_early = λ i a. refl;
+      };
+  alone = alone;
+}
   where
     only : (i : ℕ) → (i ≡ 1 → ⊥) → hit (stores_access 0 0) (slice_get (codes 0).turn i) ≡ 0
     only zero h = refl

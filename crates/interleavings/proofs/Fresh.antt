@@ -59,7 +59,8 @@ module _ {P : Type 0} (w : System P) (signaller : ℕ → Owner) (half : ℕ →
       let h1 = x.store_after in let h2 = x.store_before in let h3 = x.load_after in let h4 = x.load_before in
       let o1 = later_le (is_take q.empty) (stores y) (w.codes q.writer) _ _ o.empty_is.taken.site b.written.site refl (omega arith) (c q.writer) in
       let o2 = later_le (stores y) (is_signal q.full) (w.codes q.writer) _ _ b.written.site fu.site refl (omega arith) (c q.writer) in
-      let x1 = takes_le w signaller half rank c k q.empty q.writer q.ask_empty q.take_empty o.empty_is in let x2 = takes_le w signaller half rank c k q.full q.reader q.ask_full q.take_full o.full_is in (
+      let x1 = takes_le w signaller half rank c k q.empty q.writer q.ask_empty q.take_empty o.empty_is in
+      let x2 = takes_le w signaller half rank c k q.full q.reader q.ask_full q.take_full o.full_is in (
         λ m. let m' = subst (λ (u : ℕ). number_of (w.codes u) j l < c u) x.same m in
             let z = passed_at (is_take q.full) (w.codes q.reader) _ o.full_is.taken.site (c q.reader) j l (omega arith) m' in omega (arith, e),
         λ m. let m' = subst (λ (u : ℕ). c u ≤ number_of (w.codes u) j l) x.same m in
@@ -106,7 +107,8 @@ module _ {P : Type 0} (w : System P) (signaller : ℕ → Owner) (half : ℕ →
           (λ q. q) (cases_lt (round + w.depth y) (total w (stores y) c))
 
 -- By totals: where a load was made its round is among those stored, and until it is made no later round that uses its place is.
-module _ {P : Type 0} (w : System P) (signaller : ℕ → Owner) (half : ℕ → ℕ → Half) (rank : Event → ℕ) (d : IsSynchronized w signaller half) (c : ℕ → ℕ) (k : IsConsistent (precedence w signaller half rank) c) where
+module _ {P : Type 0} (w : System P) (signaller : ℕ → Owner) (half : ℕ → ℕ → Half) (rank : Event → ℕ) (d : IsSynchronized w signaller half)
+    (c : ℕ → ℕ) (k : IsConsistent (precedence w signaller half rank) c) where
   by_total : (s l y i j : ℕ) → slice_get (w.codes s).turn l ≡ Some (load y i)
       → (number_of (w.codes s) j l < c s → j * w.period y + i < total w (stores y) c) × (c s ≤ number_of (w.codes s) j l → total w (stores y) c ≤ j * w.period y + i + w.depth y)
   by_total s l y i j e = let n = slice_get_within (w.codes s).turn l (load y i) e in
@@ -147,7 +149,8 @@ module _ {P : Type 0} (w : System P) (signaller : ℕ → Owner) (half : ℕ →
   buffer_stored : (y s st t : ℕ) → IsBuffer w signaller half y s st → t < total w (stores y) c → IsStored w c y t
   buffer_stored y s st t b l =
       let h = hit_store y (slice_get (w.codes s).turn st) b.written.site.here in
-      let z = ⊎_elim (λ (x : IsBufferStore w signaller half s st y h.0). x.first) (λ (x : IsToWire w signaller half s st y h.0). let a = x.within in let o = b.once in let r : h.0 ≡ 0 = omega arith in r) (d.stores s st y h.0 h.1) in
+      let z = ⊎_elim (λ (x : IsBufferStore w signaller half s st y h.0). x.first)
+      (λ (x : IsToWire w signaller half s st y h.0). let a = x.within in let o = b.once in let r : h.0 ≡ 0 = omega arith in r) (d.stores s st y h.0 h.1) in
       let m = (total_nth w (stores y) (late s st) b.written c t).0 l in
       let n = nth_late (w.codes s) st t in record {
         sequence = s;

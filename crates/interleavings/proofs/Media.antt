@@ -174,7 +174,8 @@ module _ {P : Type 0} (w : System P) (signaller : ℕ → Owner) (half : ℕ →
       -- and before its half's advance
       advanced_stored : IsMade c (turn_event (half_at (j * p + i))) → IsMade c (store_event (j * p + i))
       advanced_stored q = subst (IsMade c) (sym event_is)
-          (let e : turn_event (half_at (j * p + i)) ≡ nth_of w (own (half_of i)) j = ap turn_event (half_at_number j i h) ∙ nth_at w H (advances m) (advances_half m) own o.family j (half_of i) half_in in
+          (let e : turn_event (half_at (j * p + i)) ≡ nth_of w (own (half_of i)) j = ap turn_event (half_at_number j i h)
+          ∙ nth_at w H (advances m) (advances_half m) own o.family j (half_of i) half_in in
           let t : IsMade c (nth_of w (own (half_of i)) j) = subst (IsMade c) e q in
           let n = nth_late (w.codes S) (half m (half_of i)).advances j in let b = x.before_advance i h in
           let g : number_of (w.codes S) j (place_of i) < c S = omega arith in g)
@@ -184,7 +185,8 @@ module _ {P : Type 0} (w : System P) (signaller : ℕ → Owner) (half : ℕ →
 
     pub stored_before : (r : ℕ) → IsMade c (store_event r) → (a : ℕ) → a < half_at r → IsMade c (turn_event a)
     stored_before r = at_round r (λ n. IsMade c (store_event n) → (a : ℕ) → a < half_at n → IsMade c (turn_event a))
-        (λ j i h q. store_waited j i h (let g : number_of (w.codes (half m (half_of i)).sequence) j (place_of i) < c (half m (half_of i)).sequence = subst (IsMade c) (event_is j i h) q in omega arith))
+        (λ j i h q. store_waited j i h (let g : number_of (w.codes (half m (half_of i)).sequence) j (place_of i)
+        < c (half m (half_of i)).sequence = subst (IsMade c) (event_is j i h) q in omega arith))
 
     pub advanced_store : (r : ℕ) → IsMade c (turn_event (half_at r)) → IsMade c (store_event r)
     advanced_store r = at_round r (λ n. IsMade c (turn_event (half_at n)) → IsMade c (store_event n)) (λ j i h. advanced_stored j i h)
@@ -214,7 +216,8 @@ module _ {P : Type 0} (w : System P) (signaller : ℕ → Owner) (half : ℕ →
 
         most : total w (stores y) c ≤ j * p + i + w.depth y
         most = let one = x.single in ⊎_elim
-            (λ l'. let t = stored_before (suc (j * p + i)) ((store_law (suc (j * p + i))).0 (omega arith)) (j * H + (half_of i + 1)) (let a = half_next (j * p + i) in omega (arith, half_at_number j i h)) in
+            (λ l'. let t = stored_before (suc (j * p + i)) ((store_law (suc (j * p + i))).0 (omega arith)) (j * H + (half_of i + 1))
+            (let a = half_next (j * p + i) in omega (arith, half_at_number j i h)) in
             let u : IsMade c (nth_of w (own (half_of i + 1)) j) = subst (IsMade c) (nth_at w H (advances m) (advances_half m) own o.family j (half_of i + 1) inside) t in
             let n = nth_late (w.codes R) (half m (half_of i + 1)).advances j in let b = z.before_advance in absurd (omega (arith, at)))
             (λ l'. l') (cases_lt (j * p + i + w.depth y) (total w (stores y) c))
@@ -225,7 +228,8 @@ module _ {P : Type 0} (w : System P) (signaller : ℕ → Owner) (half : ℕ →
       where
         not_made : total w (stores y) c ≤ j * p + i
         not_made = ⊎_elim
-            (λ l. let t : number_of (w.codes (half m (half_of i)).sequence) j (place_of i) < c (half m (half_of i)).sequence = subst (IsMade c) (event_is j i h) ((store_law (j * p + i)).0 l) in absurd (omega arith))
+            (λ l. let t : number_of (w.codes (half m (half_of i)).sequence) j (place_of i)
+            < c (half m (half_of i)).sequence = subst (IsMade c) (event_is j i h) ((store_law (j * p + i)).0 l) in absurd (omega arith))
             (λ l. l) (cases_lt (j * p + i) (total w (stores y) c))
 
         by : (r : ℕ) → j * p + i ≡ r → total w (stores y) c ≡ j * p + i

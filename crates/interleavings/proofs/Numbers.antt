@@ -18,4 +18,5 @@ module _ {A : Type 0} (c : Code A) where
   row_below i j h = let m : suc i * length c.turn ≤ j * length c.turn = mul-le-mul_right (length c.turn) h in omega (arith, suc-mul i (length c.turn))
 
   pub number_split : (n : ℕ) → length c.prologue ≤ n → n ≡ number_of c (reaction_at c n) (place_at c n)
-  number_split n f = let e : (n - length c.prologue) / length c.turn * length c.turn + (n - length c.prologue) % length c.turn ≡ n - length c.prologue = div-add-mod' (n - length c.prologue) (length c.turn) in omega arith
+  number_split n f = let e : (n - length c.prologue) / length c.turn * length c.turn + (n - length c.prologue) % length c.turn
+      ≡ n - length c.prologue = div-add-mod' (n - length c.prologue) (length c.turn) in omega arith

@@ -28,7 +28,8 @@ module _ {P : Type 0} (w : System P) where
       by (inl l) = let i : ℕ = passes p (w.codes s) (number_of (w.codes s) j b) in
           let m : suc i * length (w.codes s).turn ≤ j * length (w.codes s).turn = mul-le-mul_right (length (w.codes s).turn) l in
           let n = nth_late (w.codes s) a i in let q = o.site.within in
-          let z = (nth_made p (w.codes s) (record { first = 0; early = 0; place = a }) o.site (number_of (w.codes s) j b) i).1 (omega (arith, suc-mul i (length (w.codes s).turn))) in absurd (omega arith)
+          let z = (nth_made p (w.codes s) (record { first = 0; early = 0; place = a }) o.site (number_of (w.codes s) j b) i).1
+          (omega (arith, suc-mul i (length (w.codes s).turn))) in absurd (omega arith)
       by (inr l) = omega (arith, up)
 
 module _ {P : Type 0} (w : System P) (signaller : ℕ → Owner) (half : ℕ → ℕ → Half) (rank : Event → ℕ) (c : ℕ → ℕ) (k : IsConsistent (precedence w signaller half rank) c) where
@@ -37,7 +38,9 @@ module _ {P : Type 0} (w : System P) (signaller : ℕ → Owner) (half : ℕ →
     needs_of : (j : ℕ) → needed w signaller half (event t (number_of (w.codes t) j asks)) (step_at (w.codes t) (number_of (w.codes t) j asks)) ≡ Some (nth_of w (signaller x) j)
     needs_of j = ⊎_elim (λ q. by (take x) q refl) (λ q. by (see x) q refl) o.asked
       where
-        by : (m : Micro) → slice_get (w.codes t).turn asks ≡ Some m → needed w signaller half (event t (number_of (w.codes t) j asks)) (Some m) ≡ Some (nth_of w (signaller x) (passes (is_take x) (w.codes t) (number_of (w.codes t) j asks)))
+        by : (m : Micro) → slice_get (w.codes t).turn asks ≡ Some m
+            → needed w signaller half (event t (number_of (w.codes t) j asks)) (Some m)
+            ≡ Some (nth_of w (signaller x) (passes (is_take x) (w.codes t) (number_of (w.codes t) j asks)))
             → needed w signaller half (event t (number_of (w.codes t) j asks)) (step_at (w.codes t) (number_of (w.codes t) j asks)) ≡ Some (nth_of w (signaller x) j)
         by m q n = let l : asks < length (w.codes t).turn = slice_get_within (w.codes t).turn asks m q in
             ap (needed w signaller half (event t (number_of (w.codes t) j asks))) (step_there (w.codes t) j asks l ∙ q) ∙ n
@@ -81,10 +84,12 @@ module _ {P : Type 0} (w : System P) (signaller : ℕ → Owner) (half : ℕ →
 
     -- the two semaphores of a pair hold together at most as many as its buffer has places
     pub at_most : (total w (is_signal q.empty) c ≤ total w (is_take q.empty) c + q.depth) × (total w (is_signal q.full) c ≤ total w (is_take q.full) c + q.depth)
-    at_most = let a = writer_order in let b = reader_order in let e = takes_le q.empty q.writer q.ask_empty q.take_empty o.empty_is in let f = takes_le q.full q.reader q.ask_full q.take_full o.full_is in (omega arith, omega arith)
+    at_most = let a = writer_order in let b = reader_order in let e = takes_le q.empty q.writer q.ask_empty q.take_empty o.empty_is in
+        let f = takes_le q.full q.reader q.ask_full q.take_full o.full_is in (omega arith, omega arith)
 
     -- A load between the reader's take and its signal, of an element that is stored between the writer's take and its signal: its round was stored, and fewer later ones than the buffer has places.
-    pub buffer_load : (y st l j : ℕ) → IsOwned w (stores y) (late q.writer st) → q.take_empty < st → st < q.signal_full → q.take_full < l → l < q.signal_empty → c q.reader ≡ number_of (w.codes q.reader) j l
+    pub buffer_load : (y st l j : ℕ) → IsOwned w (stores y) (late q.writer st) → q.take_empty < st → st < q.signal_full → q.take_full < l
+        → l < q.signal_empty → c q.reader ≡ number_of (w.codes q.reader) j l
         → (j < total w (stores y) c) × (total w (stores y) c ≤ j + q.depth)
     buffer_load y st l j v h1 h2 h3 h4 at =
         let te = total_owned w (is_take q.empty) (late q.writer q.take_empty) o.empty_is.taken c in let se = total_owned w (is_signal q.empty) _ empties c in

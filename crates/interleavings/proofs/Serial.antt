@@ -131,8 +131,10 @@ module _ {P : Type 0} (w : System P) (signaller : ℕ → Owner) (half : ℕ →
 
     -- what waits for half i of reaction k, whose number is i more than the halves before
     module _ (m : ℕ) (x : IsMedium w signaller half m) where
-      turn_is : (j i : ℕ) → i < w.halves m → nth_in w (w.halves m) (λ n. owner_of (half m n)) (j * w.halves m + i) ≡ event (half m i).sequence (number_of (w.codes (half m i).sequence) j (half m i).advances)
-      turn_is j i h = nth_at w (w.halves m) (Woven.advances m) (advances_half m) (λ n. owner_of (half m n)) x.family j i h ∙ ap (event (half m i).sequence) (nth_late (w.codes (half m i).sequence) (half m i).advances j)
+      turn_is : (j i : ℕ) → i < w.halves m → nth_in w (w.halves m) (λ n. owner_of (half m n)) (j * w.halves m + i)
+          ≡ event (half m i).sequence (number_of (w.codes (half m i).sequence) j (half m i).advances)
+      turn_is j i h = nth_at w (w.halves m) (Woven.advances m) (advances_half m) (λ n. owner_of (half m n)) x.family j i h
+          ∙ ap (event (half m i).sequence) (nth_late (w.codes (half m i).sequence) (half m i).advances j)
 
       abbrev Turn : ℕ → Type 0
       Turn b = Earlier (nth_in w (w.halves m) (λ n. owner_of (half m n)) b) (event s (number_of (w.codes s) k l))
@@ -163,14 +165,16 @@ module _ {P : Type 0} (w : System P) (signaller : ℕ → Owner) (half : ℕ →
       abbrev This : Event
       This = event s (number_of (w.codes s) k l)
 
-      waits_for : (m i : ℕ) (e : Bool) → slice_get (w.codes s).turn l ≡ Some (await m i e) → IsMedium w signaller half m → ((j : ℕ) → i ≡ j + 1 → j < w.halves m) → (n : ℕ) → k * w.halves m + i ≡ n → needed_turn w signaller half m n ≡ Some f → Earlier f This
+      waits_for : (m i : ℕ) (e : Bool) → slice_get (w.codes s).turn l ≡ Some (await m i e) → IsMedium w signaller half m
+          → ((j : ℕ) → i ≡ j + 1 → j < w.halves m) → (n : ℕ) → k * w.halves m + i ≡ n → needed_turn w signaller half m n ≡ Some f → Earlier f This
       waits_for m i e q x h zero g v = absurd (clash v)
       waits_for m i e q x h (suc b) g v = subst (λ (u : Event). Earlier u This) (same_Some _ f v) (by i refl)
         where
           by : (j : ℕ) → i ≡ j → Earlier (nth_in w (w.halves m) (λ n. owner_of (half m n)) b) This
           by zero z = waited_before s k l inside fits m x b (let y : k * w.halves m + i ≡ k * w.halves m + 0 = ap (λ (j : ℕ). k * w.halves m + j) z in omega (arith, y))
           by (suc j) z = let y : i ≡ j + 1 = z ∙ sym (add-one j) in
-              waited_same s k l inside fits m x j b e (q ∙ ap (λ (n : ℕ). Some (await m n e)) y) (h j y) (let y' : k * w.halves m + i ≡ k * w.halves m + (j + 1) = ap (λ (n : ℕ). k * w.halves m + n) y in omega (arith, y'))
+              waited_same s k l inside fits m x j b e (q ∙ ap (λ (n : ℕ). Some (await m n e)) y) (h j y)
+              (let y' : k * w.halves m + i ≡ k * w.halves m + (j + 1) = ap (λ (n : ℕ). k * w.halves m + n) y in omega (arith, y'))
 
       half_is : (m i : ℕ) → half_number w s (number_of (w.codes s) k l) m i ≡ k * w.halves m + i
       half_is m i = ap (λ (z : ℕ). z * w.halves m + i) (reaction_number (w.codes s) k l inside)
@@ -206,7 +210,8 @@ module _ {P : Type 0} (w : System P) (signaller : ℕ → Owner) (half : ℕ →
     in_turn s n f h l = let i = turn_inside s n h l in let e = number_split (w.codes s) n h in
         subst (λ (x : ℕ). x < full w s → Goal (event s x) f) (sym e)
         (λ fits v. by_turn s (reaction_at (w.codes s) n) (place_at (w.codes s) n) i fits f (slice_get (w.codes s).turn (place_at (w.codes s) n)) refl
-        (ap (needed w signaller half (event s (number_of (w.codes s) (reaction_at (w.codes s) n) (place_at (w.codes s) n)))) (sym (step_there (w.codes s) (reaction_at (w.codes s) n) (place_at (w.codes s) n) i)) ∙ v)) l
+        (ap (needed w signaller half (event s (number_of (w.codes s) (reaction_at (w.codes s) n) (place_at (w.codes s) n))))
+        (sym (step_there (w.codes s) (reaction_at (w.codes s) n) (place_at (w.codes s) n) i)) ∙ v)) l
 
     needs_earlier : (e f : Event) → IsEvent (precedence w signaller half rank) e → Goal e f
     needs_earlier e f h = ⊎_elim (λ x. in_front e.sequence e.number f x) (λ x. in_turn e.sequence e.number f x h.1) (cases_lt e.number (length (w.codes e.sequence).prologue))

@@ -8,7 +8,30 @@ use Rattle.interleavings.specs.Sites.{step_at, reaction_at, place_at, passes, nu
 use Rattle.interleavings.proofs.Numbers.{reaction_number, number_split}
 use Rattle.interleavings.proofs.Between.{passes_from, passes_not_past}
 use Rattle.interleavings.proofs.Cuts.{progress}
-use Rattle.interleavings.specs.System.{System, State, Micro, take, see, sub, signal, await, advance, load, store, is_take, is_signal, stores, total, run, told, enabled, enabled_by, full, next, round_number}
+use Rattle.interleavings.specs.System.{
+  System,
+  State,
+  Micro,
+  take,
+  see,
+  sub,
+  signal,
+  await,
+  advance,
+  load,
+  store,
+  is_take,
+  is_signal,
+  stores,
+  total,
+  run,
+  told,
+  enabled,
+  enabled_by,
+  full,
+  next,
+  round_number,
+}
 use Rattle.interleavings.specs.Owners.{Owner, nth_of}
 use Rattle.interleavings.specs.Media.{Half, needed, precedence}
 use Rattle.interleavings.specs.Pairs.{IsSemaphore, late}
@@ -131,7 +154,8 @@ module _ {P : Type 0} (w : System P) (signaller : ℕ → Owner) (half : ℕ →
         p = d.joined.prologue s (c s) m (sym at ∙ e)
 
     in_turn : length (w.codes s).prologue ≤ c s → (m : Micro) → step_at (w.codes s) (c s) ≡ Some m → IsSoundAt w (precedence w signaller half rank) c s m
-    in_turn h m e = sound_at (reaction_at (w.codes s) (c s)) (place_at (w.codes s) (c s)) (number_split (w.codes s) (c s) h) (slice_get_within (w.codes s).turn (place_at (w.codes s) (c s)) m (sym at ∙ e)) m (sym at ∙ e) e
+    in_turn h m e = sound_at (reaction_at (w.codes s) (c s)) (place_at (w.codes s) (c s)) (number_split (w.codes s) (c s) h)
+        (slice_get_within (w.codes s).turn (place_at (w.codes s) (c s)) m (sym at ∙ e)) m (sym at ∙ e) e
       where
         at : step_at (w.codes s) (c s) ≡ slice_get (w.codes s).turn (place_at (w.codes s) (c s))
         at = rw (le-ltb (c s) (length (w.codes s).prologue) h) refl
@@ -165,12 +189,15 @@ laws {P} w signaller half spot steps front stored owned d o v = record {
     told' list = told_always w (precedence w signaller half (rank_by w spot steps front)) stored owned (λ s. refl) (sound w signaller half (rank_by w spot steps front) d) v list
 
     found_in : (c : ℕ → ℕ) → IsConsistent (precedence w signaller half (rank_by w spot steps front)) c → (s : ℕ) (m : Micro) → next w c s ≡ Some m → Finds w stored owned c s m
-    found_in c k s m n = let a = next_is w c s m n in finds_at w (precedence w signaller half (rank_by w spot steps front)) stored owned c s m (sound w signaller half (rank_by w spot steps front) d c s m k a.0 a.1 a.2)
+    found_in c k s m n = let a = next_is w c s m n in
+        finds_at w (precedence w signaller half (rank_by w spot steps front)) stored owned c s m
+        (sound w signaller half (rank_by w spot steps front) d c s m k a.0 a.1 a.2)
 
     step_is : (c : ℕ → ℕ) (s : ℕ) → c s < full w s → (m : Micro) × (step_at (w.codes s) (c s) ≡ Some m)
     step_is c s l = ⊎_elim
         (λ h. let a = is_some (w.codes s).prologue (c s) h in (a.0, rw (lt-ltb (c s) (length (w.codes s).prologue) h) a.1))
-        (λ h. let a = is_some (w.codes s).turn (place_at (w.codes s) (c s)) (turn_inside w signaller half spot steps front o s (c s) h l) in (a.0, rw (le-ltb (c s) (length (w.codes s).prologue) h) a.1))
+        (λ h. let a = is_some (w.codes s).turn (place_at (w.codes s) (c s))
+        (turn_inside w signaller half spot steps front o s (c s) h l) in (a.0, rw (le-ltb (c s) (length (w.codes s).prologue) h) a.1))
         (cases_lt (c s) (length (w.codes s).prologue))
 
     ready_enabled : (c : ℕ → ℕ) (s : ℕ) → IsConsistent (precedence w signaller half (rank_by w spot steps front)) c → s < w.sequences

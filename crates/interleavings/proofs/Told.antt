@@ -1,11 +1,80 @@
 -- Every run is what its counts tell.
-use Rattle.std.proofs.Common.{◌≡◌, ℕ, zero, suc, ◌+◌, ◌-◌, ◌%◌, ◌<◌, ◌≤◌, ◌⊎◌, Bool, true, false, cond, eqb, ltb, List, [], ◌∷◌, Option, Some, None, refl, sym, ap, subst, inl, inr, ⊎_elim, arith, ◌∙◌, eq-eqb, ne_eqb, add-one, ℤ}
+use Rattle.std.proofs.Common.{
+  ◌≡◌,
+  ℕ,
+  zero,
+  suc,
+  ◌+◌,
+  ◌-◌,
+  ◌%◌,
+  ◌<◌,
+  ◌≤◌,
+  ◌⊎◌,
+  Bool,
+  true,
+  false,
+  cond,
+  eqb,
+  ltb,
+  List,
+  [],
+  ◌∷◌,
+  Option,
+  Some,
+  None,
+  refl,
+  sym,
+  ap,
+  subst,
+  inl,
+  inr,
+  ⊎_elim,
+  arith,
+  ◌∙◌,
+  eq-eqb,
+  ne_eqb,
+  add-one,
+  ℤ,
+}
 use Rattle.std.proofs.lemmas.Bool.{lt-ltb, le-ltb, cases_lt, cases_eq, eqb-true, leb-true}
 use Rattle.interleavings.proofs.Rounds.{one_turn}
 use Rattle.interleavings.specs.Precedence.{Precedence, one_more, IsConsistent, IsReady}
 use Rattle.interleavings.specs.Sites.{step_at, hit}
 use Rattle.interleavings.proofs.Cuts.{one_more-same, one_more-other, IsConsistent-zero, IsConsistent-more}
-use Rattle.interleavings.specs.System.{run, System, State, Micro, take, see, sub, signal, await, advance, load, store, is_take, is_signal, advances, stores, total, total_to, full, next, enabled_by, step, done_by, told, latest, run_from, opening, put, place_number, round_number, half_number, turn_reached}
+use Rattle.interleavings.specs.System.{
+  run,
+  System,
+  State,
+  Micro,
+  take,
+  see,
+  sub,
+  signal,
+  await,
+  advance,
+  load,
+  store,
+  is_take,
+  is_signal,
+  advances,
+  stores,
+  total,
+  total_to,
+  full,
+  next,
+  enabled_by,
+  step,
+  done_by,
+  told,
+  latest,
+  run_from,
+  opening,
+  put,
+  place_number,
+  round_number,
+  half_number,
+  turn_reached,
+}
 use Rattle.interleavings.specs.Sound.{IsRightAt, AreValues}
 use Rattle.interleavings.proofs.Totals.{total_more}
 

@@ -40,7 +40,8 @@ module _ (command : Command) (held held' : Held) (sunk sunk' : Sunk) where
   not_usage ending (Ok asked, m, (s, is, w)) e = answer_not_usage asked s (answer asked s) refl ending w e
   not_usage ending (Err stop, m, w) e = never_made usage held held' (plan_for command) (Err stop) (never_usage command) m (λ i. Err ((sym w.0 ∙ e) i))
 
-usage_of : (command : Option Command) (held held' : Held) (sunk sunk' : Sunk) (ending : Ending Refusal) → Ran leaves found (plan_of command) held held' sunk sunk' tt tt ending → ending ≡ refused usage → command ≡ None
+usage_of : (command : Option Command) (held held' : Held) (sunk sunk' : Sunk) (ending : Ending Refusal)
+    → Ran leaves found (plan_of command) held held' sunk sunk' tt tt ending → ending ≡ refused usage → command ≡ None
 usage_of None held held' sunk sunk' ending ran e = refl
 usage_of (Some command) held held' sunk sunk' ending ran e = absurd (not_usage command held held' sunk sunk' ending ran e)
 
@@ -50,7 +51,8 @@ module _ (sunk sunk' : Sunk) where
   once_answered (Ok text) ending w = once_performed leaves sunk sunk' tt tt (one_text text) (omega arith) ending w
   once_answered (Err r) ending w = inr (inr w.1)
 
-  once_ran : (command : Option Command) (held held' : Held) (ending : Ending Refusal) → Ran leaves found (plan_of command) held held' sunk sunk' tt tt ending → (ending ≡ done) ⊎ (ending ≡ unwritten) ⊎ (sunk' ≡ sunk)
+  once_ran : (command : Option Command) (held held' : Held) (ending : Ending Refusal)
+      → Ran leaves found (plan_of command) held held' sunk sunk' tt tt ending → (ending ≡ done) ⊎ (ending ≡ unwritten) ⊎ (sunk' ≡ sunk)
   once_ran command held held' ending (Ok asked, m, (s, is, w)) = once_answered (answer asked s) ending w
   once_ran command held held' ending (Err stop, m, w) = inr (inr w.1)
 

@@ -1,6 +1,7 @@
 -- Along the plan of a command, for whatever refusals have, and reads where what follows has it, and what is given; and no
 -- answer is a refusal as words that are no command, nor for want of memory.
 use Rattle.std.proofs.Common.{◌≡◌, ℕ, List, Option, Some, None, Result, Ok, Err, refl, subst}
+use Rattle.top_plans.specs.Outputs.{excess}
 use Rattle.csv.specs.Reading.{default_config, records, strip_bom}
 use Rattle.syn_base.specs.Bytes.{Bytes}
 use Rattle.syn_base.specs.Rows.{Reactions}
@@ -24,16 +25,14 @@ use Rattle.top_plans.specs.declared.ActualError.{ActualError}
 use Rattle.top_plans.specs.Actual.{actual_of}
 use Rattle.top_plans.specs.Plan.{give, refuse, after, ReadsOnly, RefusesOnly}
 use Rattle.top_plans.specs.Status.{Refusal, above, of_algorithm, of_architecture, of_code, of_durations, of_sensors, usage, wants_memory}
-use Rattle.top_plans.specs.Plans.{read_file, unless, algorithm_in, architecture_in, described_in, table_in, excess}
+use Rattle.top_plans.specs.Plans.{read_file, unless, algorithm_in, architecture_in, described_in, table_in}
 use Rattle.top_plans.proofs.Only.{Only}
-use Rattle.top_plans.proofs.TextRefusals as texts
-use Rattle.top_plans.proofs.MarkRefusals.{elaboration_safe}
 use Rattle.top_plans.proofs.DurationRefusals as durations
 use Rattle.top_plans.proofs.TableRefusals as tables
 use Rattle.top_plans.proofs.Walk.{IsTold, told_above, told_algorithm, told_architecture, told_code, told_durations, told_sensors}
 use Rattle.lab_words.specs.Command.{Command, Form, help, schedule, graph, table, lint, why, plot, dates, chart, trace, flat, code, report}
 use Rattle.lab_plans.specs.Names.{names_for, names_of}
-use Rattle.lab_plans.specs.Asked.{Asked, Problem, of_text, of_schedule, of_dates}
+use Rattle.lab_plans.specs.Asked.{Asked, Request, of_text, of_schedule, of_dates}
 use Rattle.lab_plans.specs.Answers.{answer, dates_by, limit, within}
 use Rattle.lab_plans.specs.Plans.{Asks, plan_for, plan_of}
 use Rattle.lab_plans.specs.Refusals.{NoAnswerWantsMemory, NoPlanWantsMemory}
@@ -54,8 +53,8 @@ module _ (Q : Asks → Type 0) (refused : (r : Refusal) → IsTold r → Q (refu
 
   algorithm_so : (text : Bytes) (next : Defs → Vertex → Asks) → ((defs : Defs) (main : Vertex) → Q (next defs main)) → Q (algorithm_in text next)
   algorithm_so text next h =
-      after_so of_algorithm told_algorithm (definitions_of text) (texts.definitions_safe text) (λ defs. after of_algorithm (elaboration_of defs) (next defs))
-      (λ defs. after_so of_algorithm told_algorithm (elaboration_of defs) (elaboration_safe defs) (next defs) (h defs))
+      after_told of_algorithm told_algorithm (definitions_of text) (λ defs. after of_algorithm (elaboration_of defs) (next defs))
+      (λ defs. after_told of_algorithm told_algorithm (elaboration_of defs) (next defs) (h defs))
 
   architecture_so : (text : Bytes) (main : Vertex) (next : Described → Table → Asks) → ((d : Described) (t : Table) → Q (next d t)) → Q (architecture_in text main next)
   architecture_so text main next h =
@@ -124,7 +123,7 @@ within_told : (o : Option LimitFault) (text : Bytes) (r : Refusal) → within o 
 within_told None text r e = absurd (no_stop text r e)
 within_told (Some fault) text r e = subst IsTold (same_stop (above fault) r e) (told_above fault)
 
-dates_told : (form : Form) (p : Problem) (n : ℕ) (s : Schedule) (ticks : Result (List ℕ) ActualError) → Only durations.Stays ticks → (r : Refusal) → dates_by form p n s ticks ≡ Err r → IsTold r
+dates_told : (form : Form) (p : Request) (n : ℕ) (s : Schedule) (ticks : Result (List ℕ) ActualError) → Only durations.Stays ticks → (r : Refusal) → dates_by form p n s ticks ≡ Err r → IsTold r
 dates_told form p n s (Ok ticks) only r e = within_told (limit p s) _ r e
 dates_told form p n s (Err error) only r e = subst IsTold (same_stop (of_durations error) r e) (told_durations error only.error)
 

@@ -1,5 +1,6 @@
 -- Plans over worked texts, and what is answered of the pressure run.
 use Rattle.std.proofs.Common.{◌≡◌, ℕ, refl, List, [], ◌∷◌, ◌++◌, length, Option, Some, None, Result, Ok, Err, codes}
+use Rattle.top_plans.specs.Schedules.{schedule_of}
 use Rattle.std.specs.Fmt.{digits}
 use Rattle.csv.specs.Writing.{fields_text, is_blank}
 use Rattle.syn_base.specs.Bytes.{Bytes}
@@ -9,7 +10,6 @@ use Rattle.top_plans.specs.Bytes.{named}
 use Rattle.top_plans.specs.declared.ActualFault.TheVariants.{Longer}
 use Rattle.top_plans.specs.Plan.{outcome}
 use Rattle.top_plans.specs.Status.{Refusal, bad_architecture, bad_durations, usage}
-use Rattle.top_plans.specs.Plans.{schedule_of}
 use Rattle.lab_words.specs.Command.{Command, Effort, for_length, code, report, drawn, traced, help, schedule, table, why, dates}
 use Rattle.lab_words.specs.Help.{help_text}
 use Rattle.lab_plans.specs.Asked.{Asked, of_text, of_schedule, of_dates}

@@ -17,7 +17,7 @@ use Rattle.lab_words.specs.Command.{Effort, Form, Subject, for_length, for_perio
 
 -- What is to be scheduled: the operations, the architecture, how long each operation lasts on each operator, and how a
 -- schedule is searched.
-pub record Problem : Type 0 where
+pub record Request : Type 0 where
   pub graph : Graph
   pub archi : Archi
   pub table : Table
@@ -27,13 +27,13 @@ pub record Problem : Type 0 where
 -- durations that really occur
 pub data Asked : Type 0 where
   of_text : Bytes → Asked
-  of_schedule : Subject → Problem → Asked
-  of_dates : Form → Problem → Bytes → ℕ → Asked
+  of_schedule : Subject → Request → Asked
+  of_dates : Form → Request → Bytes → ℕ → Asked
 
 -- A schedule that a search may find: it is valid. Where the length is the goal, it is no longer than the pressure run
 -- over the least routes, and where the period is the goal, the last half of 50 reactions takes no longer than that of
 -- the run. Where nothing is tried it is that run; else all operations on one operator are no shorter, or no faster.
-pub record IsFound (p : Problem) (s : Schedule) : Type 0 where
+pub record IsFound (p : Request) (s : Schedule) : Type 0 where
   pub valid : IsTrue (is_valid p.graph p.archi (entry_in p.table) s)
   pub shorter : p.effort.goal ≡ for_length → IsNoLongerThanRun p.graph p.archi p.table s
   pub faster : p.effort.goal ≡ for_period → IsNoSlowerThanRun p.graph p.archi p.table s

@@ -1,5 +1,6 @@
 -- The plan of each command: which files it reads, in which order it is refused, and what it asks for.
 use Rattle.std.specs.Prelude.{◌++◌, ◌*◌, ℕ, length, sum, Option, Some, None}
+use Rattle.top_plans.specs.Outputs.{excess}
 use Rattle.syn_base.specs.Bytes.{Bytes}
 use Rattle.syn_base.specs.Rows.{Reactions}
 use Rattle.algo_text.specs.declared.definition.Defs.{Defs}
@@ -34,7 +35,6 @@ use Rattle.top_plans.specs.Plans.{
   table_plan,
   read_file,
   unless,
-  excess,
 }
 use Rattle.lab_words.specs.Command.{
   Command,
@@ -51,21 +51,21 @@ use Rattle.lab_words.specs.Command.{
   dates,
 }
 use Rattle.lab_words.specs.Help.{help_text}
-use Rattle.lab_plans.specs.Asked.{Asked, Problem, of_text, of_schedule, of_dates}
+use Rattle.lab_plans.specs.Asked.{Asked, Request, of_text, of_schedule, of_dates}
 
 -- The plan of a command of the second program: in the end it gives what is asked for, or refuses.
 abbrev pub Asks : Type 0
 Asks = Plan Refusal Asked
 
 -- an algorithm on an architecture, with the durations of its operations
-abbrev pub problem : Vertex → Described → Table → Effort → Problem
-problem main d t effort = record { graph = flat_of main; archi = d.archi; table = t; effort = effort }
+abbrev pub request : Vertex → Described → Table → Effort → Request
+request main d t effort = record { graph = flat_of main; archi = d.archi; table = t; effort = effort }
 
 -- something of a schedule
 abbrev pub schedule_plan : Subject → Bytes → Bytes → Effort → Asks
 schedule_plan subject a h effort =
     algorithm_plan a (λ defs main.
-    architecture_plan h main (λ d t. give (of_schedule subject (problem main d t effort))))
+    architecture_plan h main (λ d t. give (of_schedule subject (request main d t effort))))
 
 -- the definitions as a graph
 abbrev pub graph_plan : Bytes → Asks
@@ -100,7 +100,8 @@ abbrev pub why_answer : Bytes → Graph → Archi → Program → Bytes
 why_answer text g a p =
     answer_text (setting text g a p) (reason p g.vertices (sequences a) (length a.operators) (length a.media))
 
--- the same of a text for a flat graph on an architecture
+-- Take the text of macro-code for a flat graph on an architecture, and say what its program lacks,
+-- or refuse the text.
 abbrev pub why_of_code : Graph → Archi → Bytes → Asks
 why_of_code g a text = after of_code (program_in text g a) (λ p. give (of_text (why_answer text g a p)))
 
@@ -134,7 +135,7 @@ abbrev pub dates_plan : Form → Bytes → Bytes → Bytes → ℕ → Effort �
 dates_plan form a h g n effort =
     algorithm_plan a (λ defs main.
     architecture_plan h main (λ d t.
-    read_file Durations g (λ text. give (of_dates form (problem main d t effort) text n))))
+    read_file Durations g (λ text. give (of_dates form (request main d t effort) text n))))
 
 -- The plan of a command.
 abbrev pub plan_for : Command → Asks

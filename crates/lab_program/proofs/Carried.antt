@@ -29,16 +29,16 @@ use Rattle.top_plans.proofs.Makes.{after_err, gave, memory}
 use Rattle.top_plans.specs.Status.{Refusal, ending_of, of_code, status_of_code}
 use Rattle.top_plans.specs.declared.Status.{Status}
 use Rattle.top_plans.specs.Plans.{algorithm_plan, architecture_in, architecture_plan, described_in, read_file, table_plan}
-use Rattle.compiler.specs.Compiles.{IsCompilation}
-use Rattle.compiler.specs.Reads.{ReadsAlgorithm, ReadsCompilation, ReadsDescription, ReadsTable}
+use Rattle.compiler.specs.Compiles.{IsProblem}
+use Rattle.top_plans.specs.Reads.{ReadsAlgorithm, ReadsProblem, ReadsDescription, ReadsTable}
 use Rattle.compiler.specs.declared.stages.Algorithm.{Algorithm}
-use Rattle.compiler.specs.declared.stages.Compilation.{Compilation}
-use Rattle.compiler.proofs.Architectures as architectures
-use Rattle.compiler.proofs.Steps as steps
+use Rattle.compiler.specs.declared.stages.Problem.{Problem}
+use Rattle.top_plans.proofs.Architectures as architectures
+use Rattle.top_plans.proofs.Steps as steps
 use Rattle.lab_words.specs.Command.{Command, Effort, Form}
 use Rattle.lab_plans.specs.Asked.{Asked, of_dates}
 use Rattle.lab_plans.specs.Answers.{answer}
-use Rattle.lab_plans.specs.Plans.{Asks, problem, why_of_code}
+use Rattle.lab_plans.specs.Plans.{Asks, request, why_of_code}
 use Rattle.lab_plans.specs.Replies.{CarriedOut, LeavesUnread, leaves}
 use Rattle.lab_program.specs.Texts.{Carries, GivesOfFound, Is}
 
@@ -61,15 +61,15 @@ pub went_on : {A : Type 0} (name : Bytes) (a b c : Held) (algorithm : Algorithm)
     → ReadsAlgorithm name a b (Ok algorithm) → Carries (next algorithm.defs algorithm.tree) b c result → Carries (algorithm_plan name next) a c result
 went_on name a b c algorithm next result reads (made, m, h) = (made, steps.went_on name a b c algorithm next made reads m, h)
 
--- a compilation was made of a text, and then the plan went on with it
-pub compiled_in : {A : Type 0} (main : Vertex) (text : Bytes) (held : Held) (compilation : Compilation) (next : Described → Table → Asks) (result : Result (Vec ℕ A) Status)
-    → IsCompilation main text compilation → Carries (next (described_by compilation.text) compilation.durations) held held result → Carries (architecture_in text main next) held held result
-compiled_in main text held compilation next result is (made, m, h) = (made, architectures.described_so main text next held held compilation made is m, h)
+-- a problem was made of a text, and then the plan went on with it
+pub compiled_in : {A : Type 0} (main : Vertex) (text : Bytes) (held : Held) (problem : Problem) (next : Described → Table → Asks) (result : Result (Vec ℕ A) Status)
+    → IsProblem main text problem → Carries (next (described_by problem.text) problem.durations) held held result → Carries (architecture_in text main next) held held result
+compiled_in main text held problem next result is (made, m, h) = (made, architectures.described_so main text next held held problem made is m, h)
 
--- a compilation was made from a file, and then the plan went on with it
-pub compiled_on : {A : Type 0} (main : Vertex) (name : Bytes) (a b c : Held) (compilation : Compilation) (next : Described → Table → Asks) (result : Result (Vec ℕ A) Status)
-    → ReadsCompilation main name a b (Ok compilation) → Carries (next (described_by compilation.text) compilation.durations) b c result → Carries (architecture_plan name main next) a c result
-compiled_on main name a b c compilation next result reads (made, m, h) = (made, architectures.went_on main name a b c compilation next made reads m, h)
+-- a problem was made from a file, and then the plan went on with it
+pub compiled_on : {A : Type 0} (main : Vertex) (name : Bytes) (a b c : Held) (problem : Problem) (next : Described → Table → Asks) (result : Result (Vec ℕ A) Status)
+    → ReadsProblem main name a b (Ok problem) → Carries (next (described_by problem.text) problem.durations) b c result → Carries (architecture_plan name main next) a c result
+compiled_on main name a b c problem next result reads (made, m, h) = (made, architectures.went_on main name a b c problem next made reads m, h)
 
 -- a description was read, and then the plan went on with it
 pub described_on : {A : Type 0} (name : Bytes) (a b c : Held) (text : ArchiText) (next : Described → Asks) (result : Result (Vec ℕ A) Status)
@@ -77,7 +77,8 @@ pub described_on : {A : Type 0} (name : Bytes) (a b c : Held) (text : ArchiText)
 described_on name a b c text next result reads (made, m, h) = (made, architectures.text_went_on name a b c text next made reads m, h)
 
 -- macro-code was refused, or memory ran out
-pub code_refused : {A : Type 0} (g : Graph) (a : Archi) (text : Bytes) (held : Held) (e : CodeError) → Fails e (program_in text g a) → Carries {A = A} (why_of_code g a text) held held (Err (status_of_code e))
+pub code_refused : {A : Type 0} (g : Graph) (a : Archi) (text : Bytes) (held : Held) (e : CodeError) → Fails e (program_in text g a)
+    → Carries {A = A} (why_of_code g a text) held held (Err (status_of_code e))
 code_refused g a text held (error.Refused fault) is = (Err (refused (of_code (Refused fault))), after_err held of_code (program_in text g a) _ (Refused fault) is, refl)
 code_refused g a text held (error.Limit fault) is = (Err (refused (of_code (Limit fault))), after_err held of_code (program_in text g a) _ (Limit fault) is, refl)
 code_refused g a text held error.OutOfMemory is = wanted (why_of_code g a text) held (status_of_code error.OutOfMemory) refl
@@ -95,7 +96,8 @@ follows_so (Err refusal) (Err status) sunk sunk' ending is h = (h.0 ∙ is, h.1,
 follows_so (Ok bytes) (Err status) sunk sunk' ending is h = absurd is
 follows_so (Err refusal) (Ok text) sunk sunk' ending is h = absurd is
 
-pub ran_so : {A : Type 0} (plan : Asks) (held held' : Held) (result : Result (Vec ℕ A) Status) (sunk sunk' : Sunk) (ending : Ending Refusal) → Carries plan held held' result → Written result sunk sunk' ending
+pub ran_so : {A : Type 0} (plan : Asks) (held held' : Held) (result : Result (Vec ℕ A) Status) (sunk sunk' : Sunk)
+    (ending : Ending Refusal) → Carries plan held held' result → Written result sunk sunk' ending
     → CarriedOut plan held held' sunk sunk' ending
 ran_so plan held held' result sunk sunk' ending (Ok asked, m, (s, found, is)) h = (Ok asked, m, (s, found, follows_so (answer asked s) result sunk sunk' ending is h))
 ran_so plan held held' (Err status) sunk sunk' ending (Err stop, m, is) h = (Err stop, m, (h.0 ∙ is, h.1, refl))
@@ -107,7 +109,7 @@ no_schedule = record { decisions = [] }
 
 -- the plan of dates after an architecture
 abbrev pub dates_behind : Form → Bytes → ℕ → Effort → Vertex → Described → Table → Asks
-dates_behind form g n effort main d t = read_file Durations g (λ text. give (of_dates form (problem main d t effort) text n))
+dates_behind form g n effort main d t = read_file Durations g (λ text. give (of_dates form (request main d t effort) text n))
 
 -- a file was read, and then the plan went on with its text
 pub read_on : {A : Type 0} (file : File) (name : Bytes) (a b : Held) (bytes : Bytes) (next : Bytes → Asks) (result : Result (Vec ℕ A) Status)

@@ -8,10 +8,10 @@ use Rattle.self_timed.specs.ScheduleValid.{is_valid}
 use Rattle.schedule_search.specs.Found.{IsNoLongerThanAlone, IsNoLongerThanRun, IsNoSlowerThanAlone, IsNoSlowerThanRun}
 use Rattle.top_plans.specs.Adequation.{IsPressureRun}
 use Rattle.lab_words.specs.Command.{for_length, for_period}
-use Rattle.lab_plans.specs.Asked.{IsFound, Problem}
+use Rattle.lab_plans.specs.Asked.{IsFound, Request}
 
 -- where each clause holds by the goal and the tries, the record does
-pub all_found : (p : Problem) (r : Result Schedule OutOfMemory)
+pub all_found : (p : Request) (r : Result Schedule OutOfMemory)
     → IfOk r (λ s. IsTrue (is_valid p.graph p.archi (entry_in p.table) s))
     → (p.effort.goal ≡ for_length → IfOk r (IsNoLongerThanRun p.graph p.archi p.table))
     → (p.effort.goal ≡ for_period → IfOk r (IsNoSlowerThanRun p.graph p.archi p.table))

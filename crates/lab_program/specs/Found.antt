@@ -1,13 +1,13 @@
--- What is made of a compilation.
-use Rattle.compiler.specs.declared.stages.Compilation.{Compilation}
+-- A problem, and how a schedule for it is searched.
+use Rattle.compiler.specs.declared.stages.Problem.{Problem}
 use Rattle.lab_words.specs.Command.{Effort}
-use Rattle.lab_plans.specs.Asked.{Problem}
+use Rattle.lab_plans.specs.Asked.{Request}
 
--- its operations, architecture and durations, and this effort
-abbrev pub problem_of : Compilation → Effort → Problem
-problem_of compilation effort = record {
-  graph = compilation.flat;
-  archi = compilation.text.archi;
-  table = compilation.durations;
+-- the operations, architecture and durations of a problem, and this effort
+abbrev pub request_of : Problem → Effort → Request
+request_of problem effort = record {
+  graph = problem.flat;
+  archi = problem.text.archi;
+  table = problem.durations;
   effort = effort;
 }

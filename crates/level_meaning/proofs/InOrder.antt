@@ -35,7 +35,8 @@ settled_below cs order (suc k) r lt in_range =
     let c = found.0 in
     let before = order r c found.1 in
     let earlier = λ (q : ℕ) (h : q < r). settled_below cs order k q (omega arith) (omega arith) in
-    rw found.1 (both (guards_ready (settled cs k) c.guards) (sources_ready (settled cs k) c.asked) (guards_before (settled cs k) r earlier c.guards before.0) (sources_before (settled cs k) r earlier c.asked before.1))
+    rw found.1 (both (guards_ready (settled cs k) c.guards) (sources_ready (settled cs k) c.asked)
+    (guards_before (settled cs k) r earlier c.guards before.0) (sources_before (settled cs k) r earlier c.asked before.1))
 
 pub acyclic-in_order : (cs : List Node) → IsInOrder cs → IsAcyclic cs
 acyclic-in_order cs order r lt = settled_below cs order (length cs) r lt lt

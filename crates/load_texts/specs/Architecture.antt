@@ -32,7 +32,7 @@ abbrev pub duration_line : Bytes → Bytes → Bytes → Bytes
 duration_line name operator ticks =
     codes "duration " ++ (name ++ (codes " " ++ (operator ++ (codes " " ++ (ticks ++ codes "\n")))))
 
--- the same on each operator
+-- The lines that give an operation these ticks on each of the four operators.
 abbrev pub durations_everywhere : Bytes → Bytes → Bytes
 durations_everywhere name ticks =
     duration_line name (codes "o0") ticks

@@ -1,5 +1,37 @@
 -- The way back along a longest chain: what it takes at each step, and what it lasts.
-use Rattle.std.proofs.Common.{◌≡◌, ℕ, zero, suc, ◌+◌, ◌<◌, ◌≤◌, Bool, true, false, cond, ◌&&◌, nat_eq, List, [], ◌∷◌, ◌++◌, map, max, length, Option, Some, None, refl, sym, ap, subst, arith, inl, inr, ◌∙◌}
+use Rattle.std.proofs.Common.{
+  ◌≡◌,
+  ℕ,
+  zero,
+  suc,
+  ◌+◌,
+  ◌<◌,
+  ◌≤◌,
+  Bool,
+  true,
+  false,
+  cond,
+  ◌&&◌,
+  nat_eq,
+  List,
+  [],
+  ◌∷◌,
+  ◌++◌,
+  map,
+  max,
+  length,
+  Option,
+  Some,
+  None,
+  refl,
+  sym,
+  ap,
+  subst,
+  arith,
+  inl,
+  inr,
+  ◌∙◌,
+}
 use Rattle.std.specs.Prelude.{IsTrue, slice_get, sum_by}
 use Rattle.std.specs.List.{list_all, list_any, range_with_len}
 use Rattle.std.proofs.lemmas.Bool.{false≢true, and_parts, and_from, or_cases, or_left, or_right, eqb-true, eq-eqb, cases_lt}
@@ -77,7 +109,8 @@ module _ (operators : ℕ) (ticks : ℕ → ℕ → Option ℕ) (vertices : List
       by None e = refl
       by (Some x) e = e
 
-  end_same : (f g : ℕ → ℕ) (rounds v : ℕ) → ((u : ℕ) → is_done vertices rounds u ≡ true → f u ≡ g u) → is_done vertices (suc rounds) v ≡ true → end_after operators ticks vertices f v ≡ end_after operators ticks vertices g v
+  end_same : (f g : ℕ → ℕ) (rounds v : ℕ) → ((u : ℕ) → is_done vertices rounds u ≡ true → f u ≡ g u) → is_done vertices (suc rounds) v
+      ≡ true → end_after operators ticks vertices f v ≡ end_after operators ticks vertices g v
   end_same f g rounds v same h = let e = same_where f g (is_done vertices rounds) same (needs_of vertices v) (needs_done rounds v h) in omega arith
 
   -- once enough operations are followed, one more changes nothing

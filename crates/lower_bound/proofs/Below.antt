@@ -1,5 +1,40 @@
 -- The bound is below every valid schedule.
-use Rattle.std.proofs.Common.{◌≡◌, ℕ, zero, suc, ◌+◌, ◌-◌, ◌*◌, ◌/◌, ◌<◌, ◌≤◌, Bool, true, false, cond, ◌&&◌, ◌||◌, nat_eq, List, [], ◌∷◌, map, max, length, Option, Some, None, refl, sym, ap, arith, inl, inr, ◌⊎◌, ◌∙◌}
+use Rattle.std.proofs.Common.{
+  ◌≡◌,
+  ℕ,
+  zero,
+  suc,
+  ◌+◌,
+  ◌-◌,
+  ◌*◌,
+  ◌/◌,
+  ◌<◌,
+  ◌≤◌,
+  Bool,
+  true,
+  false,
+  cond,
+  ◌&&◌,
+  ◌||◌,
+  nat_eq,
+  List,
+  [],
+  ◌∷◌,
+  map,
+  max,
+  length,
+  Option,
+  Some,
+  None,
+  refl,
+  sym,
+  ap,
+  arith,
+  inl,
+  inr,
+  ◌⊎◌,
+  ◌∙◌,
+}
 use Rattle.std.specs.Prelude.{nat_lt, is_none, is_some, count_by, filter, sum_by}
 use Rattle.std.specs.List.{list_any, list_all, range_with_len}
 use Rattle.std.specs.Cmp.Derive.{both_true}
@@ -125,7 +160,8 @@ module _ (g : Graph) (a : Architecture) (ticks : ℕ → ℕ → Option ℕ) (s 
               let works : may_work (length a.operators) ticks (length g.vertices) o ≡ true
               = any_in_range (takes_time_on (length a.operators) ticks o) 0 (length g.vertices) v (omega arith) (omega arith) (both_true n (ap (λ (x : Option ℕ). is_some x) e)) in
               inl
-              (any_of_filter (nat_eq o) (may_work (length a.operators) ticks (length g.vertices)) (range_with_len 0 (length a.operators)) (λ p q. ap (may_work (length a.operators) ticks (length g.vertices)) (let z = eqb-true o p q in let y : p ≡ o = omega arith in y) ∙ works)
+              (any_of_filter (nat_eq o) (may_work (length a.operators) ticks (length g.vertices)) (range_with_len 0 (length a.operators))
+              (λ p q. ap (may_work (length a.operators) ticks (length g.vertices)) (let z = eqb-true o p q in let y : p ≡ o = omega arith in y) ∙ works)
               (any_in_range (nat_eq o) 0 (length a.operators) o (omega arith) (omega arith) (eq-eqb o o refl)))
 
   alone_low : (o : ℕ) → o < 0 + length a.operators → work_only (length a.operators) ticks (length g.vertices) o ≤ length_of s

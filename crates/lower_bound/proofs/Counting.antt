@@ -26,7 +26,8 @@ pub sort_step : (test : Transfer → Bool) (ds : List Decision) (i : ℕ) (d : D
 sort_step test ds i d l is =
     ap (λ (es : List Decision). count_by test (transfers_of es)) (first_of ds i d l is) ∙ sum_by-append (λ x. cond (test x) 1 0) d.transfers (transfers_of (drop (i + 1) ds))
 
-pub one_step : (test : Transfer → Bool) (ts : List Transfer) (i : ℕ) (t : Transfer) → i < length ts → t ≡ get_or ts i t → count_by test (drop i ts) ≡ cond (test t) 1 0 + count_by test (drop (i + 1) ts)
+pub one_step : (test : Transfer → Bool) (ts : List Transfer) (i : ℕ) (t : Transfer) → i < length ts → t ≡ get_or ts i t
+    → count_by test (drop i ts) ≡ cond (test t) 1 0 + count_by test (drop (i + 1) ts)
 one_step test ts i t l is = ap (count_by test) (first_of ts i t l is) ∙ sum_by-cons (λ x. cond (test x) 1 0) t (drop (i + 1) ts)
 
 pub no_more : (test : Transfer → Bool) (ts : List Transfer) → count_by test ts ≤ length ts
@@ -57,7 +58,8 @@ no_more_than_acts (d ∷ ds) =
     let z = no_more_than_acts ds in
     omega arith
 
-pub few_transfers : (g : Graph) (a : Architecture) (t : Table) (s : Schedule) → is_flat g ≡ true → is_archi a.operators a.media ≡ true → All (IsRow t.operators) t.rows → is_valid g a (entry_in t) s ≡ true → (ds : List Decision) → ds ≡ s.decisions → length (transfers_of ds) ≤ most_transfers
+pub few_transfers : (g : Graph) (a : Architecture) (t : Table) (s : Schedule) → is_flat g ≡ true → is_archi a.operators a.media ≡ true
+    → All (IsRow t.operators) t.rows → is_valid g a (entry_in t) s ≡ true → (ds : List Decision) → ds ≡ s.decisions → length (transfers_of ds) ≤ most_transfers
 few_transfers g a t s flat archi rows valid ds is =
     let same = ap (λ (es : List Decision). length (transfers_of es)) is in
     let less = no_more_than_acts s.decisions in

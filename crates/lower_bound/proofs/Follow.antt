@@ -23,18 +23,22 @@ first_append : (dates : ℕ → ℕ) (date : ℕ) (us vs : List ℕ) → first_a
 first_append dates date [] vs = refl
 first_append dates date (u ∷ us) vs = by (nat_eq (dates u) date) (first_append dates date us vs)
   where
-    by : (b : Bool) → first_at dates date (us ++ vs) ≡ option_or (first_at dates date us) (first_at dates date vs) → cond b (Some u) (first_at dates date (us ++ vs)) ≡ option_or (cond b (Some u) (first_at dates date us)) (first_at dates date vs)
+    by : (b : Bool) → first_at dates date (us ++ vs) ≡ option_or (first_at dates date us) (first_at dates date vs)
+        → cond b (Some u) (first_at dates date (us ++ vs)) ≡ option_or (cond b (Some u) (first_at dates date us)) (first_at dates date vs)
     by true e = refl
     by false e = e
 
 -- the first of the guards' operations, else of the inputs', else the get half
-pub before_is : (dates : ℕ → ℕ) (x : Vertex) (latest : ℕ) (guard source half : Option ℕ) → latest ≡ greatest (map dates (depends_on x)) → guard ≡ first_at dates latest (map (λ g. g.source.vertex) x.guards)
+pub before_is : (dates : ℕ → ℕ) (x : Vertex) (latest : ℕ) (guard source half : Option ℕ) → latest ≡ greatest (map dates (depends_on x))
+    → guard ≡ first_at dates latest (map (λ g. g.source.vertex) x.guards)
     → source ≡ first_at dates latest (map (λ s. s.vertex) x.ins) → half ≡ first_at dates latest (get_half x.kind x.twin) → option_or (option_or guard source) half ≡ latest_of dates (depends_on x)
 before_is dates x latest guard source half l g s h =
     let guards = map (λ g. g.source.vertex) x.guards in
     let ins = map (λ s. s.vertex) x.ins in
     let twin = get_half x.kind x.twin in
-    (λ i. option_or (option_or (g i) (s i)) (h i)) ∙ sym (first_append dates latest (guards ++ ins) twin ∙ ap (λ (o : Option ℕ). option_or o (first_at dates latest twin)) (first_append dates latest guards ins))
+    (λ i. option_or (option_or (g i) (s i)) (h i))
+    ∙ sym (first_append dates latest (guards ++ ins) twin
+    ∙ ap (λ (o : Option ℕ). option_or o (first_at dates latest twin)) (first_append dates latest guards ins))
     ∙ ap (λ (n : ℕ). first_at dates n (depends_on x)) l
 
 range_step : (a n : ℕ) → a < n → range_with_len a (n - a) ≡ a ∷ range_with_len (a + 1) (n - (a + 1))
@@ -53,12 +57,15 @@ greatest_listed : (dates : List ℕ) → greatest dates ≡ greatest (map (at da
 greatest_listed dates = ap greatest (list_is (at dates) 0 (length dates) dates refl (λ v l. ap (at dates) (let e : v ≡ 0 + v = omega arith in e)))
 
 -- of all operations the first with the greatest date
-pub found_here : (dates : List ℕ) (latest op : ℕ) → latest ≡ greatest dates → op < length dates → first_at (at dates) latest (range_with_len 0 (length dates)) ≡ first_at (at dates) latest (range_with_len op (length dates - op))
+pub found_here : (dates : List ℕ) (latest op : ℕ) → latest ≡ greatest dates → op < length dates
+    → first_at (at dates) latest (range_with_len 0 (length dates)) ≡ first_at (at dates) latest (range_with_len op (length dates - op))
     → at dates op ≡ latest → Some op ≡ latest_of (at dates) (range_with_len 0 (length dates))
 found_here dates latest op is l so_far e =
-    sym (so_far ∙ first_here (at dates) latest op (length dates) l (eq-eqb (at dates op) latest e)) ∙ ap (λ (n : ℕ). first_at (at dates) n (range_with_len 0 (length dates))) (is ∙ greatest_listed dates)
+    sym (so_far ∙ first_here (at dates) latest op (length dates) l (eq-eqb (at dates op) latest e))
+    ∙ ap (λ (n : ℕ). first_at (at dates) n (range_with_len 0 (length dates))) (is ∙ greatest_listed dates)
 
-pub found_never : (dates : List ℕ) (latest op : ℕ) → latest ≡ greatest dates → length dates ≤ op → first_at (at dates) latest (range_with_len 0 (length dates)) ≡ first_at (at dates) latest (range_with_len op (length dates - op))
+pub found_never : (dates : List ℕ) (latest op : ℕ) → latest ≡ greatest dates → length dates ≤ op
+    → first_at (at dates) latest (range_with_len 0 (length dates)) ≡ first_at (at dates) latest (range_with_len op (length dates - op))
     → None ≡ latest_of (at dates) (range_with_len 0 (length dates))
 found_never dates latest op is l so_far =
     sym (so_far ∙ first_never (at dates) latest op (length dates) l) ∙ ap (λ (n : ℕ). first_at (at dates) n (range_with_len 0 (length dates))) (is ∙ greatest_listed dates)
@@ -124,13 +131,15 @@ module _ (operators : ℕ) (ticks : ℕ → ℕ → Option ℕ) (vertices : List
 
     next_is : (v : ℕ) (x : Vertex) → v < length vertices → x ≡ slice_index_or vertices v x → latest_of dates (depends_on x) ≡ latest_of (chain_to operators ticks vertices) (needs_of vertices v)
     next_is v x l o =
-        ap (λ (y : Option Vertex). latest_of dates (with_vertex y [] depends_on)) (sym (slice_get_read vertices (length vertices) v x refl l o)) ∙ same_where_within (needs_of vertices v) (needs_within v l)
+        ap (λ (y : Option Vertex). latest_of dates (with_vertex y [] depends_on))
+        (sym (slice_get_read vertices (length vertices) v x refl l o)) ∙ same_where_within (needs_of vertices v) (needs_within v l)
 
     abbrev pub on_way : ℕ → Option ℕ → List Link
     on_way i next = map (link_of operators ticks vertices) (back_within operators ticks vertices (length vertices - i) next)
 
     -- a link more
-    pub way_more : (links whole : List Link) (i op : ℕ) (own : ℕ) (x : Vertex) (next : Option ℕ) → i < length vertices → op < length vertices → own ≡ least operators ticks op → x ≡ slice_index_or vertices op x
+    pub way_more : (links whole : List Link) (i op : ℕ) (own : ℕ) (x : Vertex) (next : Option ℕ) → i < length vertices → op
+        < length vertices → own ≡ least operators ticks op → x ≡ slice_index_or vertices op x
         → next ≡ latest_of dates (depends_on x) → links ++ on_way i (Some op) ≡ whole → links ++ (record { op = op; ticks = own }) ∷ [] ++ on_way (i + 1) next ≡ whole
     way_more links whole i op own x next l m o r is way =
         let k : length vertices - i ≡ suc (length vertices - (i + 1)) = omega arith in
@@ -146,7 +155,8 @@ module _ (operators : ℕ) (ticks : ℕ → ℕ → Option ℕ) (vertices : List
 
     -- the way is at its end
     pub way_none : (links whole : List Link) (i : ℕ) → links ++ on_way i None ≡ whole → links ≡ whole
-    way_none links whole i way = sym (append-nil links) ∙ ap (λ (us : List ℕ). links ++ map (link_of operators ticks vertices) us) (sym (back_none operators ticks vertices (length vertices - i))) ∙ way
+    way_none links whole i way = sym (append-nil links)
+        ∙ ap (λ (us : List ℕ). links ++ map (link_of operators ticks vertices) us) (sym (back_none operators ticks vertices (length vertices - i))) ∙ way
 
     pub way_all : (links whole : List Link) (i : ℕ) (next : Option ℕ) → length vertices ≤ i → links ++ on_way i next ≡ whole → links ≡ whole
     way_all links whole i next l way =

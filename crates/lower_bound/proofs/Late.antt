@@ -1,5 +1,40 @@
 -- No act of a valid schedule ends before the longest chain with transfers to what it gives.
-use Rattle.std.proofs.Common.{◌≡◌, ℕ, zero, suc, ◌+◌, ◌*◌, ◌<◌, ◌≤◌, Bool, true, false, cond, ◌&&◌, not, ◌==◌, nat_eq, List, [], ◌∷◌, ◌++◌, map, max, min, length, Option, Some, None, refl, sym, ap, arith, inl, inr, ◌∙◌}
+use Rattle.std.proofs.Common.{
+  ◌≡◌,
+  ℕ,
+  zero,
+  suc,
+  ◌+◌,
+  ◌*◌,
+  ◌<◌,
+  ◌≤◌,
+  Bool,
+  true,
+  false,
+  cond,
+  ◌&&◌,
+  not,
+  ◌==◌,
+  nat_eq,
+  List,
+  [],
+  ◌∷◌,
+  ◌++◌,
+  map,
+  max,
+  min,
+  length,
+  Option,
+  Some,
+  None,
+  refl,
+  sym,
+  ap,
+  arith,
+  inl,
+  inr,
+  ◌∙◌,
+}
 use Rattle.std.specs.Prelude.{is_some, nat_le, slice_get, unwrap_or}
 use Rattle.std.specs.List.{list_all, list_any, range_with_len}
 use Rattle.std.proofs.lemmas.Bool.{false≢true, and_parts, or_cases, leb-true, eqb-true}
@@ -103,7 +138,8 @@ module _ (g : Graph) (a : Architecture) (ticks : ℕ → ℕ → Option ℕ) whe
       let m = r.1.made n c both.1 in
       omega arith
 
-  sources_late : (before : List Act) → Each IsLate before → (n date o : ℕ) (xs : List Source) → list_all (is_held g a ticks before date) (map (copy o) xs) ≡ true → greatest (map (arrives n o) xs) ≤ date
+  sources_late : (before : List Act) → Each IsLate before → (n date o : ℕ) (xs : List Source)
+      → list_all (is_held g a ticks before date) (map (copy o) xs) ≡ true → greatest (map (arrives n o) xs) ≤ date
   sources_late before late n date o [] h = omega arith
   sources_late before late n date o (x ∷ xs) h =
       let both = and_parts (is_held g a ticks before date (copy o x)) (list_all (is_held g a ticks before date) (map (copy o) xs)) h in
@@ -171,8 +207,10 @@ module _ (g : Graph) (a : Architecture) (ticks : ℕ → ℕ → Option ℕ) whe
           let long = r.long in
           within b l m long
         where
-          within : (b : Bool) → arrives n t.from t.source ≤ t.start → least_transfer a.media t.to (len_of g.vertices t.source) ≤ (hop before t h).medium.fixed + len_of g.vertices t.source * (hop before t h).medium.per
-              → t.end ≡ t.start + ((hop before t h).medium.fixed + len_of g.vertices t.source * (hop before t h).medium.per) → by n t.source.vertex + cond b 0 (least_transfer a.media t.to (len_of g.vertices t.source)) ≤ t.end
+          within : (b : Bool) → arrives n t.from t.source ≤ t.start → least_transfer a.media t.to (len_of g.vertices t.source)
+              ≤ (hop before t h).medium.fixed + len_of g.vertices t.source * (hop before t h).medium.per
+              → t.end ≡ t.start + ((hop before t h).medium.fixed + len_of g.vertices t.source * (hop before t h).medium.per)
+              → by n t.source.vertex + cond b 0 (least_transfer a.media t.to (len_of g.vertices t.source)) ≤ t.end
           within true l m long = omega arith
           within false l m long = omega arith
 

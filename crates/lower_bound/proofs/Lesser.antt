@@ -41,5 +41,6 @@ least_step {A} f xs i x so_far one next l is o n whole =
     let here = drop-cons xs i x l ∙ ap (λ (k : ℕ). get_or xs i x ∷ drop k xs) e in
     ap (λ (y : Option ℕ). lesser y left) next_is ∙ lesser_assoc so_far (f (get_or xs i x)) left ∙ ap (λ (ys : List A). lesser so_far (least_of (map f ys))) (sym here) ∙ whole
 
-pub least_whole : {A : Type 0} (f : A → Option ℕ) (xs : List A) (i : ℕ) (so_far : Option ℕ) → length xs ≤ i → lesser so_far (least_of (map f (drop i xs))) ≡ least_of (map f xs) → so_far ≡ least_of (map f xs)
+pub least_whole : {A : Type 0} (f : A → Option ℕ) (xs : List A) (i : ℕ) (so_far : Option ℕ) → length xs ≤ i
+    → lesser so_far (least_of (map f (drop i xs))) ≡ least_of (map f xs) → so_far ≡ least_of (map f xs)
 least_whole {A} f xs i so_far l whole = sym (lesser_none so_far) ∙ ap (λ (ys : List A). lesser so_far (least_of (map f ys))) (sym (drop_all i xs l)) ∙ whole

@@ -76,13 +76,17 @@ module _ (operators : ℕ) (ticks : ℕ → ℕ → Option ℕ) (vertices : List
   ends_below : (v : ℕ) (os : List ℕ) → IsBelow (least_of (map (end_on operators ticks vertices [] f v) os)) (least_of (map (end_on operators ticks vertices media g v) os))
   ends_below v [] = tt
   ends_below v (o ∷ os) =
-      lesser_below (end_on operators ticks vertices [] f v o) (least_of (map (end_on operators ticks vertices [] f v) os)) (end_on operators ticks vertices media g v o) (least_of (map (end_on operators ticks vertices media g v) os))
-      (later_below (ticks v o) (with_vertex (slice_get vertices v) 0 (start_on operators ticks vertices [] f o)) (with_vertex (slice_get vertices v) 0 (start_on operators ticks vertices media g o)) (start_below o (slice_get vertices v))) (ends_below v os)
+      lesser_below (end_on operators ticks vertices [] f v o) (least_of (map (end_on operators ticks vertices [] f v) os))
+      (end_on operators ticks vertices media g v o) (least_of (map (end_on operators ticks vertices media g v) os))
+      (later_below (ticks v o) (with_vertex (slice_get vertices v) 0 (start_on operators ticks vertices [] f o))
+      (with_vertex (slice_get vertices v) 0 (start_on operators ticks vertices media g o)) (start_below o (slice_get vertices v))) (ends_below v os)
 
   first_end_below : (v : ℕ) → first_end operators ticks vertices [] f v ≤ first_end operators ticks vertices media g v
-  first_end_below v = unwrapped_below (least_of (map (end_on operators ticks vertices [] f v) (range_with_len 0 operators))) (least_of (map (end_on operators ticks vertices media g v) (range_with_len 0 operators))) (ends_below v (range_with_len 0 operators))
+  first_end_below v = unwrapped_below (least_of (map (end_on operators ticks vertices [] f v) (range_with_len 0 operators)))
+      (least_of (map (end_on operators ticks vertices media g v) (range_with_len 0 operators))) (ends_below v (range_with_len 0 operators))
 
-carried_below : (operators : ℕ) (ticks : ℕ → ℕ → Option ℕ) (vertices : List Vertex) (media : List Medium) (n v : ℕ) → carried_within operators ticks vertices [] n v ≤ carried_within operators ticks vertices media n v
+carried_below : (operators : ℕ) (ticks : ℕ → ℕ → Option ℕ) (vertices : List Vertex) (media : List Medium) (n v : ℕ)
+    → carried_within operators ticks vertices [] n v ≤ carried_within operators ticks vertices media n v
 carried_below operators ticks vertices media zero v = omega arith
 carried_below operators ticks vertices media (suc n) v =
     first_end_below operators ticks vertices media (carried_within operators ticks vertices [] n) (carried_within operators ticks vertices media n) (carried_below operators ticks vertices media n) v

@@ -34,9 +34,12 @@ busy_low test most (x ∷ xs) h = by (test x) (busy-cons test x xs) (h 0 x refl)
     by false e here rest = omega arith
 
 -- the greatest of low loads is low
-pub busier_low : (most : ℕ) (name : ℕ → Line) (n : ℕ) (ls : List Load) (best : Busy) → best.ticks ≤ most → ((i : ℕ) (l : Load) → slice_get ls i ≡ Some l → l.busy ≤ most) → (busier best name n ls).ticks ≤ most
+pub busier_low : (most : ℕ) (name : ℕ → Line) (n : ℕ) (ls : List Load) (best : Busy) → best.ticks ≤ most
+    → ((i : ℕ) (l : Load) → slice_get ls i ≡ Some l → l.busy ≤ most) → (busier best name n ls).ticks ≤ most
 busier_low most name n [] best low h = low
-busier_low most name n (l ∷ ls) best low h = busier_low most name (suc n) ls (if nat_lt best.ticks l.busy then busy_line (name n) l.busy else best) (by (nat_lt best.ticks l.busy)) (λ i m q. h (suc i) m q)
+busier_low most name n (l ∷ ls) best low h =
+    busier_low most name (suc n) ls (if nat_lt best.ticks l.busy then busy_line (name n) l.busy else best) (by (nat_lt best.ticks l.busy))
+    (λ i m q. h (suc i) m q)
   where
     by : (b : Bool) → (if b then busy_line (name n) l.busy else best).ticks ≤ most
     by true = h 0 l refl
@@ -49,13 +52,16 @@ loads_low most test s from (suc count) length h zero l e = let z = ap (λ (m : L
 loads_low most test s from (suc count) length h (suc i) l e = loads_low most test s (from + 1) count length h i l e
 
 -- of a schedule with few short acts
-pub longest_low : (s : Schedule) (operators media most : ℕ) → ((i : ℕ) (x : Act) → slice_get (acts s) i ≡ Some x → stated x ≤ most) → (longest_busy (loads is_on operators s) (loads is_over media s)).ticks ≤ length (acts s) * most
+pub longest_low : (s : Schedule) (operators media most : ℕ) → ((i : ℕ) (x : Act) → slice_get (acts s) i ≡ Some x → stated x ≤ most)
+    → (longest_busy (loads is_on operators s) (loads is_over media s)).ticks ≤ length (acts s) * most
 longest_low s operators media most h =
     busier_low (length (acts s) * most) Medium 0 (loads is_over media s) (busier (busy_line (Operator 0) 0) Operator 0 (loads is_on operators s))
-    (busier_low (length (acts s) * most) Operator 0 (loads is_on operators s) (busy_line (Operator 0) 0) (omega arith) (loads_low (length (acts s) * most) is_on s 0 operators (length_of s) (λ n. busy_low (is_on n) most (acts s) h)))
+    (busier_low (length (acts s) * most) Operator 0 (loads is_on operators s) (busy_line (Operator 0) 0) (omega arith)
+    (loads_low (length (acts s) * most) is_on s 0 operators (length_of s) (λ n. busy_low (is_on n) most (acts s) h)))
     (loads_low (length (acts s) * most) is_over s 0 media (length_of s) (λ n. busy_low (is_over n) most (acts s) h))
 
-module _ (g : Graph) (a : Architecture) (t : Table) (s : Schedule) (flat : is_flat g ≡ true) (archi : is_archi a.operators a.media ≡ true) (rows : All (IsRow t.operators) t.rows) (valid : is_valid g a (entry_in t) s ≡ true)
+module _ (g : Graph) (a : Architecture) (t : Table) (s : Schedule) (flat : is_flat g ≡ true) (archi : is_archi a.operators a.media ≡ true)
+    (rows : All (IsRow t.operators) t.rows) (valid : is_valid g a (entry_in t) s ≡ true)
     (r : Report) (is : r ≡ report g a (entry_in t) s) where
   pub few_loads : (length r.operators ≤ 16) × (length r.media ≤ 16)
   few_loads =

@@ -1,5 +1,40 @@
 -- What operators have to do: no operator works longer than a valid schedule lasts.
-use Rattle.std.proofs.Common.{◌≡◌, ℕ, zero, suc, ◌+◌, ◌*◌, ◌<◌, ◌≤◌, Bool, true, false, cond, ◌&&◌, ◌||◌, not, nat_eq, List, [], ◌∷◌, ◌++◌, map, max, length, Option, Some, None, refl, sym, ap, arith, inl, inr, ◌⊎◌, ◌∙◌}
+use Rattle.std.proofs.Common.{
+  ◌≡◌,
+  ℕ,
+  zero,
+  suc,
+  ◌+◌,
+  ◌*◌,
+  ◌<◌,
+  ◌≤◌,
+  Bool,
+  true,
+  false,
+  cond,
+  ◌&&◌,
+  ◌||◌,
+  not,
+  nat_eq,
+  List,
+  [],
+  ◌∷◌,
+  ◌++◌,
+  map,
+  max,
+  length,
+  Option,
+  Some,
+  None,
+  refl,
+  sym,
+  ap,
+  arith,
+  inl,
+  inr,
+  ◌⊎◌,
+  ◌∙◌,
+}
 use Rattle.std.specs.Prelude.{nat_le, slice_get}
 use Rattle.std.specs.List.{list_any, list_all, range_with_len}
 use Rattle.std.specs.Cmp.Derive.{both_true}
@@ -86,7 +121,8 @@ module _ (weight : ℕ → ℕ) where
   past w a zero l = omega arith
   past w a (suc n) l = by (nat_eq w a) refl (past w (a + 1) n (omega arith))
     where
-      by : (b : Bool) → nat_eq w a ≡ b → total (λ v. cond (nat_eq w v) (weight v) 0) (range_with_len (a + 1) n) ≤ 0 → cond b (weight a) 0 + total (λ v. cond (nat_eq w v) (weight v) 0) (range_with_len (a + 1) n) ≤ 0
+      by : (b : Bool) → nat_eq w a ≡ b → total (λ v. cond (nat_eq w v) (weight v) 0) (range_with_len (a + 1) n) ≤ 0
+          → cond b (weight a) 0 + total (λ v. cond (nat_eq w v) (weight v) 0) (range_with_len (a + 1) n) ≤ 0
       by true e r = let s = eqb-true w a e in absurd (omega arith)
       by false e r = omega arith
 
@@ -94,7 +130,8 @@ module _ (weight : ℕ → ℕ) where
   once w a zero = omega arith
   once w a (suc n) = by (nat_eq w a) refl (once w (a + 1) n)
     where
-      by : (b : Bool) → nat_eq w a ≡ b → total (λ v. cond (nat_eq w v) (weight v) 0) (range_with_len (a + 1) n) ≤ weight w → cond b (weight a) 0 + total (λ v. cond (nat_eq w v) (weight v) 0) (range_with_len (a + 1) n) ≤ weight w
+      by : (b : Bool) → nat_eq w a ≡ b → total (λ v. cond (nat_eq w v) (weight v) 0) (range_with_len (a + 1) n) ≤ weight w
+          → cond b (weight a) 0 + total (λ v. cond (nat_eq w v) (weight v) 0) (range_with_len (a + 1) n) ≤ weight w
       by true e r =
           let s = eqb-true w a e in
           let t = ap weight s in
@@ -127,7 +164,8 @@ module _ (weight : ℕ → ℕ) where
           omega arith
 
 -- one act more has ended by a date
-pub ended_more : (test : Act → Bool) (before : List Act) (x : Act) (date : ℕ) → have_ended test (before ++ x ∷ []) date ≡ true → (have_ended test before date ≡ true) × (test x ≡ true → end_of x ≤ date)
+pub ended_more : (test : Act → Bool) (before : List Act) (x : Act) (date : ℕ) → have_ended test (before ++ x ∷ []) date ≡ true
+    → (have_ended test before date ≡ true) × (test x ≡ true → end_of x ≤ date)
 ended_more test [] x date h = (refl, by (test x) (and_parts (not (test x) || nat_le (end_of x) date) true h).0)
   where
     by : (b : Bool) → (not b || nat_le (end_of x) date) ≡ true → b ≡ true → end_of x ≤ date
@@ -169,7 +207,8 @@ module _ (g : Graph) (a : Architecture) (ticks : ℕ → ℕ → Option ℕ) (we
 
 module _ (g : Graph) (a : Architecture) (ticks : ℕ → ℕ → Option ℕ) (weight : ℕ → ℕ) where
   -- the weight on so many operators is at most as often the length
-  loads_low : (os : List ℕ) (xs : List Act) → Each (λ o. (v t : ℕ) → ticks v o ≡ Some t → weight v ≤ t) os → are_right g a ticks [] xs ≡ true → total (λ o. total (of_act_on weight o) xs) os ≤ length os * latest xs
+  loads_low : (os : List ℕ) (xs : List Act) → Each (λ o. (v t : ℕ) → ticks v o ≡ Some t → weight v ≤ t) os → are_right g a ticks [] xs
+      ≡ true → total (λ o. total (of_act_on weight o) xs) os ≤ length os * latest xs
   loads_low [] xs low h = omega arith
   loads_low (o ∷ os) xs low h =
       let l = load_low g a ticks weight o low.0 [] xs 0 (λ date k. omega arith) h in

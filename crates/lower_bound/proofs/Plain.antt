@@ -36,7 +36,9 @@ module _ (operators : ℕ) (ticks : ℕ → ℕ → Option ℕ) (vertices : List
       by true = omega arith
       by false = omega arith
 
-  arrivals_plain : (f : ℕ → ℕ) (o : ℕ) (gs : List Guard) (xs : List Source) → greatest (map (arrival operators ticks vertices [] f o) (map (λ d. d.source) gs ++ xs)) ≡ greatest (map f (map (λ d. d.source.vertex) gs ++ map (λ s. s.vertex) xs))
+  arrivals_plain : (f : ℕ → ℕ) (o : ℕ) (gs : List Guard) (xs : List Source)
+      → greatest (map (arrival operators ticks vertices [] f o) (map (λ d. d.source) gs ++ xs))
+      ≡ greatest (map f (map (λ d. d.source.vertex) gs ++ map (λ s. s.vertex) xs))
   arrivals_plain f o [] [] = refl
   arrivals_plain f o [] (x ∷ xs) = let e = arrives_plain f o x in let r = arrivals_plain f o [] xs in omega arith
   arrivals_plain f o (d ∷ gs) xs = let e = arrives_plain f o d.source in let r = arrivals_plain f o gs xs in omega arith

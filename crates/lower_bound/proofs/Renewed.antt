@@ -1,5 +1,39 @@
 -- Dates that are renewed become the chains to their operations.
-use Rattle.std.proofs.Common.{◌≡◌, ℕ, zero, suc, ◌+◌, ◌*◌, ◌<◌, ◌≤◌, Bool, true, false, cond, ◌||◌, List, [], ◌∷◌, ◌++◌, map, max, min, length, Option, Some, None, refl, sym, ap, subst, arith, ◌∙◌, below_more, inl, inr}
+use Rattle.std.proofs.Common.{
+  ◌≡◌,
+  ℕ,
+  zero,
+  suc,
+  ◌+◌,
+  ◌*◌,
+  ◌<◌,
+  ◌≤◌,
+  Bool,
+  true,
+  false,
+  cond,
+  ◌||◌,
+  List,
+  [],
+  ◌∷◌,
+  ◌++◌,
+  map,
+  max,
+  min,
+  length,
+  Option,
+  Some,
+  None,
+  refl,
+  sym,
+  ap,
+  subst,
+  arith,
+  ◌∙◌,
+  below_more,
+  inl,
+  inr,
+}
 use Rattle.std.specs.Prelude.{is_some, nat_lt, slice_get, slice_index_or, slice_set, unwrap_or, IfSome}
 use Rattle.std.specs.List.{list_all, range_with_len}
 use Rattle.std.proofs.lemmas.Bool.{false≢true, and_parts, cases_eq}
@@ -47,7 +81,8 @@ greatest_low f date h (v ∷ vs) = let l = h v in let r = greatest_low f date h 
 
 module _ (operators : ℕ) (ticks : ℕ → ℕ → Option ℕ) (vertices : List Vertex) (media : List Medium) where
   -- what arrives from operations of the same dates arrives at the same date
-  arrivals_same : (f g : ℕ → ℕ) (test : ℕ → Bool) → ((u : ℕ) → test u ≡ true → f u ≡ g u) → (o : ℕ) (gs : List Guard) (xs : List Source) → list_all test (map (λ d. d.source.vertex) gs ++ map (λ s. s.vertex) xs) ≡ true
+  arrivals_same : (f g : ℕ → ℕ) (test : ℕ → Bool) → ((u : ℕ) → test u ≡ true → f u ≡ g u) → (o : ℕ) (gs : List Guard) (xs : List Source)
+      → list_all test (map (λ d. d.source.vertex) gs ++ map (λ s. s.vertex) xs) ≡ true
       → greatest (map (arrival operators ticks vertices media f o) (map (λ d. d.source) gs ++ xs)) ≡ greatest (map (arrival operators ticks vertices media g o) (map (λ d. d.source) gs ++ xs))
   arrivals_same f g test same o [] [] h = refl
   arrivals_same f g test same o [] (x ∷ xs) h =
@@ -62,15 +97,19 @@ module _ (operators : ℕ) (ticks : ℕ → ℕ → Option ℕ) (vertices : List
       omega arith
 
   -- what is done after a round needs what was done before it
-  end_same : (f g : ℕ → ℕ) (rounds v : ℕ) → ((u : ℕ) → is_done vertices rounds u ≡ true → f u ≡ g u) → is_done vertices (suc rounds) v ≡ true → first_end operators ticks vertices media f v ≡ first_end operators ticks vertices media g v
+  end_same : (f g : ℕ → ℕ) (rounds v : ℕ) → ((u : ℕ) → is_done vertices rounds u ≡ true → f u ≡ g u) → is_done vertices (suc rounds) v
+      ≡ true → first_end operators ticks vertices media f v ≡ first_end operators ticks vertices media g v
   end_same f g rounds v same h = λ i. unwrap_or (least_of (map (λ o. later_by (ticks v o) (by o (slice_get vertices v) h i)) (range_with_len 0 operators))) 0
     where
-      by : (o : ℕ) (y : Option Vertex) → with_vertex y false (λ x. list_all (is_done vertices rounds) (depends_on x)) ≡ true → with_vertex y 0 (start_on operators ticks vertices media f o) ≡ with_vertex y 0 (start_on operators ticks vertices media g o)
+      by : (o : ℕ) (y : Option Vertex) → with_vertex y false (λ x. list_all (is_done vertices rounds) (depends_on x)) ≡ true
+          → with_vertex y 0 (start_on operators ticks vertices media f o) ≡ with_vertex y 0 (start_on operators ticks vertices media g o)
       by o None h = refl
       by o (Some x) h =
           let guards = map (λ d. d.source.vertex) x.guards in
           let ins = map (λ s. s.vertex) x.ins in
-          let both = and_parts (list_all (is_done vertices rounds) (guards ++ ins)) (list_all (is_done vertices rounds) (get_half x.kind x.twin)) (sym (list_all-append (is_done vertices rounds) (guards ++ ins) (get_half x.kind x.twin)) ∙ h) in
+          let both = and_parts (list_all (is_done vertices rounds) (guards ++ ins))
+          (list_all (is_done vertices rounds) (get_half x.kind x.twin))
+          (sym (list_all-append (is_done vertices rounds) (guards ++ ins) (get_half x.kind x.twin)) ∙ h) in
           let r = arrivals_same f g (is_done vertices rounds) same o x.guards x.ins both.0 in
           let e = same_where f g (is_done vertices rounds) same (get_half x.kind x.twin) both.1 in
           omega arith
@@ -123,7 +162,10 @@ module _ (operators : ℕ) (ticks : ℕ → ℕ → Option ℕ) (vertices : List
 
           all : (os : List ℕ) → IfSome (least_of (map (end_on operators ticks vertices media f v) os)) (λ t. t ≤ date + 1065000000)
           all [] = tt
-          all (o ∷ os) = lesser_low (date + 1065000000) (end_on operators ticks vertices media f v o) (least_of (map (end_on operators ticks vertices media f v) os)) (later (ticks v o) (with_vertex (slice_get vertices v) 0 (start_on operators ticks vertices media f o)) (low v o) (start o (slice_get vertices v))) (all os)
+          all (o ∷ os) = lesser_low (date + 1065000000) (end_on operators ticks vertices media f v o)
+              (least_of (map (end_on operators ticks vertices media f v) os))
+              (later (ticks v o) (with_vertex (slice_get vertices v) 0 (start_on operators ticks vertices media f o)) (low v o)
+              (start o (slice_get vertices v))) (all os)
 
       chain_low : (n v : ℕ) → carried_within operators ticks vertices media n v ≤ 1065000000 * n
       chain_low zero v = omega arith
@@ -152,7 +194,8 @@ module _ (operators : ℕ) (ticks : ℕ → ℕ → Option ℕ) (vertices : List
           within (y ∷ xs) zero e = omega arith
           within (y ∷ xs) (suc u) e = let z = within xs u e in omega arith
 
-      pub turn_more : (rounds op : ℕ) (dates after : List ℕ) → op < length vertices → op < length dates → after ≡ slice_set dates op (renewed operators ticks vertices media dates op) → HadTurn rounds op dates → HadTurn rounds (op + 1) after
+      pub turn_more : (rounds op : ℕ) (dates after : List ℕ) → op < length vertices → op < length dates → after
+          ≡ slice_set dates op (renewed operators ticks vertices media dates op) → HadTurn rounds op dates → HadTurn rounds (op + 1) after
       turn_more rounds op dates after l m is had = record {
         all = λ v h. (elim (cases_eq v op) [
           | inl e ↦ (let d = stays_done vertices rounds v h in
@@ -174,7 +217,8 @@ module _ (operators : ℕ) (ticks : ℕ → ℕ → Option ℕ) (vertices : List
       turn_done rounds op dates l had v h = had.past v (let k = done_within vertices (suc rounds) v h in omega arith) h
 
   -- a date that is renewed and stays leaves all as they are
-  pub settled_more : (op : ℕ) (dates after : List ℕ) → op < length dates → after ≡ slice_set dates op (renewed operators ticks vertices media dates op) → at dates op ≡ renewed operators ticks vertices media dates op
+  pub settled_more : (op : ℕ) (dates after : List ℕ) → op < length dates → after
+      ≡ slice_set dates op (renewed operators ticks vertices media dates op) → at dates op ≡ renewed operators ticks vertices media dates op
       → ((v : ℕ) → v < op → at dates v ≡ renewed operators ticks vertices media dates v) → (v : ℕ) → v < op + 1 → at after v ≡ renewed operators ticks vertices media after v
   settled_more op dates after l is stays past =
       let same : dates ≡ after = sym (is ∙ set_same dates op (renewed operators ticks vertices media dates op) l stays) in

@@ -35,7 +35,7 @@ brought_low operators o n m h l = by (stands_at m o)
   where
     time_low : m.fixed + n * m.per ≤ 65000000
     time_low =
-        let stand = may_stand m.multi (length m.stands) && ascends_from 0 m.stands && list_all (λ o. nat_lt o operators) m.stands in
+        let stand = may_stand m.kind (length m.stands) && ascends_from 0 m.stands && list_all (λ o. nat_lt o operators) m.stands in
         let a = and_parts (stand && nat_le m.fixed 1000000) (nat_le m.per 1000000) h in
         let b = and_parts stand (nat_le m.fixed 1000000) a.0 in
         let per = leb-true m.per 1000000 a.1 in
@@ -58,7 +58,8 @@ unless_none None most h = omega arith
 unless_none (Some t) most h = h
 
 pub are_short : (g : Graph) (a : Architecture) → is_flat g ≡ true → is_archi a.operators a.media ≡ true → AreShort a.media g.vertices
-are_short g a flat archi o s = unless_none (least_of (map (brought_in o (len_of g.vertices s)) a.media)) 65000000 (least_low (length a.operators) o (len_of g.vertices s) a.media media (len_low g flat s))
+are_short g a flat archi o s = unless_none (least_of (map (brought_in o (len_of g.vertices s)) a.media)) 65000000
+    (least_low (length a.operators) o (len_of g.vertices s) a.media media (len_low g flat s))
   where
     media : list_all (is_medium (length a.operators)) a.media ≡ true
     media =

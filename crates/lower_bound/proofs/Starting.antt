@@ -16,10 +16,13 @@ module _ (operators : ℕ) (ticks : ℕ → ℕ → Option ℕ) (vertices : List
   pub end_is : (op o t start : ℕ) (x : Vertex) → op < length vertices → x ≡ slice_index_or vertices op x → Some t ≡ ticks op o → start ≡ start_on operators ticks vertices media dates o x
       → Some (t + start) ≡ end_on operators ticks vertices media dates op o
   end_is op o t start x l is e s =
-      (λ i. later_by (e i) (s i)) ∙ ap (λ (y : Option Vertex). later_by (ticks op o) (with_vertex y 0 (start_on operators ticks vertices media dates o))) (sym (slice_get_read vertices (length vertices) op x refl l is))
+      (λ i. later_by (e i) (s i)) ∙ ap
+      (λ (y : Option Vertex). later_by (ticks op o) (with_vertex y 0 (start_on operators ticks vertices media dates o)))
+      (sym (slice_get_read vertices (length vertices) op x refl l is))
 
   pub start_is : (o : ℕ) (x : Vertex) (guards inputs half start : ℕ) → guards ≡ greatest (map (arrival operators ticks vertices media dates o) (map (λ g. g.source) x.guards))
-      → inputs ≡ greatest (map (arrival operators ticks vertices media dates o) x.ins) → half ≡ greatest (map dates (get_half x.kind x.twin)) → start ≡ max (max guards inputs) half → start ≡ start_on operators ticks vertices media dates o x
+      → inputs ≡ greatest (map (arrival operators ticks vertices media dates o) x.ins) → half
+      ≡ greatest (map dates (get_half x.kind x.twin)) → start ≡ max (max guards inputs) half → start ≡ start_on operators ticks vertices media dates o x
   start_is o x guards inputs half start g n h s =
       let f = arrival operators ticks vertices media dates o in
       let sources = map (λ g. g.source) x.guards in

@@ -24,17 +24,22 @@ list_is f a (suc n) (x ∷ xs) l h =
     λ i. first i ∷ rest i
 
 -- the greatest of the chains to all operations is the longest chain
-pub longest_is : (operators : ℕ) (ticks : ℕ → ℕ → Option ℕ) (vertices : List Vertex) (media : List Medium) (ends : List ℕ) → length ends ≡ length vertices → ((v : ℕ) → v < length vertices → at ends v ≡ carried_to operators ticks vertices media v)
+pub longest_is : (operators : ℕ) (ticks : ℕ → ℕ → Option ℕ) (vertices : List Vertex) (media : List Medium) (ends : List ℕ) → length ends
+    ≡ length vertices → ((v : ℕ) → v < length vertices → at ends v ≡ carried_to operators ticks vertices media v)
     → greatest ends ≡ longest_carried operators ticks vertices media
 longest_is operators ticks vertices media ends size chains =
-    ap greatest (list_is (carried_to operators ticks vertices media) 0 (length vertices) ends size (λ v l. chains v l ∙ ap (carried_to operators ticks vertices media) (let e : v ≡ 0 + v = omega arith in e)))
+    ap greatest (list_is (carried_to operators ticks vertices media) 0 (length vertices) ends size
+    (λ v l. chains v l ∙ ap (carried_to operators ticks vertices media) (let e : v ≡ 0 + v = omega arith in e)))
 
-pub bound_is : (g : Graph) (a : Architecture) (d : Table) → IsOf g a d → (chain shared work n : ℕ) → chain ≡ longest_carried d.operators (entry_in d) g.vertices a.media → shared ≡ shared_work d.operators (entry_in d) (length d.rows)
+pub bound_is : (g : Graph) (a : Architecture) (d : Table) → IsOf g a d → (chain shared work n : ℕ) → chain
+    ≡ longest_carried d.operators (entry_in d) g.vertices a.media → shared ≡ shared_work d.operators (entry_in d) (length d.rows)
     → work ≡ greatest_work d.operators (entry_in d) (length d.rows) → n ≡ max (max chain shared) work → n ≡ lower_bound (length a.operators) (entry_in d) g.vertices a.media
 bound_is g a d fits chain shared work n c s w is =
     let x = ap (λ (k : ℕ). longest_carried k (entry_in d) g.vertices a.media) fits.operators in
-    let y : shared_work d.operators (entry_in d) (length d.rows) ≡ shared_work (length a.operators) (entry_in d) (length g.vertices) = λ i. shared_work (fits.operators i) (entry_in d) (fits.operations i) in
-    let z : greatest_work d.operators (entry_in d) (length d.rows) ≡ greatest_work (length a.operators) (entry_in d) (length g.vertices) = λ i. greatest_work (fits.operators i) (entry_in d) (fits.operations i) in
+    let y : shared_work d.operators (entry_in d) (length d.rows)
+    ≡ shared_work (length a.operators) (entry_in d) (length g.vertices) = λ i. shared_work (fits.operators i) (entry_in d) (fits.operations i) in
+    let z : greatest_work d.operators (entry_in d) (length d.rows)
+    ≡ greatest_work (length a.operators) (entry_in d) (length g.vertices) = λ i. greatest_work (fits.operators i) (entry_in d) (fits.operations i) in
     omega arith
 
 pub below_all : (g : Graph) (a : Architecture) (d : Table) (n : ℕ) → n ≡ lower_bound (length a.operators) (entry_in d) g.vertices a.media → IsBelowAll g a (entry_in d) n

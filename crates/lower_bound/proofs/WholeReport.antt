@@ -16,7 +16,8 @@ use Rattle.lower_bound.specs.declared.report.Report.{Report}
 use Rattle.lower_bound.specs.Numbers.{alone, loads, ratio, report}
 
 module _ (g : Graph) (a : Architecture) (d : Table) (s : Schedule) (fits : IsOf g a d) where
-  pub report_is : (len : ℕ) (operators : List (List ℕ)) (media : List Medium) (on over : List Load) (list : List (Option Alone)) (bound : ℕ) (above : Ratio) → len ≡ length_of s → operators ≡ a.operators → media ≡ a.media
+  pub report_is : (len : ℕ) (operators : List (List ℕ)) (media : List Medium) (on over : List Load) (list : List (Option Alone))
+      (bound : ℕ) (above : Ratio) → len ≡ length_of s → operators ≡ a.operators → media ≡ a.media
       → on ≡ loads is_on (length operators) s → over ≡ loads is_over (length media) s → list ≡ map (alone (entry_in d) (length d.rows) len) (range_with_len 0 d.operators)
       → bound ≡ lower_bound (length a.operators) (entry_in d) g.vertices a.media → above ≡ ratio len bound
       → record { length = len; operators = on; media = over; alone = list; bound = bound; above = above } ≡ report g a (entry_in d) s

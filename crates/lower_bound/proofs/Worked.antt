@@ -4,8 +4,26 @@ use Rattle.self_timed.specs.declared.Kind.TheVariants.{Actuator, Function, Get, 
 use Rattle.self_timed.specs.declared.Guard.{Guard}
 use Rattle.self_timed.specs.declared.Vertex.{Vertex}
 use Rattle.self_timed.specs.declared.Medium.{Medium}
+use Rattle.self_timed.specs.declared.MediumKind.TheVariants.{PointToPoint, Multipoint}
 use Rattle.self_timed.specs.Acts.{length_of}
-use Rattle.self_timed.proofs.Examples.{entry, limits, operation, source, vertex, plain_graph, bus_graph, bus_archi, bus_ticks, bus_schedule, relay_archi, relay_schedule, speed_graph, speed_archi, speed_ticks, speed_schedule}
+use Rattle.self_timed.proofs.Examples.{
+  entry,
+  limits,
+  operation,
+  source,
+  vertex,
+  plain_graph,
+  bus_graph,
+  bus_archi,
+  bus_ticks,
+  bus_schedule,
+  relay_archi,
+  relay_schedule,
+  speed_graph,
+  speed_archi,
+  speed_ticks,
+  speed_schedule,
+}
 use Rattle.lower_bound.specs.Bound.{least, least_transfer, carried_to, chain_to, end_on, longest_carried, longest_chain, may_work, shared_work, work_only, greatest_work, lower_bound}
 use Rattle.lower_bound.specs.Chain.{chain_links, goes_back}
 use Rattle.lower_bound.specs.declared.links.Link.{Link}
@@ -15,7 +33,8 @@ use Rattle.comm_routing.specs.Candidates.{needs_of}
 abbrev plain_ticks : ℕ → ℕ → Option ℕ
 plain_ticks = entry ((Some 1 ∷ []) ∷ (Some 2 ∷ []) ∷ [])
 
-plain : (longest_chain 1 plain_ticks plain_graph.vertices ≡ 3) × (shared_work 1 plain_ticks 2 ≡ 3) × (greatest_work 1 plain_ticks 2 ≡ 3) × (longest_carried 1 plain_ticks plain_graph.vertices [] ≡ 3) × (lower_bound 1 plain_ticks plain_graph.vertices [] ≡ 3)
+plain : (longest_chain 1 plain_ticks plain_graph.vertices ≡ 3) × (shared_work 1 plain_ticks 2 ≡ 3) × (greatest_work 1 plain_ticks 2 ≡ 3)
+    × (longest_carried 1 plain_ticks plain_graph.vertices [] ≡ 3) × (lower_bound 1 plain_ticks plain_graph.vertices [] ≡ 3)
 plain = (refl, refl, refl, refl, refl)
 
 -- The sensor, which stands on the first operator alone, either function, an actuator. All together last 23.
@@ -24,7 +43,8 @@ bus : (longest_chain 2 bus_ticks bus_graph.vertices ≡ 12) × (shared_work 2 bu
 bus = (refl, refl, refl, refl, refl, refl)
 
 -- A chain of eight: a sensor, four functions, a case, whose guard is a function's, a merge, an actuator. One actuator stands on the second operator alone.
-speed : (chain_to 2 speed_ticks speed_graph.vertices 8 ≡ 17) × (longest_chain 2 speed_ticks speed_graph.vertices ≡ 19) × (shared_work 2 speed_ticks 14 ≡ 14) × (work_only 2 speed_ticks 14 0 ≡ 6) × (work_only 2 speed_ticks 14 1 ≡ 5)
+speed : (chain_to 2 speed_ticks speed_graph.vertices 8 ≡ 17) × (longest_chain 2 speed_ticks speed_graph.vertices ≡ 19)
+    × (shared_work 2 speed_ticks 14 ≡ 14) × (work_only 2 speed_ticks 14 0 ≡ 6) × (work_only 2 speed_ticks 14 1 ≡ 5)
     × (lower_bound 2 speed_ticks speed_graph.vertices speed_archi.media ≡ 19) × (length_of speed_schedule ≡ 27)
 speed = (refl, refl, refl, refl, refl, refl, refl)
 
@@ -35,7 +55,8 @@ kept = operation 115 (Sensor 0) [] [] (1 ∷ []) None ∷ operation 103 (Get (po
 abbrev slow_halves : ℕ → ℕ → Option ℕ
 slow_halves = entry ((Some 2 ∷ []) ∷ (Some 11 ∷ Some 9 ∷ []) ∷ (None ∷ Some 5 ∷ []) ∷ [])
 
-halves : (needs_of kept 2 ≡ 0 ∷ 1 ∷ []) × (chain_to 2 slow_halves kept 1 ≡ 9) × (chain_to 2 slow_halves kept 2 ≡ 14) × (chain_to 2 slow_halves kept 0 ≡ 2) × (carried_to 2 slow_halves kept bus_archi.media 2 ≡ 14)
+halves : (needs_of kept 2 ≡ 0 ∷ 1 ∷ []) × (chain_to 2 slow_halves kept 1 ≡ 9) × (chain_to 2 slow_halves kept 2 ≡ 14)
+    × (chain_to 2 slow_halves kept 0 ≡ 2) × (carried_to 2 slow_halves kept bus_archi.media 2 ≡ 14)
 halves = (refl, refl, refl, refl, refl)
 
 -- Of three operators the last may take only what takes no time on some operator, so the work is divided by two. No medium leads to it. The first function ends first on the second operator, though its value is carried there, and so does the actuator that stands there alone.
@@ -43,14 +64,18 @@ abbrev uneven_ticks : ℕ → ℕ → Option ℕ
 uneven_ticks = entry ((Some 1 ∷ []) ∷ (Some 10 ∷ Some 7 ∷ []) ∷ (Some 9 ∷ Some 12 ∷ []) ∷ (None ∷ Some 3 ∷ []) ∷ (None ∷ Some 2 ∷ Some 0 ∷ []) ∷ [])
 
 uneven : (least 3 uneven_ticks 1 ≡ 7) × (may_work 3 uneven_ticks 5 2 ≡ false) × (longest_chain 3 uneven_ticks bus_graph.vertices ≡ 11) × (shared_work 3 uneven_ticks 5 ≡ 10)
-    × (work_only 3 uneven_ticks 5 0 ≡ 1) × (work_only 3 uneven_ticks 5 1 ≡ 3) × (work_only 3 uneven_ticks 5 2 ≡ 0) × (map (carried_to 3 uneven_ticks bus_graph.vertices bus_archi.media) (0 ∷ 1 ∷ 2 ∷ 3 ∷ 4 ∷ []) ≡ 1 ∷ 10 ∷ 10 ∷ 13 ∷ 10 ∷ []) × (lower_bound 3 uneven_ticks bus_graph.vertices bus_archi.media ≡ 13)
+    × (work_only 3 uneven_ticks 5 0 ≡ 1) × (work_only 3 uneven_ticks 5 1 ≡ 3) × (work_only 3 uneven_ticks 5 2 ≡ 0)
+    × (map (carried_to 3 uneven_ticks bus_graph.vertices bus_archi.media) (0 ∷ 1 ∷ 2 ∷ 3 ∷ 4 ∷ []) ≡ 1 ∷ 10 ∷ 10 ∷ 13 ∷ 10 ∷ [])
+    × (lower_bound 3 uneven_ticks bus_graph.vertices bus_archi.media ≡ 13)
 uneven = (refl, refl, refl, refl, refl, refl, refl, refl, refl)
 
 -- Both functions stand on the second operator alone, to which the sensor's value is carried: one waits for the other.
 abbrev bound_ticks : ℕ → ℕ → Option ℕ
 bound_ticks = entry ((Some 4 ∷ []) ∷ (None ∷ Some 6 ∷ []) ∷ (None ∷ Some 7 ∷ []) ∷ (Some 1 ∷ Some 1 ∷ []) ∷ (Some 1 ∷ Some 1 ∷ []) ∷ [])
 
-bound : (longest_chain 2 bound_ticks bus_graph.vertices ≡ 12) × (shared_work 2 bound_ticks 5 ≡ 10) × (work_only 2 bound_ticks 5 0 ≡ 4) × (work_only 2 bound_ticks 5 1 ≡ 13) × (longest_carried 2 bound_ticks bus_graph.vertices bus_archi.media ≡ 14) × (lower_bound 2 bound_ticks bus_graph.vertices bus_archi.media ≡ 14) × (lower_bound 2 bound_ticks bus_graph.vertices [] ≡ 13)
+bound : (longest_chain 2 bound_ticks bus_graph.vertices ≡ 12) × (shared_work 2 bound_ticks 5 ≡ 10) × (work_only 2 bound_ticks 5 0 ≡ 4)
+    × (work_only 2 bound_ticks 5 1 ≡ 13) × (longest_carried 2 bound_ticks bus_graph.vertices bus_archi.media ≡ 14)
+    × (lower_bound 2 bound_ticks bus_graph.vertices bus_archi.media ≡ 14) × (lower_bound 2 bound_ticks bus_graph.vertices [] ≡ 13)
 bound = (refl, refl, refl, refl, refl, refl, refl)
 
 -- Three operations on two operators, none of which depends on another: 11 ticks are divided by two, and rounded up.
@@ -79,7 +104,7 @@ relay = (refl, refl, refl)
 
 -- Two media, of which one begins sooner and the other is faster; at the faster one the third operator does not stand.
 abbrev slopes : List Medium
-slopes = record { name = 120 ∷ []; multi = false; fixed = 10; per = 1; stands = 0 ∷ 1 ∷ [] } ∷ record { name = 121 ∷ []; multi = true; fixed = 1; per = 4; stands = 0 ∷ 1 ∷ 2 ∷ [] } ∷ []
+slopes = record { name = 120 ∷ []; kind = PointToPoint; fixed = 10; per = 1; stands = 0 ∷ 1 ∷ [] } ∷ record { name = 121 ∷ []; kind = Multipoint; fixed = 1; per = 4; stands = 0 ∷ 1 ∷ 2 ∷ [] } ∷ []
 
 transfers : (map (least_transfer slopes 1) (1 ∷ 8 ∷ []) ≡ 5 ∷ 18 ∷ []) × (map (least_transfer slopes 2) (1 ∷ 8 ∷ []) ≡ 5 ∷ 33 ∷ []) × (least_transfer slopes 3 1 ≡ 0)
 transfers = (refl, refl, refl)
@@ -92,7 +117,8 @@ abbrev far_ticks : ℕ → ℕ → Option ℕ
 far_ticks = entry ((Some 2 ∷ []) ∷ (Some 30 ∷ Some 3 ∷ Some 1 ∷ []) ∷ (None ∷ None ∷ Some 1 ∷ []) ∷ [])
 
 -- the function ends at 32, 23 or 36; it may stand where the actuator does, and the sensor may not
-carried : (map (end_on 3 far_ticks (far []) slopes (carried_to 3 far_ticks (far []) slopes) 1) (0 ∷ 1 ∷ 2 ∷ 3 ∷ []) ≡ Some 32 ∷ Some 23 ∷ Some 36 ∷ None ∷ []) × (longest_carried 3 far_ticks (far []) slopes ≡ 24)
+carried : (map (end_on 3 far_ticks (far []) slopes (carried_to 3 far_ticks (far []) slopes) 1) (0 ∷ 1 ∷ 2 ∷ 3 ∷ []) ≡ Some 32 ∷ Some 23
+    ∷ Some 36 ∷ None ∷ []) × (longest_carried 3 far_ticks (far []) slopes ≡ 24)
     × (longest_carried 3 far_ticks (far (read_by_guard 0)) slopes ≡ 36) × (longest_chain 3 far_ticks (far (read_by_guard 0)) ≡ 4)
 carried = (refl, refl, refl, refl)
 
@@ -106,12 +132,14 @@ speed_chain = refl
 -- Two sensors, a get half, two functions that end together, one that reads the second in its guard and the first as its input, the set half, which ends with it, an actuator.
 abbrev ways : List Vertex
 ways = operation 97 (Sensor 0) [] [] (1 ∷ []) None ∷ operation 98 (Sensor 1) [] [] (1 ∷ []) None ∷ operation 99 (Get (pos 7 ∷ [])) [] [] (1 ∷ []) (Some 6)
-    ∷ operation 100 (Function 0) [] (source 0 ∷ source 1 ∷ []) (1 ∷ []) None ∷ operation 101 (Function 0) [] (source 1 ∷ []) (1 ∷ []) None ∷ operation 102 (Function 0) (read_by_guard 4) (source 3 ∷ []) (1 ∷ []) None
+    ∷ operation 100 (Function 0) [] (source 0 ∷ source 1 ∷ []) (1 ∷ []) None ∷ operation 101 (Function 0) [] (source 1 ∷ []) (1 ∷ []) None
+    ∷ operation 102 (Function 0) (read_by_guard 4) (source 3 ∷ []) (1 ∷ []) None
     ∷ operation 103 Set [] (source 0 ∷ []) [] (Some 2) ∷ operation 104 (Actuator 0) [] (source 5 ∷ []) [] None ∷ []
 
 -- the first sensor and the set half last this long
 abbrev ways_ticks : ℕ → ℕ → ℕ → ℕ → Option ℕ
-ways_ticks first last = entry ((Some first ∷ []) ∷ (Some 9 ∷ Some 3 ∷ []) ∷ (None ∷ Some 5 ∷ []) ∷ (Some 4 ∷ []) ∷ (Some 6 ∷ Some 4 ∷ []) ∷ (Some 2 ∷ Some 8 ∷ []) ∷ (None ∷ Some last ∷ []) ∷ (Some 0 ∷ []) ∷ [])
+ways_ticks first last = entry ((Some first ∷ []) ∷ (Some 9 ∷ Some 3 ∷ []) ∷ (None ∷ Some 5 ∷ []) ∷ (Some 4 ∷ []) ∷ (Some 6 ∷ Some 4 ∷ [])
+    ∷ (Some 2 ∷ Some 8 ∷ []) ∷ (None ∷ Some last ∷ []) ∷ (Some 0 ∷ []) ∷ [])
 
 -- of three that end at 9 the first by number is taken, and of those that it needs the guard's, which has the greater number
 equal_chains : (map (chain_to 2 (ways_ticks 2 4) ways) (5 ∷ 6 ∷ 7 ∷ []) ≡ 9 ∷ 9 ∷ 9 ∷ []) × (chain_links 2 (ways_ticks 2 4) ways ≡ link 1 3 ∷ link 4 4 ∷ link 5 2 ∷ [])
@@ -129,9 +157,11 @@ equal_half = refl
 abbrev no_time : List Vertex
 no_time = vertex 97 (Actuator 0) (source 1 ∷ []) [] ∷ vertex 98 (Sensor 0) [] (1 ∷ []) ∷ []
 
-no_time_chain : (chain_links 1 (entry ((Some 0 ∷ []) ∷ (Some 4 ∷ []) ∷ [])) no_time ≡ link 1 4 ∷ link 0 0 ∷ []) × (chain_links 1 (λ v o. Some 0) no_time ≡ link 1 0 ∷ link 0 0 ∷ []) × (chain_links 1 (λ v o. Some 0) [] ≡ [])
+no_time_chain : (chain_links 1 (entry ((Some 0 ∷ []) ∷ (Some 4 ∷ []) ∷ [])) no_time ≡ link 1 4 ∷ link 0 0 ∷ [])
+    × (chain_links 1 (λ v o. Some 0) no_time ≡ link 1 0 ∷ link 0 0 ∷ []) × (chain_links 1 (λ v o. Some 0) [] ≡ [])
 no_time_chain = (refl, refl, refl)
 
 -- each needs the one after it, and the last none
-followed : (goes_back 2 (ways_ticks 2 4) ways (5 ∷ 4 ∷ 1 ∷ []) ≡ true) × (goes_back 2 (ways_ticks 2 4) ways (5 ∷ 4 ∷ []) ≡ false) × (goes_back 2 (ways_ticks 2 4) ways (5 ∷ 1 ∷ []) ≡ false) × (goes_back 2 (ways_ticks 2 4) ways (6 ∷ 2 ∷ []) ≡ true)
+followed : (goes_back 2 (ways_ticks 2 4) ways (5 ∷ 4 ∷ 1 ∷ []) ≡ true) × (goes_back 2 (ways_ticks 2 4) ways (5 ∷ 4 ∷ []) ≡ false)
+    × (goes_back 2 (ways_ticks 2 4) ways (5 ∷ 1 ∷ []) ≡ false) × (goes_back 2 (ways_ticks 2 4) ways (6 ∷ 2 ∷ []) ≡ true)
 followed = (refl, refl, refl, refl)

@@ -2,7 +2,25 @@
 use Rattle.std.proofs.Common.{◌≡◌, ℕ, List, [], ◌∷◌, Option, Some, None, refl, pos}
 use Rattle.self_timed.specs.Graph.{Graph}
 use Rattle.self_timed.specs.declared.Kind.TheVariants.{Actuator, Constant, Get, Set}
-use Rattle.self_timed.proofs.Examples.{carried, entry, operation, placed, schedule, source, plain_graph, plain_archi, plain_schedule, bus_graph, bus_archi, bus_ticks, bus_schedule, speed_graph, speed_archi, speed_ticks, speed_schedule}
+use Rattle.self_timed.proofs.Examples.{
+  carried,
+  entry,
+  operation,
+  placed,
+  schedule,
+  source,
+  plain_graph,
+  plain_archi,
+  plain_schedule,
+  bus_graph,
+  bus_archi,
+  bus_ticks,
+  bus_schedule,
+  speed_graph,
+  speed_archi,
+  speed_ticks,
+  speed_schedule,
+}
 use Rattle.lower_bound.specs.declared.ratio.Ratio.{Ratio}
 use Rattle.lower_bound.specs.declared.loads.Load.{Load}
 use Rattle.lower_bound.specs.declared.alone.Alone.{Alone}
@@ -59,5 +77,7 @@ kept_graph = record {
 
 -- the speed controller's two transfers carry a sensor's value and a function's; a constant and what a delay keeps are counted apart
 counted : (transfers speed_graph speed_schedule ≡ record { all = 2; constants = 0; delays = 0 })
-    × (transfers kept_graph (schedule (placed 3 1 0 1 (carried 0 0 0 1 0 1 ∷ carried 1 0 0 1 1 2 ∷ []) ∷ placed 2 1 3 4 (carried 1 0 0 1 2 3 ∷ []) ∷ [])) ≡ record { all = 3; constants = 1; delays = 2 })
+    × (transfers kept_graph (schedule
+    (placed 3 1 0 1 (carried 0 0 0 1 0 1 ∷ carried 1 0 0 1 1 2 ∷ []) ∷ placed 2 1 3 4 (carried 1 0 0 1 2 3 ∷ []) ∷ []))
+    ≡ record { all = 3; constants = 1; delays = 2 })
 counted = (refl, refl)

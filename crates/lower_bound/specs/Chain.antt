@@ -64,7 +64,7 @@ module _ (operators : ℕ) (ticks : ℕ → ℕ → Option ℕ) (vertices : List
   abbrev pub link_of : ℕ → Link
   link_of v = record { op = v; ticks = least operators ticks v }
 
-  -- its operations from the first to the last, each with its least duration
+  -- The operations of the chain from the first to the last, each with its least duration.
   abbrev pub chain_links : List Link
   chain_links = reverse (map link_of chain_back)
 

@@ -30,7 +30,8 @@ no_operator (Some n) = refl
 
 -- a buffer that is not there is not guarded
 pub not_there : (p : Program) (q : ℕ) (r : Reading) → length p.buffers ≤ r.buffer → false ≡ guards_by p q r
-not_there p q r l = sym (ap (λ (t : Bool). nat_lt q (length p.pairs) && t && is_written_between p q (writer_of p r.buffer) (written_at p r.buffer) && is_read_between p q r.buffer r.sequence) none ∙ by (nat_lt q (length p.pairs)))
+not_there p q r l = sym (ap (λ (t : Bool). nat_lt q (length p.pairs) && t
+    && is_written_between p q (writer_of p r.buffer) (written_at p r.buffer) && is_read_between p q r.buffer r.sequence) none ∙ by (nat_lt q (length p.pairs)))
   where
     past : operator_of p r.buffer ≡ None
     past = rw (slice_get_past p.buffers r.buffer l) refl

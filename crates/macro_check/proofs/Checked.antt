@@ -53,20 +53,24 @@ module _ (p : Program) (g : Graph) (a : Architecture) where
     pub few : IsTrue (is_archi a.operators a.media) → length p.seqs ≤ 2 ^ 32
     few valid = let l = few_codes a p valid names.sequences in omega arith
 
-    pub accepted : (vs : List Vertex) (media : ℕ) → vs ≡ g.vertices → media ≡ length a.media → (order : List ℕ) → IsWhole p order → lack p vs media ≡ None → IsOrder p g (sequences a) (length a.media) order
+    pub accepted : (vs : List Vertex) (media : ℕ) → vs ≡ g.vertices → media ≡ length a.media → (order : List ℕ) → IsWhole p order
+        → lack p vs media ≡ None → IsOrder p g (sequences a) (length a.media) order
     accepted vs media v m order w l =
         let none : lack p g.vertices (length a.media) ≡ None = (λ i. lack p (sym v i) (sym m i)) ∙ l in
         let all = all_of p g.vertices (length a.media) none in
         runs_are_orders p g (sequences a) (length a.operators) (length a.media) order
         (items_of p g (sequences a) (length a.operators) (length a.media) n all.called all.transferred all.written all.guarded all.opened) w.run w.ends
 
-    pub cause_here : (vs : List Vertex) (media : ℕ) → vs ≡ g.vertices → media ≡ length a.media → (c : Cause) → fault p vs media ≡ Some c → cause p g.vertices (sequences a) (length a.operators) (length a.media) ≡ Some c
+    pub cause_here : (vs : List Vertex) (media : ℕ) → vs ≡ g.vertices → media ≡ length a.media → (c : Cause) → fault p vs media ≡ Some c
+        → cause p g.vertices (sequences a) (length a.operators) (length a.media) ≡ Some c
     cause_here vs media v m c e = cause_is p g.vertices (length a.media) (sequences a) (length a.operators) n ∙ (λ i. fault p (sym v i) (sym m i)) ∙ e
 
-    pub refused : (vs : List Vertex) (media : ℕ) → vs ≡ g.vertices → media ≡ length a.media → (c : Cause) → fault p vs media ≡ Some c → IsCause p g (sequences a) (length a.operators) (length a.media) c
+    pub refused : (vs : List Vertex) (media : ℕ) → vs ≡ g.vertices → media ≡ length a.media → (c : Cause) → fault p vs media ≡ Some c
+        → IsCause p g (sequences a) (length a.operators) (length a.media) c
     refused vs media v m c e = cause_is_exact p g (sequences a) (length a.operators) (length a.media) c (cause_here vs media v m c e)
 
-    pub not_refused : (vs : List Vertex) (media : ℕ) → vs ≡ g.vertices → media ≡ length a.media → IsTrue (is_archi a.operators a.media) → IsWellFormed p g (sequences a) (length a.media) → (c : Cause) → fault p vs media ≡ Some c → ⊥
+    pub not_refused : (vs : List Vertex) (media : ℕ) → vs ≡ g.vertices → media ≡ length a.media → IsTrue (is_archi a.operators a.media)
+        → IsWellFormed p g (sequences a) (length a.media) → (c : Cause) → fault p vs media ≡ Some c → ⊥
     not_refused vs media v m valid w c e =
         let none = (no_cause_is_well_formed p g a valid).1 w in
         let told = cause_here vs media v m c e in

@@ -67,7 +67,8 @@ module _ (p : Program) where
   -- the source that is met is the one that is carried, and a call is met where one is
   pub source_is : (n b : ℕ) → source_met (follow p n b) ≡ carried_within p n b
   source_is zero b = refl
-  source_is (suc n) b = by (origin p b) (λ c. source_is n c) ∙ sym (hop p (suc n) b (omega arith) ∙ ap (λ (k : ℕ). source_from p (carried_within p k) (origin p b)) (let z : suc n - 1 ≡ n = omega arith in z))
+  source_is (suc n) b = by (origin p b) (λ c. source_is n c)
+      ∙ sym (hop p (suc n) b (omega arith) ∙ ap (λ (k : ℕ). source_from p (carried_within p k) (origin p b)) (let z : suc n - 1 ≡ n = omega arith in z))
     where
       by : (o : Origin) → ((c : ℕ) → source_met (follow p n c) ≡ carried_within p n c) → source_met (further o (follow p n)) ≡ source_from p (carried_within p n) o
       by (Made v k) h = refl
@@ -84,10 +85,12 @@ module _ (p : Program) where
       by Nowhere h = refl
 
   -- half as many steps twice, and one more where the number is odd
-  pub even_is : ((b c : ℕ) → origin p b ≡ Received c → c < length p.buffers) → (hops : ℕ) (half even : List Origin) → half ≡ follow_all p (hops / 2) → even ≡ map (further_in half) half → even ≡ follow_all p (hops / 2 + hops / 2)
+  pub even_is : ((b c : ℕ) → origin p b ≡ Received c → c < length p.buffers) → (hops : ℕ) (half even : List Origin) → half
+      ≡ follow_all p (hops / 2) → even ≡ map (further_in half) half → even ≡ follow_all p (hops / 2 + hops / 2)
   even_is low hops half even h e = e ∙ (λ i. map (further_in (h i)) (h i)) ∙ joined_is low (hops / 2) (hops / 2)
 
-  pub odd_is : ((b c : ℕ) → origin p b ≡ Received c → c < length p.buffers) → (n : ℕ) (first even odd : List Origin) → first ≡ follow_all p 1 → even ≡ follow_all p n → odd ≡ map (further_in even) first → odd ≡ follow_all p (1 + n)
+  pub odd_is : ((b c : ℕ) → origin p b ≡ Received c → c < length p.buffers) → (n : ℕ) (first even odd : List Origin) → first
+      ≡ follow_all p 1 → even ≡ follow_all p n → odd ≡ map (further_in even) first → odd ≡ follow_all p (1 + n)
   odd_is low n first even odd f h e = e ∙ (λ i. map (further_in (h i)) (f i)) ∙ joined_is low 1 n
 
   -- where there are no buffers

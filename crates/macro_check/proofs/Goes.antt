@@ -1,5 +1,43 @@
 -- The run keeps to its list of looks: all that are ready are among them, and it comes to an end.
-use Rattle.std.proofs.Common.{◌≡◌, ◌≢◌, ℕ, zero, suc, ◌+◌, ◌-◌, ◌*◌, ◌<◌, ◌≤◌, ◌⊎◌, Bool, true, false, cond, nat_eq, List, [], ◌∷◌, ◌++◌, length, map, replicate, take, Option, Some, None, refl, sym, ap, subst, inl, inr, arith, ◌∙◌, length-append, append_assoc}
+use Rattle.std.proofs.Common.{
+  ◌≡◌,
+  ◌≢◌,
+  ℕ,
+  zero,
+  suc,
+  ◌+◌,
+  ◌-◌,
+  ◌*◌,
+  ◌<◌,
+  ◌≤◌,
+  ◌⊎◌,
+  Bool,
+  true,
+  false,
+  cond,
+  nat_eq,
+  List,
+  [],
+  ◌∷◌,
+  ◌++◌,
+  length,
+  map,
+  replicate,
+  take,
+  Option,
+  Some,
+  None,
+  refl,
+  sym,
+  ap,
+  subst,
+  inl,
+  inr,
+  arith,
+  ◌∙◌,
+  length-append,
+  append_assoc,
+}
 use Rattle.std.specs.Prelude.{slice_get, slice_index, slice_set, nat_lt}
 use Rattle.std.specs.List.{filter, range_with_len}
 use Rattle.std.proofs.lemmas.Bool.{false≢true, cases_eq, eqb-true, ltb-true, ltb-false}
@@ -23,7 +61,26 @@ use Rattle.check_laws.specs.Run.{Place, IsRun, awaited, is_past, is_ready, left_
 use Rattle.check_laws.specs.Tests.{stopped, stuck_at}
 use Rattle.check_laws.proofs.Running.{Going, stop_alike, empty_run, going, made_is, more, other_more, own_more, ready_at, short}
 use Rattle.check_cause.specs.declared.cause.Stop.{Stop}
-use Rattle.macro_check.specs.Awaiting.{place_of, first_in, on_it, sequences_in, stop_at, to_do, IsWhole, IsEnded, IsGoing, IsStep, MayRun, goes_in, is_past_in, is_ready_in, left_in, stand_or, woken, woken_at}
+use Rattle.macro_check.specs.Awaiting.{
+  place_of,
+  first_in,
+  on_it,
+  sequences_in,
+  stop_at,
+  to_do,
+  IsWhole,
+  IsEnded,
+  IsGoing,
+  IsStep,
+  MayRun,
+  goes_in,
+  is_past_in,
+  is_ready_in,
+  left_in,
+  stand_or,
+  woken,
+  woken_at,
+}
 use Rattle.macro_check.proofs.Wakes.{Among, wakes}
 
 module _ (p : Program) where
@@ -126,17 +183,24 @@ range_more n xs ys e was = e ∙ ap (λ (zs : List ℕ). zs ++ n ∷ []) was ∙
   where
     one : (a n : ℕ) → range_with_len a (n + 1) ≡ range_with_len a n ++ (a + n) ∷ []
     one a zero = ap (λ (k : ℕ). k ∷ []) (let z : a ≡ a + 0 = omega arith in z)
-    one a (suc n) = ap (range_with_len a) (let z : suc n + 1 ≡ suc (n + 1) = omega arith in z) ∙ ap (λ (zs : List ℕ). a ∷ zs) (one (a + 1) n) ∙ ap (λ (k : ℕ). a ∷ (range_with_len (a + 1) n ++ k ∷ [])) (let z : a + 1 + n ≡ a + suc n = omega arith in z)
+    one a (suc n) = ap (range_with_len a) (let z : suc n + 1 ≡ suc (n + 1) = omega arith in z)
+        ∙ ap (λ (zs : List ℕ). a ∷ zs) (one (a + 1) n)
+        ∙ ap (λ (k : ℕ). a ∷ (range_with_len (a + 1) n ++ k ∷ [])) (let z : a + 1 + n ≡ a + suc n = omega arith in z)
 
 -- the stop of one sequence more
-pub stops_more : (p : Program) (done : List ℕ) (s n : ℕ) (old new whole : List Place) → s < n → old ++ left_in p done s (n - s) ≡ whole → new ≡ old ++ stop_at p done s → new ++ left_in p done (s + 1) (n - (s + 1)) ≡ whole
+pub stops_more : (p : Program) (done : List ℕ) (s n : ℕ) (old new whole : List Place) → s < n → old ++ left_in p done s (n - s) ≡ whole
+    → new ≡ old ++ stop_at p done s → new ++ left_in p done (s + 1) (n - (s + 1)) ≡ whole
 stops_more p done s n old new whole l was e =
-    ap (λ (xs : List Place). xs ++ left_in p done (s + 1) (n - (s + 1))) e ∙ append_assoc old (stop_at p done s) (left_in p done (s + 1) (n - (s + 1))) ∙ ap (λ (xs : List Place). old ++ xs) (sym step) ∙ was
+    ap (λ (xs : List Place). xs ++ left_in p done (s + 1) (n - (s + 1))) e
+    ∙ append_assoc old (stop_at p done s) (left_in p done (s + 1) (n - (s + 1))) ∙ ap (λ (xs : List Place). old ++ xs) (sym step) ∙ was
   where
     step : left_in p done s (n - s) ≡ stop_at p done s ++ left_in p done (s + 1) (n - (s + 1))
-    step = ap (left_in p done s) (let z : n - s ≡ suc (n - (s + 1)) = omega arith in z) ∙ by (nat_lt (slice_index done s) (length (turn p s))) ∙ ap (λ (k : ℕ). stop_at p done s ++ left_in p done k (n - (s + 1))) (let z : suc s ≡ s + 1 = omega arith in z)
+    step = ap (left_in p done s) (let z : n - s ≡ suc (n - (s + 1)) = omega arith in z)
+        ∙ by (nat_lt (slice_index done s) (length (turn p s)))
+        ∙ ap (λ (k : ℕ). stop_at p done s ++ left_in p done k (n - (s + 1))) (let z : suc s ≡ s + 1 = omega arith in z)
       where
-        by : (b : Bool) → cond b (record { sequence = s; at = slice_index done s } ∷ left_in p done (suc s) (n - (s + 1))) (left_in p done (suc s) (n - (s + 1))) ≡ cond b (record { sequence = s; at = slice_index done s } ∷ []) [] ++ left_in p done (suc s) (n - (s + 1))
+        by : (b : Bool) → cond b (record { sequence = s; at = slice_index done s } ∷ left_in p done (suc s) (n - (s + 1)))
+            (left_in p done (suc s) (n - (s + 1))) ≡ cond b (record { sequence = s; at = slice_index done s } ∷ []) [] ++ left_in p done (suc s) (n - (s + 1))
         by true = refl
         by false = refl
 
@@ -154,7 +218,10 @@ few_on m s (q ∷ qs) = by q.seq.medium (few_on m (s + 1) qs)
     by None h = omega arith
     by (Some n) h = on (nat_eq n m)
       where
-        on : (b : Bool) → length (sequences_in (cond b (record { number = n; sequence = s; at = 0; port = 0 } ∷ filter (λ (x : Mark). nat_eq x.number m) (communicators_from (s + 1) qs)) (filter (λ (x : Mark). nat_eq x.number m) (communicators_from (s + 1) qs)))) ≤ length (q ∷ qs)
+        on : (b : Bool) → length (sequences_in
+            (cond b (record { number = n; sequence = s; at = 0; port = 0 }
+            ∷ filter (λ (x : Mark). nat_eq x.number m) (communicators_from (s + 1) qs))
+            (filter (λ (x : Mark). nat_eq x.number m) (communicators_from (s + 1) qs)))) ≤ length (q ∷ qs)
         on true = omega arith
         on false = omega arith
 
@@ -268,10 +335,12 @@ module _ (p : Program) (media : ℕ) (r : MayRun p media) where
     goes_on order_after done_after looks_after e =
         (let P : List ℕ → Type 0 = λ o. IsGoing p o done_after looks_after in subst P (sym e.order_is)
         (let Q : List ℕ → Type 0 = λ d. IsGoing p (order ++ s ∷ []) d looks_after in subst Q (sym e.done_is)
-        (let S : List ℕ → Type 0 = λ k. IsGoing p (order ++ s ∷ []) (slice_set done s (slice_index done s + 1)) k in subst S (sym (e.looks_are ∙ ap (λ (w : List ℕ). looks ++ s ∷ [] ++ w) woken_is)) after)))
+        (let S : List ℕ → Type 0 = λ k. IsGoing p (order ++ s ∷ []) (slice_set done s (slice_index done s + 1)) k in
+        subst S (sym (e.looks_are ∙ ap (λ (w : List ℕ). looks ++ s ∷ [] ++ w) woken_is)) after)))
       where
         count : (u : ℕ) → (u ≡ s) ⊎ (u ≡ s → ⊥) → slice_index (slice_set done s (slice_index done s + 1)) u ≡ made (order ++ s ∷ []) u
-        count u (inl q) = ap (slice_index (slice_set done s (slice_index done s + 1))) q ∙ set_same done s (slice_index done s + 1) in_done ∙ ap (λ (n : ℕ). n + 1) (g.counts s) ∙ sym made_more ∙ ap (made (order ++ s ∷ [])) (sym q)
+        count u (inl q) = ap (slice_index (slice_set done s (slice_index done s + 1))) q ∙ set_same done s (slice_index done s + 1) in_done
+            ∙ ap (λ (n : ℕ). n + 1) (g.counts s) ∙ sym made_more ∙ ap (made (order ++ s ∷ [])) (sym q)
         count u (inr q) = set_other done s u (slice_index done s + 1) q ∙ g.counts u ∙ sym (made_same u q)
 
         looked : (u : ℕ) → u < length p.seqs → is_ready p (order ++ s ∷ []) u ≡ true → (u ≡ s) ⊎ (u ≡ s → ⊥) → Among u (looks ++ s ∷ [] ++ woken p s here.it)
@@ -304,7 +373,8 @@ module _ (p : Program) (order done : List ℕ) (e : IsEnded p order done) (left 
       ap stopped (same ∙ n) ∙ ap (λ (ys : List Place). Some (stuck_at ys)) (sym n)
 
 -- as the code finds it, by its counts and the stops that it made
-module _ (p : Program) (order done counts : List ℕ) (e : IsEnded p order done) (c : counts ≡ done) (stops seen : List Stop) (l : map place_of stops ≡ left_in p counts 0 (length p.seqs)) (s : seen ≡ stops) where
+module _ (p : Program) (order done counts : List ℕ) (e : IsEnded p order done) (c : counts ≡ done) (stops seen : List Stop)
+    (l : map place_of stops ≡ left_in p counts 0 (length p.seqs)) (s : seen ≡ stops) where
   left_by : map place_of stops ≡ left_in p done 0 (length p.seqs)
   left_by = l ∙ ap (λ (d : List ℕ). left_in p d 0 (length p.seqs)) c
 
@@ -327,11 +397,14 @@ module _ (p : Program) where
   pub less_by_look : (order looks : List ℕ) (s : ℕ) → to_do p order looks < to_do p order (looks ++ s ∷ [])
   less_by_look order looks s = let n = length-append looks (s ∷ []) in omega arith
 
-  pub less_by_step : (order done looks order_after done_after looks_after : List ℕ) (s : ℕ) → length order < sum_below (λ t. length (turn p t)) (length p.seqs) → IsStep p s order done looks order_after done_after looks_after
+  pub less_by_step : (order done looks order_after done_after looks_after : List ℕ) (s : ℕ) → length order
+      < sum_below (λ t. length (turn p t)) (length p.seqs) → IsStep p s order done looks order_after done_after looks_after
       → to_do p order_after looks_after < to_do p order (looks ++ s ∷ [])
   less_by_step order done looks order_after done_after looks_after s l e =
       let a = ap (λ (xs : List ℕ). length xs) e.order_is ∙ length-append order (s ∷ []) in
       let b = ap (λ (xs : List ℕ). length xs) e.looks_are ∙ length-append (looks ++ s ∷ []) (woken_at p s (slice_get (turn p s) (slice_index done s))) in
       let c = length-append looks (s ∷ []) in
       let d = few_woken p s (slice_get (turn p s) (slice_index done s)) in
-      falls (sum_below (λ t. length (turn p t)) (length p.seqs) - length order) (sum_below (λ t. length (turn p t)) (length p.seqs) - length order_after) (length p.seqs + 3) (length (looks ++ s ∷ [])) (length looks_after) (omega arith) (omega arith)
+      falls (sum_below (λ t. length (turn p t)) (length p.seqs) - length order)
+      (sum_below (λ t. length (turn p t)) (length p.seqs) - length order_after) (length p.seqs + 3) (length (looks ++ s ∷ []))
+      (length looks_after) (omega arith) (omega arith)

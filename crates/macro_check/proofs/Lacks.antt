@@ -11,7 +11,21 @@ use Rattle.sequence_build_laws.specs.Places.{AreOpened}
 use Rattle.program_walks.specs.Opened.{are_opened}
 use Rattle.check_laws.specs.Items.{AreNamed, AreTransferred}
 use Rattle.check_laws.specs.Run.{stuck}
-use Rattle.check_laws.specs.Tests.{sequences_differ, calls_wrong, transfers_wrong, buffers_wrong, pairs_wrong, prologue_wrong, stopped, are_named, are_called, are_transferred, are_written, are_guarded, cause}
+use Rattle.check_laws.specs.Tests.{
+  sequences_differ,
+  calls_wrong,
+  transfers_wrong,
+  buffers_wrong,
+  pairs_wrong,
+  prologue_wrong,
+  stopped,
+  are_named,
+  are_called,
+  are_transferred,
+  are_written,
+  are_guarded,
+  cause,
+}
 use Rattle.program_walks.proofs.Prologues.{opened_of, of_opened}
 use Rattle.check_laws.proofs.Causes.{moved_of, guarded_of}
 use Rattle.check_laws.proofs.Guarded.{numbered_of}
@@ -31,7 +45,8 @@ module _ (p : Program) (vertices : List Vertex) (media : ℕ) where
   pub lack_pairs : are_called p vertices ≡ true → are_transferred p media ≡ true → are_written p vertices media ≡ true → are_guarded p ≡ false → Some pairs_wrong ≡ lack p vertices media
   lack_pairs a b c d = rw (a, b, c, d) refl
 
-  pub lack_prologue : are_called p vertices ≡ true → are_transferred p media ≡ true → are_written p vertices media ≡ true → are_guarded p ≡ true → are_opened p ≡ false → Some prologue_wrong ≡ lack p vertices media
+  pub lack_prologue : are_called p vertices ≡ true → are_transferred p media ≡ true → are_written p vertices media ≡ true → are_guarded p
+      ≡ true → are_opened p ≡ false → Some prologue_wrong ≡ lack p vertices media
   lack_prologue a b c d e = rw (a, b, c, d, e) refl
 
   pub lack_none : are_called p vertices ≡ true → are_transferred p media ≡ true → are_written p vertices media ≡ true → are_guarded p ≡ true → are_opened p ≡ true → None ≡ lack p vertices media
@@ -47,7 +62,8 @@ module _ (p : Program) (vertices : List Vertex) (media : ℕ) where
   pub all_of : lack p vertices media ≡ None → All
   all_of e = by (are_called p vertices) refl (are_transferred p media) refl (are_written p vertices media) refl (are_guarded p) refl (are_opened p) refl e
     where
-      by : (a : Bool) → are_called p vertices ≡ a → (b : Bool) → are_transferred p media ≡ b → (c : Bool) → are_written p vertices media ≡ c → (d : Bool) → are_guarded p ≡ d → (f : Bool) → are_opened p ≡ f
+      by : (a : Bool) → are_called p vertices ≡ a → (b : Bool) → are_transferred p media ≡ b → (c : Bool) → are_written p vertices media
+          ≡ c → (d : Bool) → are_guarded p ≡ d → (f : Bool) → are_opened p ≡ f
           → cond a (cond b (cond c (cond d (cond f None (Some prologue_wrong)) (Some pairs_wrong)) (Some buffers_wrong)) (Some transfers_wrong)) (Some calls_wrong) ≡ None → All
       by true a true b true c true d true f e = record { called = a; transferred = b; written = c; guarded = d; opened = f }
       by true a true b true c true d false f e = absurd cc

@@ -24,14 +24,18 @@ use Rattle.macro_check.proofs.Told.{made_there}
 module _ (p : Program) (t : ℕ) where
   others_are : (m sender receiver : ℕ) → list_all (other_waits p t sender receiver) (communicators_of p m) ≡ all_at (waits_between p m t sender receiver) 0 p.seqs
   others_are m sender receiver =
-      all_from m (λ _. true) (λ _. true) (λ s. not (nat_eq s sender)) (λ s. not (nat_eq s receiver)) (λ s (q : SeqCode). is_wait (operator p sender) (operator p receiver) true (slice_get q.turn (communication_at q.turn t))) (waits_in p t sender receiver) 0 p.seqs
-      (λ i q e. ap (waits_in p t sender receiver) (let z : 0 + i ≡ i = omega arith in z) ∙ ap (λ (xs : List Instr). is_wait (operator p sender) (operator p receiver) true (slice_get xs (communication_at xs t))) (ap turn_of e))
+      all_from m (λ _. true) (λ _. true) (λ s. not (nat_eq s sender)) (λ s. not (nat_eq s receiver))
+      (λ s (q : SeqCode). is_wait (operator p sender) (operator p receiver) true (slice_get q.turn (communication_at q.turn t)))
+      (waits_in p t sender receiver) 0 p.seqs
+      (λ i q e. ap (waits_in p t sender receiver) (let z : 0 + i ≡ i = omega arith in z)
+      ∙ ap (λ (xs : List Instr). is_wait (operator p sender) (operator p receiver) true (slice_get xs (communication_at xs t))) (ap turn_of e))
 
   pub moved_is : (m : ℕ) (c : Crossing) (ms : List Mark) → c ≡ crossing p m t → ms ≡ communicators_of p m
       → (is_sent p m t c.sender c.receiver && is_received p m t c.sender c.receiver && list_all (other_waits p t c.sender c.receiver) ms) ≡ is_moved p m t
   moved_is m c ms e f =
       (λ i. is_sent p m t (e i).sender (e i).receiver && is_received p m t (e i).sender (e i).receiver && list_all (other_waits p t (e i).sender (e i).receiver) (f i))
-      ∙ ap (λ (b : Bool). is_sent p m t (crossing p m t).sender (crossing p m t).receiver && is_received p m t (crossing p m t).sender (crossing p m t).receiver && b) (others_are m (crossing p m t).sender (crossing p m t).receiver)
+      ∙ ap (λ (b : Bool). is_sent p m t (crossing p m t).sender (crossing p m t).receiver
+      && is_received p m t (crossing p m t).sender (crossing p m t).receiver && b) (others_are m (crossing p m t).sender (crossing p m t).receiver)
 
   -- an entry is made of its own sequences
   pub by_itself : (m : ℕ) (c : Crossing) → c ≡ crossing p m t → c ≡ crossing_by p t c.sender c.receiver

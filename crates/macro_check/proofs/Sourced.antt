@@ -57,7 +57,8 @@ module _ (p : Program) where
   pub carried_is : (sources : List Origin) (b : ℕ) (x : Source) → sources ≡ follow_all p (length p.buffers) → b < length p.buffers → same_source (met_in sources b) x ≡ same_source (carried p b) x
   carried_is sources b x e l = ap (λ (s : List Origin). same_source (met_in s b) x) e ∙ ap (λ (s : Source). same_source s x) (met_is b l)
 
-  pub given_is : (sources : List Origin) (b n : ℕ) (x : Source) → sources ≡ follow_all p (length p.buffers) → (has_len (slice_get p.buffers b) n && same_source (met_in sources b) x) ≡ (same_source (carried p b) x && has_len (slice_get p.buffers b) n)
+  pub given_is : (sources : List Origin) (b n : ℕ) (x : Source) → sources ≡ follow_all p (length p.buffers)
+      → (has_len (slice_get p.buffers b) n && same_source (met_in sources b) x) ≡ (same_source (carried p b) x && has_len (slice_get p.buffers b) n)
   given_is sources b n x e = by (slice_get p.buffers b) refl
     where
       by : (o : Option Buffer) → slice_get p.buffers b ≡ o → (has_len o n && same_source (met_in sources b) x) ≡ (same_source (carried p b) x && has_len o n)
@@ -85,17 +86,23 @@ module _ (p : Program) where
         let two = met_is (crossing p m t).sent (low.sent m t l k) in
         λ i. same_source (one i) (two i)))
 
-    pub written_is : (vertices : List Vertex) (sources : List Origin) (rows : List (List Crossing)) → AreLow p media → are_buffers p ≡ true → sources ≡ follow_all p (length p.buffers) → rows ≡ crossings p media → carry_all p vertices sources rows ≡ are_written p vertices media
+    pub written_is : (vertices : List Vertex) (sources : List Origin) (rows : List (List Crossing)) → AreLow p media → are_buffers p ≡ true
+        → sources ≡ follow_all p (length p.buffers) → rows ≡ crossings p media → carry_all p vertices sources rows ≡ are_written p vertices media
     written_is vertices sources rows low b e f =
         (λ i. carry_all p vertices (e i) (f i))
         ∙ (λ i. calls_are i && all_at (λ v x. fits p vertices v x) 0 vertices && long_are i && kept_are low i)
-        ∙ ap (λ (t : Bool). t && all_below (is_made p (length p.buffers)) (length p.buffers) && all_at (λ v x. fits p vertices v x) 0 vertices && all_below (λ m. all_below (λ t. has_same_len p m t) (transfers p m)) media && are_kept p media) (sym b)
+        ∙ ap (λ (t : Bool). t && all_below (is_made p (length p.buffers)) (length p.buffers)
+        && all_at (λ v x. fits p vertices v x) 0 vertices && all_below (λ m. all_below (λ t. has_same_len p m t) (transfers p m)) media
+        && are_kept p media) (sym b)
 
     pub not_written : (vertices : List Vertex) → are_buffers p ≡ false → false ≡ are_written p vertices media
-    not_written vertices b = ap (λ (t : Bool). t && all_below (is_made p (length p.buffers)) (length p.buffers) && all_at (λ v x. fits p vertices v x) 0 vertices && all_below (λ m. all_below (λ t. has_same_len p m t) (transfers p m)) media && are_kept p media) (sym b)
+    not_written vertices b = ap (λ (t : Bool). t && all_below (is_made p (length p.buffers)) (length p.buffers)
+        && all_at (λ v x. fits p vertices v x) 0 vertices && all_below (λ m. all_below (λ t. has_same_len p m t) (transfers p m)) media
+        && are_kept p media) (sym b)
 
     -- where a receive's value comes from
-    pub received_is : AreTransferred p media → (s a b o : ℕ) → Stands p s a (Recv b o) → from_transfer (crossing_at (crossings p media) (medium p s) (communications p s a)) ≡ received (sent_on p (medium p s) (communications p s a))
+    pub received_is : AreTransferred p media → (s a b o : ℕ) → Stands p s a (Recv b o)
+        → from_transfer (crossing_at (crossings p media) (medium p s) (communications p s a)) ≡ received (sent_on p (medium p s) (communications p s a))
     received_is r s a b o h =
         let c = part_of p media r s a (Recv b o) h refl in
         ap (λ (m : Option ℕ). from_transfer (crossing_at (crossings p media) m (communications p s a))) c.at
@@ -107,7 +114,8 @@ module _ (p : Program) where
     are_low names r = record {
       origins = λ b c e. from b (writer_of p b) (written_at p b) (output_at b (slice_get (turn p (writer_of p b)) (written_at p b))) c (slice_get (turn p (writer_of p b)) (written_at p b)) refl e;
       sent = sent;
-      received = λ m t l k. names.buffers (transfer p m t).receiver (transfer p m t).receive_at (transfer p m t).received (operator p (transfer p m t).sender) (inr (r.transfers m t l k).receives.stands);
+      received = λ m t l k. names.buffers (transfer p m t).receiver (transfer p m t).receive_at (transfer p m t).received
+          (operator p (transfer p m t).sender) (inr (r.transfers m t l k).receives.stands);
     }
       where
         sent : (m t : ℕ) → m < media → t < transfers p m → (transfer p m t).sent < length p.buffers
@@ -118,7 +126,8 @@ module _ (p : Program) where
         from b s a port c (Some (Call v ins outs)) h e = absurd cc
         from b s a port c (Some (Recv d o)) h e =
             let q = part_of p media r s a (Recv d o) h refl in
-            let is = ap received (sym (found p q.on (communications p s a) (r.transfers q.on (communications p s a) q.low q.inside))) ∙ ap (λ (m : Option ℕ). received (sent_on p m (communications p s a))) (sym q.at) ∙ e in
+            let is = ap received (sym (found p q.on (communications p s a) (r.transfers q.on (communications p s a) q.low q.inside)))
+            ∙ ap (λ (m : Option ℕ). received (sent_on p m (communications p s a))) (sym q.at) ∙ e in
             let same : (transfer p q.on (communications p s a)).sent ≡ c = one is in
             subst (λ (n : ℕ). n < length p.buffers) same (sent q.on (communications p s a) q.low q.inside)
           where

@@ -25,7 +25,8 @@ later : (u x : ℕ) (xs : List ℕ) → Among u xs → Among u (x ∷ xs)
 later u x xs h = (suc h.0, h.1)
 
 -- the communicators of a medium are all there
-on_medium_there : (m : ℕ) (s : ℕ) (qs : List SeqCode) (i : ℕ) (q : SeqCode) → slice_get qs i ≡ Some q → q.seq.medium ≡ Some m → Among (s + i) (sequences_in (filter (λ (x : Mark). nat_eq x.number m) (communicators_from s qs)))
+on_medium_there : (m : ℕ) (s : ℕ) (qs : List SeqCode) (i : ℕ) (q : SeqCode) → slice_get qs i ≡ Some q → q.seq.medium ≡ Some m
+    → Among (s + i) (sequences_in (filter (λ (x : Mark). nat_eq x.number m) (communicators_from s qs)))
 on_medium_there m s [] i q e f = absurd cc
 on_medium_there m s (y ∷ ys) zero q e f = by y.seq.medium (ap (λ (z : SeqCode). z.seq.medium) (same_Some y q e) ∙ f)
   where
@@ -33,16 +34,25 @@ on_medium_there m s (y ∷ ys) zero q e f = by y.seq.medium (ap (λ (z : SeqCode
     by None g = absurd cc
     by (Some n) g = on (nat_eq n m) (eq-eqb n m (same_Some n m g))
       where
-        on : (b : Bool) → b ≡ true → Among (s + 0) (sequences_in (cond b (record { number = n; sequence = s; at = 0; port = 0 } ∷ filter (λ (x : Mark). nat_eq x.number m) (communicators_from (s + 1) ys)) (filter (λ (x : Mark). nat_eq x.number m) (communicators_from (s + 1) ys))))
+        on : (b : Bool) → b ≡ true → Among (s + 0)
+            (sequences_in (cond b (record { number = n; sequence = s; at = 0; port = 0 }
+            ∷ filter (λ (x : Mark). nat_eq x.number m) (communicators_from (s + 1) ys))
+            (filter (λ (x : Mark). nat_eq x.number m) (communicators_from (s + 1) ys))))
         on true k = (0, ap (λ (j : ℕ). Some j) (let z : s ≡ s + 0 = omega arith in z))
         on false k = absurd (false≢true k)
-on_medium_there m s (y ∷ ys) (suc i) q e f = by y.seq.medium (subst (λ (k : ℕ). Among k (sequences_in (filter (λ (x : Mark). nat_eq x.number m) (communicators_from (s + 1) ys)))) (let z : s + 1 + i ≡ s + suc i = omega arith in z) (on_medium_there m (s + 1) ys i q e f))
+on_medium_there m s (y ∷ ys) (suc i) q e f =
+    by y.seq.medium (subst (λ (k : ℕ). Among k (sequences_in (filter (λ (x : Mark). nat_eq x.number m) (communicators_from (s + 1) ys))))
+    (let z : s + 1 + i ≡ s + suc i = omega arith in z) (on_medium_there m (s + 1) ys i q e f))
   where
-    by : (o : Option ℕ) → Among (s + suc i) (sequences_in (filter (λ (x : Mark). nat_eq x.number m) (communicators_from (s + 1) ys))) → Among (s + suc i) (sequences_in (filter (λ (x : Mark). nat_eq x.number m) (joining s o (communicators_from (s + 1) ys))))
+    by : (o : Option ℕ) → Among (s + suc i) (sequences_in (filter (λ (x : Mark). nat_eq x.number m) (communicators_from (s + 1) ys)))
+        → Among (s + suc i) (sequences_in (filter (λ (x : Mark). nat_eq x.number m) (joining s o (communicators_from (s + 1) ys))))
     by None h = h
     by (Some n) h = on (nat_eq n m)
       where
-        on : (b : Bool) → Among (s + suc i) (sequences_in (cond b (record { number = n; sequence = s; at = 0; port = 0 } ∷ filter (λ (x : Mark). nat_eq x.number m) (communicators_from (s + 1) ys)) (filter (λ (x : Mark). nat_eq x.number m) (communicators_from (s + 1) ys))))
+        on : (b : Bool) → Among (s + suc i)
+            (sequences_in (cond b (record { number = n; sequence = s; at = 0; port = 0 }
+            ∷ filter (λ (x : Mark). nat_eq x.number m) (communicators_from (s + 1) ys))
+            (filter (λ (x : Mark). nat_eq x.number m) (communicators_from (s + 1) ys))))
         on true = later (s + suc i) s (sequences_in (filter (λ (x : Mark). nat_eq x.number m) (communicators_from (s + 1) ys))) h
         on false = h
 
@@ -59,7 +69,8 @@ module _ (p : Program) (media : ℕ) (r : MayRun p media) where
       there (q ∷ qs) (suc i) l = there qs i (omega arith)
 
   -- Where instruction b of u awaits instruction a of s, which is x, u is woken by it.
-  pub wakes : (u b : ℕ) (x : Instr) (s a : ℕ) (z : Instr) → u < length p.seqs → Stands p u b x → Stands p s a z → (y : Place) → awaited p u b x ≡ Some y → y.sequence ≡ s → y.at ≡ a → Among u (woken p s z)
+  pub wakes : (u b : ℕ) (x : Instr) (s a : ℕ) (z : Instr) → u < length p.seqs → Stands p u b x → Stands p s a z → (y : Place)
+      → awaited p u b x ≡ Some y → y.sequence ≡ s → y.at ≡ a → Among u (woken p s z)
   wakes u b (Suc1 q) s a z l h k y e f g =
       let n = r.named u b q (inl h) in
       let w = waiter_is p r.guarded q n in
@@ -73,22 +84,33 @@ module _ (p : Program) (media : ℕ) (r : MayRun p media) where
   wakes u b (Recv c o) s a z l h k y e f g =
       let d = part_of p media r.transferred u b (Recv c o) h refl in
       let t = r.transferred.transfers d.on (communications p u b) d.low d.inside in
-      let same = same_Some (record { sequence = (transfer p d.on (communications p u b)).sender; at = (transfer p d.on (communications p u b)).send_at }) y (sym (ap (λ (m : Option ℕ). on_medium m (λ m. send_of p m (communications p u b))) d.at) ∙ e) in
+      let same = same_Some (record {
+        sequence = (transfer p d.on (communications p u b)).sender;
+        at =
+            (transfer p d.on (communications p u b)).send_at;
+      }) y (sym (ap (λ (m : Option ℕ). on_medium m (λ m. send_of p m (communications p u b))) d.at) ∙ e) in
       sent u d.on s a z l d.at (ap (medium p) (sym f ∙ ap (λ (v : Place). v.sequence) (sym same)) ∙ t.sends.on)
       (Send (transfer p d.on (communications p u b)).sent (operator p (transfer p d.on (communications p u b)).receiver)) refl
       ((λ i. slice_get (turn p ((sym f ∙ ap (λ (v : Place). v.sequence) (sym same)) i)) ((sym g ∙ ap (λ (v : Place). v.at) (sym same)) i)) ∙ t.sends.stands) k
     where
-      sent : (u m s a : ℕ) (z : Instr) → u < length p.seqs → medium p u ≡ Some m → medium p s ≡ Some m → (x : Instr) → woken p s x ≡ on_it p (medium p s) → Stands p s a x → Stands p s a z → Among u (woken p s z)
+      sent : (u m s a : ℕ) (z : Instr) → u < length p.seqs → medium p u ≡ Some m → medium p s ≡ Some m → (x : Instr) → woken p s x
+          ≡ on_it p (medium p s) → Stands p s a x → Stands p s a z → Among u (woken p s z)
       sent u m s a z l d f x w h k = subst (λ (v : Instr). Among u (woken p s v)) (same_Some x z (sym h ∙ k)) (subst (λ (xs : List ℕ). Among u xs) (sym w) (on_it_there u m l d s f))
   wakes u b (Sync o q) s a z l h k y e f g =
       let d = part_of p media r.transferred u b (Sync o q) h refl in
       let t = r.transferred.transfers d.on (communications p u b) d.low d.inside in
-      let same = same_Some (record { sequence = (transfer p d.on (communications p u b)).receiver; at = (transfer p d.on (communications p u b)).receive_at }) y (sym (ap (λ (m : Option ℕ). on_medium m (λ m. receive_of p m (communications p u b))) d.at) ∙ e) in
+      let same = same_Some (record {
+        sequence = (transfer p d.on (communications p u b)).receiver;
+        at =
+            (transfer p d.on (communications p u b)).receive_at;
+      }) y
+      (sym (ap (λ (m : Option ℕ). on_medium m (λ m. receive_of p m (communications p u b))) d.at) ∙ e) in
       got u d.on s a z l d.at (ap (medium p) (sym f ∙ ap (λ (v : Place). v.sequence) (sym same)) ∙ t.receives.on)
       (Recv (transfer p d.on (communications p u b)).received (operator p (transfer p d.on (communications p u b)).sender)) refl
       ((λ i. slice_get (turn p ((sym f ∙ ap (λ (v : Place). v.sequence) (sym same)) i)) ((sym g ∙ ap (λ (v : Place). v.at) (sym same)) i)) ∙ t.receives.stands) k
     where
-      got : (u m s a : ℕ) (z : Instr) → u < length p.seqs → medium p u ≡ Some m → medium p s ≡ Some m → (x : Instr) → woken p s x ≡ on_it p (medium p s) → Stands p s a x → Stands p s a z → Among u (woken p s z)
+      got : (u m s a : ℕ) (z : Instr) → u < length p.seqs → medium p u ≡ Some m → medium p s ≡ Some m → (x : Instr) → woken p s x
+          ≡ on_it p (medium p s) → Stands p s a x → Stands p s a z → Among u (woken p s z)
       got u m s a z l d f x w h k = subst (λ (v : Instr). Among u (woken p s v)) (same_Some x z (sym h ∙ k)) (subst (λ (xs : List ℕ). Among u xs) (sym w) (on_it_there u m l d s f))
   wakes u b (Send c o) s a z l h k y e f g =
       let d = part_of p media r.transferred u b (Send c o) h refl in
@@ -99,7 +121,9 @@ module _ (p : Program) (media : ℕ) (r : MayRun p media) where
       before m low at (suc t) i e =
           let moved = r.transferred.transfers m t low (omega arith) in
           let same = same_Some (record { sequence = (transfer p m t).receiver; at = (transfer p m t).receive_at }) y e in
-          let here : Stands p s a (Recv (transfer p m t).received (operator p (transfer p m t).sender)) = (λ i. slice_get (turn p ((sym f ∙ ap (λ (v : Place). v.sequence) (sym same)) i)) ((sym g ∙ ap (λ (v : Place). v.at) (sym same)) i)) ∙ moved.receives.stands in
+          let here : Stands p s a (Recv (transfer p m t).received (operator p (transfer p m t).sender)) =
+          (λ i. slice_get (turn p ((sym f ∙ ap (λ (v : Place). v.sequence) (sym same)) i))
+          ((sym g ∙ ap (λ (v : Place). v.at) (sym same)) i)) ∙ moved.receives.stands in
           subst (λ (v : Instr). Among u (woken p s v)) (same_Some (Recv (transfer p m t).received (operator p (transfer p m t).sender)) z (sym here ∙ k))
           (on_it_there u m l at s (ap (medium p) (sym f ∙ ap (λ (v : Place). v.sequence) (sym same)) ∙ moved.receives.on))
   wakes u b (Suc0 q) s a z l h k y e f g = absurd cc

@@ -3,3 +3,4 @@ pub mod Refusals
 pub mod Parts
 pub mod Rows
 pub mod Appending
+pub mod Placing

@@ -138,7 +138,8 @@ processor_in_main : plain (codes "processor_(P)" ∷ codes "semaphores_()" ∷ c
 unfolding macro_of
 processor_in_main = refl
 
-wait_without_thread : plain (codes "processor_(P)" ∷ codes "semaphores_()" ∷ codes "alloc_(b0,1)" ∷ codes "main_" ∷ codes "loop_" ∷ codes "endloop_" ∷ codes "wait_endthread_(x)" ∷ []) ≡ refused 7 BadLine
+wait_without_thread : plain (codes "processor_(P)" ∷ codes "semaphores_()" ∷ codes "alloc_(b0,1)" ∷ codes "main_" ∷ codes "loop_"
+    ∷ codes "endloop_" ∷ codes "wait_endthread_(x)" ∷ []) ≡ refused 7 BadLine
 unfolding macro_of
 wait_without_thread = refl
 
@@ -146,7 +147,8 @@ spawn_without_thread : plain (codes "processor_(P)" ∷ codes "semaphores_()" �
 unfolding macro_of
 spawn_without_thread = refl
 
-main_after_main : plain (codes "processor_(P)" ∷ codes "semaphores_()" ∷ codes "alloc_(b0,1)" ∷ codes "main_" ∷ codes "loop_" ∷ codes "endloop_" ∷ codes "endmain_" ∷ codes "main_" ∷ []) ≡ refused 8 BadLine
+main_after_main : plain (codes "processor_(P)" ∷ codes "semaphores_()" ∷ codes "alloc_(b0,1)" ∷ codes "main_" ∷ codes "loop_"
+    ∷ codes "endloop_" ∷ codes "endmain_" ∷ codes "main_" ∷ []) ≡ refused 8 BadLine
 unfolding macro_of
 main_after_main = refl
 
@@ -155,27 +157,34 @@ buffer_after_thread : three (codes "processor_(A)" ∷ codes "semaphores_()" ∷
 unfolding macro_of
 buffer_after_thread = refl
 
-loop_for_spawn : three (codes "processor_(A)" ∷ codes "semaphores_()" ∷ codes "thread_(x)" ∷ codes "loop_" ∷ codes "endloop_" ∷ codes "endthread_" ∷ codes "main_" ∷ codes "loop_" ∷ []) ≡ refused 8 BadLine
+loop_for_spawn : three (codes "processor_(A)" ∷ codes "semaphores_()" ∷ codes "thread_(x)" ∷ codes "loop_" ∷ codes "endloop_"
+    ∷ codes "endthread_" ∷ codes "main_" ∷ codes "loop_" ∷ []) ≡ refused 8 BadLine
 unfolding macro_of
 loop_for_spawn = refl
 
-call_for_spawn : three (codes "processor_(A)" ∷ codes "semaphores_()" ∷ codes "thread_(x)" ∷ codes "loop_" ∷ codes "endloop_" ∷ codes "endthread_" ∷ codes "main_" ∷ codes "op d:get(;)" ∷ []) ≡ refused 8 BadLine
+call_for_spawn : three (codes "processor_(A)" ∷ codes "semaphores_()" ∷ codes "thread_(x)" ∷ codes "loop_" ∷ codes "endloop_"
+    ∷ codes "endthread_" ∷ codes "main_" ∷ codes "op d:get(;)" ∷ []) ≡ refused 8 BadLine
 unfolding macro_of
 call_for_spawn = refl
 
-unknown_for_spawn : three (codes "processor_(A)" ∷ codes "semaphores_()" ∷ codes "thread_(x)" ∷ codes "loop_" ∷ codes "endloop_" ∷ codes "endthread_" ∷ codes "main_" ∷ codes "mian_" ∷ []) ≡ refused 8 (UnknownMacro (codes "mian_"))
+unknown_for_spawn : three (codes "processor_(A)" ∷ codes "semaphores_()" ∷ codes "thread_(x)" ∷ codes "loop_" ∷ codes "endloop_"
+    ∷ codes "endthread_" ∷ codes "main_" ∷ codes "mian_" ∷ []) ≡ refused 8 (UnknownMacro (codes "mian_"))
 unfolding macro_of
 unknown_for_spawn = refl
 
-spawn_more : three (codes "processor_(A)" ∷ codes "semaphores_()" ∷ codes "thread_(x)" ∷ codes "loop_" ∷ codes "endloop_" ∷ codes "endthread_" ∷ codes "main_" ∷ codes "spawn_thread_(x)" ∷ codes "spawn_thread_(y)" ∷ []) ≡ refused 9 BadLine
+spawn_more : three (codes "processor_(A)" ∷ codes "semaphores_()" ∷ codes "thread_(x)" ∷ codes "loop_" ∷ codes "endloop_"
+    ∷ codes "endthread_" ∷ codes "main_" ∷ codes "spawn_thread_(x)" ∷ codes "spawn_thread_(y)" ∷ []) ≡ refused 9 BadLine
 unfolding macro_of
 spawn_more = refl
 
-wait_more : three (codes "processor_(A)" ∷ codes "semaphores_()" ∷ codes "thread_(x)" ∷ codes "loop_" ∷ codes "endloop_" ∷ codes "endthread_" ∷ codes "main_" ∷ codes "spawn_thread_(x)" ∷ codes "loop_" ∷ codes "endloop_" ∷ codes "wait_endthread_(x)" ∷ codes "wait_endthread_(x)" ∷ []) ≡ refused 12 BadLine
+wait_more : three (codes "processor_(A)" ∷ codes "semaphores_()" ∷ codes "thread_(x)" ∷ codes "loop_" ∷ codes "endloop_"
+    ∷ codes "endthread_" ∷ codes "main_" ∷ codes "spawn_thread_(x)" ∷ codes "loop_" ∷ codes "endloop_" ∷ codes "wait_endthread_(x)"
+    ∷ codes "wait_endthread_(x)" ∷ []) ≡ refused 12 BadLine
 unfolding macro_of
 wait_more = refl
 
-end_for_wait : three (codes "processor_(A)" ∷ codes "semaphores_()" ∷ codes "thread_(x)" ∷ codes "loop_" ∷ codes "endloop_" ∷ codes "endthread_" ∷ codes "main_" ∷ codes "spawn_thread_(x)" ∷ codes "loop_" ∷ codes "endloop_" ∷ codes "endmain_" ∷ []) ≡ refused 11 BadLine
+end_for_wait : three (codes "processor_(A)" ∷ codes "semaphores_()" ∷ codes "thread_(x)" ∷ codes "loop_" ∷ codes "endloop_"
+    ∷ codes "endthread_" ∷ codes "main_" ∷ codes "spawn_thread_(x)" ∷ codes "loop_" ∷ codes "endloop_" ∷ codes "endmain_" ∷ []) ≡ refused 11 BadLine
 unfolding macro_of
 end_for_wait = refl
 
@@ -216,7 +225,8 @@ ends_after_7 : plain (codes "processor_(P)" ∷ codes "semaphores_()" ∷ codes 
 unfolding macro_of
 ends_after_7 = refl
 
-ends_after_8 : plain (codes "processor_(P)" ∷ codes "semaphores_()" ∷ codes "alloc_(b0,1)" ∷ codes "main_" ∷ codes "loop_" ∷ codes "op s(;b0)" ∷ codes "op a(b0;)" ∷ codes "endloop_" ∷ []) ≡ refused 9 BadLine
+ends_after_8 : plain (codes "processor_(P)" ∷ codes "semaphores_()" ∷ codes "alloc_(b0,1)" ∷ codes "main_" ∷ codes "loop_"
+    ∷ codes "op s(;b0)" ∷ codes "op a(b0;)" ∷ codes "endloop_" ∷ []) ≡ refused 9 BadLine
 unfolding macro_of
 ends_after_8 = refl
 
@@ -232,7 +242,8 @@ ends_after_thread : three (codes "processor_(A)" ∷ codes "semaphores_()" ∷ c
 unfolding macro_of
 ends_after_thread = refl
 
-ends_at_wait : three (codes "processor_(A)" ∷ codes "semaphores_()" ∷ codes "thread_(x)" ∷ codes "loop_" ∷ codes "endloop_" ∷ codes "endthread_" ∷ codes "main_" ∷ codes "spawn_thread_(x)" ∷ codes "loop_" ∷ codes "endloop_" ∷ []) ≡ refused 11 BadLine
+ends_at_wait : three (codes "processor_(A)" ∷ codes "semaphores_()" ∷ codes "thread_(x)" ∷ codes "loop_" ∷ codes "endloop_"
+    ∷ codes "endthread_" ∷ codes "main_" ∷ codes "spawn_thread_(x)" ∷ codes "loop_" ∷ codes "endloop_" ∷ []) ≡ refused 11 BadLine
 unfolding macro_of
 ends_at_wait = refl
 
@@ -249,7 +260,8 @@ unknown_in_loop : plain (codes "processor_(P)" ∷ codes "semaphores_()" ∷ cod
 unfolding macro_of
 unknown_in_loop = refl
 
-unknown_after_all : plain (codes "processor_(P)" ∷ codes "semaphores_()" ∷ codes "alloc_(b0,1)" ∷ codes "main_" ∷ codes "loop_" ∷ codes "op s(;b0)" ∷ codes "op a(b0;)" ∷ codes "endloop_" ∷ codes "endmain_" ∷ codes "x(y,)" ∷ []) ≡ refused 10 (UnknownMacro (codes "x"))
+unknown_after_all : plain (codes "processor_(P)" ∷ codes "semaphores_()" ∷ codes "alloc_(b0,1)" ∷ codes "main_" ∷ codes "loop_"
+    ∷ codes "op s(;b0)" ∷ codes "op a(b0;)" ∷ codes "endloop_" ∷ codes "endmain_" ∷ codes "x(y,)" ∷ []) ≡ refused 10 (UnknownMacro (codes "x"))
 unfolding macro_of
 unknown_after_all = refl
 
@@ -472,19 +484,29 @@ thread_twice : three (codes "processor_(A)" ∷ codes "semaphores_()" ∷ codes 
 unfolding macro_of
 thread_twice = refl
 
-spawns_fall : three (codes "processor_(A)" ∷ codes "semaphores_()" ∷ codes "thread_(x)" ∷ codes "loop_" ∷ codes "endloop_" ∷ codes "endthread_" ∷ codes "thread_(y)" ∷ codes "loop_" ∷ codes "endloop_" ∷ codes "endthread_" ∷ codes "main_" ∷ codes "spawn_thread_(y)" ∷ codes "spawn_thread_(x)" ∷ []) ≡ refused 13 BadArgument
+spawns_fall : three (codes "processor_(A)" ∷ codes "semaphores_()" ∷ codes "thread_(x)" ∷ codes "loop_" ∷ codes "endloop_"
+    ∷ codes "endthread_" ∷ codes "thread_(y)" ∷ codes "loop_" ∷ codes "endloop_" ∷ codes "endthread_" ∷ codes "main_"
+    ∷ codes "spawn_thread_(y)" ∷ codes "spawn_thread_(x)" ∷ []) ≡ refused 13 BadArgument
 unfolding macro_of
 spawns_fall = refl
 
-spawns_fall_unknown : three (codes "processor_(A)" ∷ codes "semaphores_()" ∷ codes "thread_(y)" ∷ codes "loop_" ∷ codes "endloop_" ∷ codes "endthread_" ∷ codes "thread_(z)" ∷ codes "loop_" ∷ codes "endloop_" ∷ codes "endthread_" ∷ codes "main_" ∷ codes "spawn_thread_(z)" ∷ codes "spawn_thread_(x)" ∷ []) ≡ refused 13 BadArgument
+spawns_fall_unknown : three (codes "processor_(A)" ∷ codes "semaphores_()" ∷ codes "thread_(y)" ∷ codes "loop_" ∷ codes "endloop_"
+    ∷ codes "endthread_" ∷ codes "thread_(z)" ∷ codes "loop_" ∷ codes "endloop_" ∷ codes "endthread_" ∷ codes "main_"
+    ∷ codes "spawn_thread_(z)" ∷ codes "spawn_thread_(x)" ∷ []) ≡ refused 13 BadArgument
 unfolding macro_of
 spawns_fall_unknown = refl
 
-waits_fall : three (codes "processor_(A)" ∷ codes "semaphores_()" ∷ codes "thread_(x)" ∷ codes "loop_" ∷ codes "endloop_" ∷ codes "endthread_" ∷ codes "thread_(y)" ∷ codes "loop_" ∷ codes "endloop_" ∷ codes "endthread_" ∷ codes "main_" ∷ codes "spawn_thread_(x)" ∷ codes "spawn_thread_(y)" ∷ codes "loop_" ∷ codes "endloop_" ∷ codes "wait_endthread_(y)" ∷ codes "wait_endthread_(x)" ∷ []) ≡ refused 17 BadArgument
+waits_fall : three (codes "processor_(A)" ∷ codes "semaphores_()" ∷ codes "thread_(x)" ∷ codes "loop_" ∷ codes "endloop_"
+    ∷ codes "endthread_" ∷ codes "thread_(y)" ∷ codes "loop_" ∷ codes "endloop_" ∷ codes "endthread_" ∷ codes "main_"
+    ∷ codes "spawn_thread_(x)" ∷ codes "spawn_thread_(y)" ∷ codes "loop_" ∷ codes "endloop_" ∷ codes "wait_endthread_(y)"
+    ∷ codes "wait_endthread_(x)" ∷ []) ≡ refused 17 BadArgument
 unfolding macro_of
 waits_fall = refl
 
-media_begin_anew : three (codes "processor_(A)" ∷ codes "semaphores_()" ∷ codes "thread_(y)" ∷ codes "loop_" ∷ codes "endloop_" ∷ codes "endthread_" ∷ codes "main_" ∷ codes "spawn_thread_(y)" ∷ codes "loop_" ∷ codes "endloop_" ∷ codes "wait_endthread_(y)" ∷ codes "endmain_" ∷ codes "processor_(B)" ∷ codes "semaphores_()" ∷ codes "thread_(x)" ∷ codes "loop_" ∷ codes "endloop_" ∷ codes "endthread_" ∷ []) ≡ refused 19 BadLine
+media_begin_anew : three (codes "processor_(A)" ∷ codes "semaphores_()" ∷ codes "thread_(y)" ∷ codes "loop_" ∷ codes "endloop_"
+    ∷ codes "endthread_" ∷ codes "main_" ∷ codes "spawn_thread_(y)" ∷ codes "loop_" ∷ codes "endloop_" ∷ codes "wait_endthread_(y)"
+    ∷ codes "endmain_" ∷ codes "processor_(B)" ∷ codes "semaphores_()" ∷ codes "thread_(x)" ∷ codes "loop_" ∷ codes "endloop_"
+    ∷ codes "endthread_" ∷ []) ≡ refused 19 BadLine
 unfolding macro_of
 media_begin_anew = refl
 
@@ -497,15 +519,18 @@ no_medium : three (codes "processor_(A)" ∷ codes "semaphores_()" ∷ codes "th
 unfolding macro_of
 no_medium = refl
 
-no_thread : three (codes "processor_(A)" ∷ codes "semaphores_()" ∷ codes "thread_(x)" ∷ codes "loop_" ∷ codes "endloop_" ∷ codes "endthread_" ∷ codes "main_" ∷ codes "spawn_thread_(y)" ∷ []) ≡ refused 8 (UnknownName (codes "y"))
+no_thread : three (codes "processor_(A)" ∷ codes "semaphores_()" ∷ codes "thread_(x)" ∷ codes "loop_" ∷ codes "endloop_"
+    ∷ codes "endthread_" ∷ codes "main_" ∷ codes "spawn_thread_(y)" ∷ []) ≡ refused 8 (UnknownName (codes "y"))
 unfolding macro_of
 no_thread = refl
 
-no_thread_there : three (codes "processor_(A)" ∷ codes "semaphores_()" ∷ codes "thread_(x)" ∷ codes "loop_" ∷ codes "endloop_" ∷ codes "endthread_" ∷ codes "main_" ∷ codes "spawn_thread_(w)" ∷ []) ≡ refused 8 (UnknownName (codes "w"))
+no_thread_there : three (codes "processor_(A)" ∷ codes "semaphores_()" ∷ codes "thread_(x)" ∷ codes "loop_" ∷ codes "endloop_"
+    ∷ codes "endthread_" ∷ codes "main_" ∷ codes "spawn_thread_(w)" ∷ []) ≡ refused 8 (UnknownName (codes "w"))
 unfolding macro_of
 no_thread_there = refl
 
-no_wait : three (codes "processor_(A)" ∷ codes "semaphores_()" ∷ codes "thread_(x)" ∷ codes "loop_" ∷ codes "endloop_" ∷ codes "endthread_" ∷ codes "main_" ∷ codes "spawn_thread_(x)" ∷ codes "loop_" ∷ codes "endloop_" ∷ codes "wait_endthread_(z)" ∷ []) ≡ refused 11 (UnknownName (codes "z"))
+no_wait : three (codes "processor_(A)" ∷ codes "semaphores_()" ∷ codes "thread_(x)" ∷ codes "loop_" ∷ codes "endloop_" ∷ codes "endthread_"
+    ∷ codes "main_" ∷ codes "spawn_thread_(x)" ∷ codes "loop_" ∷ codes "endloop_" ∷ codes "wait_endthread_(z)" ∷ []) ≡ refused 11 (UnknownName (codes "z"))
 unfolding macro_of
 no_wait = refl
 
@@ -545,11 +570,15 @@ no_second : plain (codes "processor_(P)" ∷ codes "semaphores_()" ∷ codes "al
 unfolding macro_of
 no_second = refl
 
-elsewhere : three (codes "processor_(A)" ∷ codes "semaphores_(0)" ∷ codes "alloc_(b0,1)" ∷ codes "main_" ∷ codes "loop_" ∷ codes "endloop_" ∷ codes "endmain_" ∷ codes "processor_(B)" ∷ codes "semaphores_(1)" ∷ codes "alloc_(b1,1)" ∷ codes "main_" ∷ codes "op d:get(b0;)" ∷ []) ≡ refused 12 (UnknownName (codes "b0"))
+elsewhere : three (codes "processor_(A)" ∷ codes "semaphores_(0)" ∷ codes "alloc_(b0,1)" ∷ codes "main_" ∷ codes "loop_" ∷ codes "endloop_"
+    ∷ codes "endmain_" ∷ codes "processor_(B)" ∷ codes "semaphores_(1)" ∷ codes "alloc_(b1,1)" ∷ codes "main_" ∷ codes "op d:get(b0;)"
+    ∷ []) ≡ refused 12 (UnknownName (codes "b0"))
 unfolding macro_of
 elsewhere = refl
 
-pair_elsewhere : three (codes "processor_(A)" ∷ codes "semaphores_(0)" ∷ codes "alloc_(b0,1)" ∷ codes "main_" ∷ codes "loop_" ∷ codes "endloop_" ∷ codes "endmain_" ∷ codes "processor_(B)" ∷ codes "semaphores_(1)" ∷ codes "alloc_(b1,1)" ∷ codes "main_" ∷ codes "Pre0_(0)" ∷ []) ≡ refused 12 (UnknownName (codes "0"))
+pair_elsewhere : three (codes "processor_(A)" ∷ codes "semaphores_(0)" ∷ codes "alloc_(b0,1)" ∷ codes "main_" ∷ codes "loop_"
+    ∷ codes "endloop_" ∷ codes "endmain_" ∷ codes "processor_(B)" ∷ codes "semaphores_(1)" ∷ codes "alloc_(b1,1)" ∷ codes "main_"
+    ∷ codes "Pre0_(0)" ∷ []) ≡ refused 12 (UnknownName (codes "0"))
 unfolding macro_of
 pair_elsewhere = refl
 
@@ -558,7 +587,8 @@ number_missing : plain (codes "processor_(P)" ∷ codes "semaphores_()" ∷ code
 unfolding macro_of
 number_missing = refl
 
-number_missing_between : plain (codes "processor_(P)" ∷ codes "semaphores_()" ∷ codes "alloc_(b0,1)" ∷ codes "alloc_(b2,1)" ∷ codes "main_" ∷ codes "loop_" ∷ codes "endloop_" ∷ codes "endmain_" ∷ []) ≡ refused 4 BadArgument
+number_missing_between : plain (codes "processor_(P)" ∷ codes "semaphores_()" ∷ codes "alloc_(b0,1)" ∷ codes "alloc_(b2,1)" ∷ codes "main_"
+    ∷ codes "loop_" ∷ codes "endloop_" ∷ codes "endmain_" ∷ []) ≡ refused 4 BadArgument
 unfolding macro_of
 number_missing_between = refl
 
@@ -570,63 +600,83 @@ pair_before_buffer : plain (codes "processor_(P)" ∷ codes "semaphores_(1)" ∷
 unfolding macro_of
 pair_before_buffer = refl
 
-bad_line_before_number : plain (codes "processor_(P)" ∷ codes "semaphores_(1)" ∷ codes "alloc_(b1,1)" ∷ codes "main_" ∷ codes "loop_" ∷ codes "endloop_" ∷ codes "endmain_" ∷ codes "main_" ∷ []) ≡ refused 8 BadLine
+bad_line_before_number : plain (codes "processor_(P)" ∷ codes "semaphores_(1)" ∷ codes "alloc_(b1,1)" ∷ codes "main_" ∷ codes "loop_"
+    ∷ codes "endloop_" ∷ codes "endmain_" ∷ codes "main_" ∷ []) ≡ refused 8 BadLine
 unfolding macro_of
 bad_line_before_number = refl
 
-number_twice : three (codes "processor_(A)" ∷ codes "semaphores_()" ∷ codes "alloc_(b0,1)" ∷ codes "main_" ∷ codes "loop_" ∷ codes "endloop_" ∷ codes "endmain_" ∷ codes "processor_(B)" ∷ codes "semaphores_()" ∷ codes "alloc_(b0,1)" ∷ codes "main_" ∷ codes "loop_" ∷ codes "endloop_" ∷ codes "endmain_" ∷ []) ≡ refused 10 BadArgument
+number_twice : three (codes "processor_(A)" ∷ codes "semaphores_()" ∷ codes "alloc_(b0,1)" ∷ codes "main_" ∷ codes "loop_"
+    ∷ codes "endloop_" ∷ codes "endmain_" ∷ codes "processor_(B)" ∷ codes "semaphores_()" ∷ codes "alloc_(b0,1)" ∷ codes "main_"
+    ∷ codes "loop_" ∷ codes "endloop_" ∷ codes "endmain_" ∷ []) ≡ refused 10 BadArgument
 unfolding macro_of
 number_twice = refl
 
-pair_twice : three (codes "processor_(A)" ∷ codes "semaphores_(0)" ∷ codes "main_" ∷ codes "loop_" ∷ codes "endloop_" ∷ codes "endmain_" ∷ codes "processor_(B)" ∷ codes "semaphores_(0)" ∷ codes "main_" ∷ codes "loop_" ∷ codes "endloop_" ∷ codes "endmain_" ∷ []) ≡ refused 8 BadArgument
+pair_twice : three (codes "processor_(A)" ∷ codes "semaphores_(0)" ∷ codes "main_" ∷ codes "loop_" ∷ codes "endloop_" ∷ codes "endmain_"
+    ∷ codes "processor_(B)" ∷ codes "semaphores_(0)" ∷ codes "main_" ∷ codes "loop_" ∷ codes "endloop_" ∷ codes "endmain_" ∷ []) ≡ refused 8 BadArgument
 unfolding macro_of
 pair_twice = refl
 
-buffer_before_pair : three (codes "processor_(A)" ∷ codes "semaphores_(1)" ∷ codes "alloc_(b2,1)" ∷ codes "main_" ∷ codes "loop_" ∷ codes "endloop_" ∷ codes "endmain_" ∷ codes "processor_(B)" ∷ codes "semaphores_(2)" ∷ codes "alloc_(b0,1)" ∷ codes "main_" ∷ codes "loop_" ∷ codes "endloop_" ∷ codes "endmain_" ∷ []) ≡ refused 3 BadArgument
+buffer_before_pair : three (codes "processor_(A)" ∷ codes "semaphores_(1)" ∷ codes "alloc_(b2,1)" ∷ codes "main_" ∷ codes "loop_"
+    ∷ codes "endloop_" ∷ codes "endmain_" ∷ codes "processor_(B)" ∷ codes "semaphores_(2)" ∷ codes "alloc_(b0,1)" ∷ codes "main_"
+    ∷ codes "loop_" ∷ codes "endloop_" ∷ codes "endmain_" ∷ []) ≡ refused 3 BadArgument
 unfolding macro_of
 buffer_before_pair = refl
 
-first_of_two : three (codes "processor_(A)" ∷ codes "semaphores_()" ∷ codes "alloc_(b1,1)" ∷ codes "alloc_(b3,1)" ∷ codes "main_" ∷ codes "loop_" ∷ codes "endloop_" ∷ codes "endmain_" ∷ codes "processor_(B)" ∷ codes "semaphores_()" ∷ codes "alloc_(b1,1)" ∷ codes "alloc_(b2,1)" ∷ codes "main_" ∷ codes "loop_" ∷ codes "endloop_" ∷ codes "endmain_" ∷ []) ≡ refused 11 BadArgument
+first_of_two : three (codes "processor_(A)" ∷ codes "semaphores_()" ∷ codes "alloc_(b1,1)" ∷ codes "alloc_(b3,1)" ∷ codes "main_"
+    ∷ codes "loop_" ∷ codes "endloop_" ∷ codes "endmain_" ∷ codes "processor_(B)" ∷ codes "semaphores_()" ∷ codes "alloc_(b1,1)"
+    ∷ codes "alloc_(b2,1)" ∷ codes "main_" ∷ codes "loop_" ∷ codes "endloop_" ∷ codes "endmain_" ∷ []) ≡ refused 11 BadArgument
 unfolding macro_of
 first_of_two = refl
 
 -- Then the limits are told, with what they count.
-many_words : plain (codes "processor_(P)" ∷ codes "semaphores_()" ∷ codes "alloc_(b0,65537)" ∷ codes "main_" ∷ codes "loop_" ∷ codes "endloop_" ∷ codes "endmain_" ∷ []) ≡ Err (Limit (record { which = Words; count = 65537; bound = 65536 }))
+many_words : plain (codes "processor_(P)" ∷ codes "semaphores_()" ∷ codes "alloc_(b0,65537)" ∷ codes "main_" ∷ codes "loop_"
+    ∷ codes "endloop_" ∷ codes "endmain_" ∷ []) ≡ Err (Limit (record { which = Words; count = 65537; bound = 65536 }))
 unfolding macro_of
 many_words = refl
 
-many_places : plain (codes "processor_(P)" ∷ codes "semaphores_()" ∷ codes "alloc_(b0,1)" ∷ codes "alloc_(b1,32768,2)" ∷ codes "main_" ∷ codes "loop_" ∷ codes "endloop_" ∷ codes "endmain_" ∷ []) ≡ Err (Limit (record { which = Words; count = 65537; bound = 65536 }))
+many_places : plain (codes "processor_(P)" ∷ codes "semaphores_()" ∷ codes "alloc_(b0,1)" ∷ codes "alloc_(b1,32768,2)" ∷ codes "main_"
+    ∷ codes "loop_" ∷ codes "endloop_" ∷ codes "endmain_" ∷ []) ≡ Err (Limit (record { which = Words; count = 65537; bound = 65536 }))
 unfolding macro_of
 many_places = refl
 
-wide_length : plain (codes "processor_(P)" ∷ codes "semaphores_()" ∷ codes "alloc_(b0,9223372036854775807,4)" ∷ codes "main_" ∷ codes "loop_" ∷ codes "endloop_" ∷ codes "endmain_" ∷ []) ≡ Err (Limit (record { which = Words; count = 36893488147419103228; bound = 65536 }))
+wide_length : plain (codes "processor_(P)" ∷ codes "semaphores_()" ∷ codes "alloc_(b0,9223372036854775807,4)" ∷ codes "main_"
+    ∷ codes "loop_" ∷ codes "endloop_" ∷ codes "endmain_" ∷ []) ≡ Err (Limit (record { which = Words; count = 36893488147419103228; bound = 65536 }))
 unfolding macro_of
 wide_length = refl
 
-number_before_words : plain (codes "processor_(P)" ∷ codes "semaphores_()" ∷ codes "alloc_(b1,65537)" ∷ codes "main_" ∷ codes "loop_" ∷ codes "endloop_" ∷ codes "endmain_" ∷ []) ≡ refused 3 BadArgument
+number_before_words : plain (codes "processor_(P)" ∷ codes "semaphores_()" ∷ codes "alloc_(b1,65537)" ∷ codes "main_" ∷ codes "loop_"
+    ∷ codes "endloop_" ∷ codes "endmain_" ∷ []) ≡ refused 3 BadArgument
 unfolding macro_of
 number_before_words = refl
 
-bad_line_before_words : plain (codes "processor_(P)" ∷ codes "semaphores_()" ∷ codes "alloc_(b0,65537)" ∷ codes "main_" ∷ codes "loop_" ∷ codes "endloop_" ∷ codes "endmain_" ∷ codes "loop_" ∷ []) ≡ refused 8 BadLine
+bad_line_before_words : plain (codes "processor_(P)" ∷ codes "semaphores_()" ∷ codes "alloc_(b0,65537)" ∷ codes "main_" ∷ codes "loop_"
+    ∷ codes "endloop_" ∷ codes "endmain_" ∷ codes "loop_" ∷ []) ≡ refused 8 BadLine
 unfolding macro_of
 bad_line_before_words = refl
 
-pairs_are_words : plain (codes "processor_(P)" ∷ codes "semaphores_(0,1)" ∷ codes "alloc_(b0,65533)" ∷ codes "main_" ∷ codes "loop_" ∷ codes "endloop_" ∷ codes "endmain_" ∷ []) ≡ Err (Limit (record { which = Words; count = 65537; bound = 65536 }))
+pairs_are_words : plain (codes "processor_(P)" ∷ codes "semaphores_(0,1)" ∷ codes "alloc_(b0,65533)" ∷ codes "main_" ∷ codes "loop_"
+    ∷ codes "endloop_" ∷ codes "endmain_" ∷ []) ≡ Err (Limit (record { which = Words; count = 65537; bound = 65536 }))
 unfolding macro_of
 pairs_are_words = refl
 
-media_are_words : three (codes "processor_(A)" ∷ codes "semaphores_()" ∷ codes "alloc_(b0,65534)" ∷ codes "main_" ∷ codes "loop_" ∷ codes "endloop_" ∷ codes "endmain_" ∷ []) ≡ Err (Limit (record { which = Words; count = 65537; bound = 65536 }))
+media_are_words : three (codes "processor_(A)" ∷ codes "semaphores_()" ∷ codes "alloc_(b0,65534)" ∷ codes "main_" ∷ codes "loop_"
+    ∷ codes "endloop_" ∷ codes "endmain_" ∷ []) ≡ Err (Limit (record { which = Words; count = 65537; bound = 65536 }))
 unfolding macro_of
 media_are_words = refl
 
-wires_are_words : three (codes "processor_(A)" ∷ codes "semaphores_()" ∷ codes "alloc_(b0,30000)" ∷ codes "alloc_(b1,6000)" ∷ codes "thread_(x)" ∷ codes "send_(b0,B)" ∷ codes "loop_" ∷ codes "send_(b1,B)" ∷ codes "endloop_" ∷ codes "endthread_" ∷ codes "main_" ∷ codes "spawn_thread_(x)" ∷ codes "send_(b1,C)" ∷ codes "loop_" ∷ codes "endloop_" ∷ codes "wait_endthread_(x)" ∷ codes "endmain_" ∷ []) ≡ Err (Limit (record { which = Words; count = 66003; bound = 65536 }))
+wires_are_words : three (codes "processor_(A)" ∷ codes "semaphores_()" ∷ codes "alloc_(b0,30000)" ∷ codes "alloc_(b1,6000)"
+    ∷ codes "thread_(x)" ∷ codes "send_(b0,B)" ∷ codes "loop_" ∷ codes "send_(b1,B)" ∷ codes "endloop_" ∷ codes "endthread_"
+    ∷ codes "main_" ∷ codes "spawn_thread_(x)" ∷ codes "send_(b1,C)" ∷ codes "loop_" ∷ codes "endloop_" ∷ codes "wait_endthread_(x)"
+    ∷ codes "endmain_" ∷ []) ≡ Err (Limit (record { which = Words; count = 66003; bound = 65536 }))
 unfolding macro_of
 wires_are_words = refl
 
-all_words : plain (codes "processor_(P)" ∷ codes "semaphores_()" ∷ codes "alloc_(b0,65536)" ∷ codes "main_" ∷ codes "loop_" ∷ codes "endloop_" ∷ codes "endmain_" ∷ []) ≡ Ok (record { buffers = buffer 0 65536 1 ∷ []; pairs = []; seqs = code 0 None [] [] ∷ [] })
+all_words : plain (codes "processor_(P)" ∷ codes "semaphores_()" ∷ codes "alloc_(b0,65536)" ∷ codes "main_" ∷ codes "loop_"
+    ∷ codes "endloop_" ∷ codes "endmain_" ∷ []) ≡ Ok (record { buffers = buffer 0 65536 1 ∷ []; pairs = []; seqs = code 0 None [] [] ∷ [] })
 unfolding macro_of
 all_words = refl
 
-words_before_steps : plain (codes "processor_(P)" ∷ codes "semaphores_()" ∷ codes "alloc_(b0,65537)" ∷ codes "main_" ∷ codes "loop_" ∷ codes "op s(b0,b0,b0;b0)" ∷ codes "endloop_" ∷ codes "endmain_" ∷ []) ≡ Err (Limit (record { which = Words; count = 65537; bound = 65536 }))
+words_before_steps : plain (codes "processor_(P)" ∷ codes "semaphores_()" ∷ codes "alloc_(b0,65537)" ∷ codes "main_" ∷ codes "loop_"
+    ∷ codes "op s(b0,b0,b0;b0)" ∷ codes "endloop_" ∷ codes "endmain_" ∷ []) ≡ Err (Limit (record { which = Words; count = 65537; bound = 65536 }))
 unfolding macro_of
 words_before_steps = refl

@@ -6,6 +6,7 @@ use Rattle.executive_program.specs.declared.Vertex.{Vertex}
 use Rattle.executive_program.specs.declared.Kind.TheVariants.{Set}
 use Rattle.executive_program.specs.Graph.{Graph}
 use Rattle.executive_program.specs.declared.Medium.{Medium}
+use Rattle.executive_program.specs.declared.MediumKind.TheVariants.{Multipoint}
 use Rattle.executive_program.specs.Archi.{Architecture}
 use Rattle.executive_program.specs.declared.program.Instr.{Instr}
 use Rattle.executive_program.specs.declared.program.Instr.TheVariants.{Suc0, Suc1, Pre0, Pre1, Call, Send, Recv, Sync}
@@ -23,7 +24,7 @@ abbrev pub graph : List Bytes → Graph
 graph names = record { vertices = map operation names; bodies = [] }
 
 abbrev pub medium : Bytes → List ℕ → Medium
-medium name stands = record { name = name; multi = true; fixed = 1; per = 1; stands = stands }
+medium name stands = record { name = name; kind = Multipoint; fixed = 1; per = 1; stands = stands }
 
 abbrev pub archi : List Bytes → List Medium → Architecture
 archi operators media = record { operators = operators; media = media; depth = 1 }

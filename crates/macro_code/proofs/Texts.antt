@@ -20,17 +20,21 @@ text (l ∷ ls) = l ++ 10 ∷ text ls
 abbrev pub plain : List Bytes → Result Program CodeRefusal
 plain ls = program_in (text ls) (graph (codes "s" ∷ codes "a" ∷ [])) (archi (codes "P" ∷ []) [])
 
-plain_text : plain (codes "processor_(P)" ∷ codes "semaphores_()" ∷ codes "alloc_(b0,1)" ∷ codes "main_" ∷ codes "loop_" ∷ codes "op s(;b0)" ∷ codes "op a(b0;)" ∷ codes "endloop_" ∷ codes "endmain_" ∷ []) ≡ Ok plain_program
+plain_text : plain (codes "processor_(P)" ∷ codes "semaphores_()" ∷ codes "alloc_(b0,1)" ∷ codes "main_" ∷ codes "loop_"
+    ∷ codes "op s(;b0)" ∷ codes "op a(b0;)" ∷ codes "endloop_" ∷ codes "endmain_" ∷ []) ≡ Ok plain_program
 unfolding macro_of
 plain_text = refl
 
 -- Blanks, comments, carriage returns and empty lines say nothing, and a number may have zeros before it.
-loose_text : plain ((codes " processor_(P)\t# the first" ++ 200 ∷ []) ∷ codes "# none" ∷ [] ∷ codes "semaphores_()\r" ∷ codes "\talloc_(b00,001)" ∷ codes "main_\r" ∷ codes "loop_" ∷ codes "op  s(;b0)" ∷ codes " op a(b-0;) # last" ∷ codes "endloop_" ∷ codes "endmain_ \r" ∷ codes " " ∷ []) ≡ Ok plain_program
+loose_text : plain ((codes " processor_(P)\t# the first" ++ 200 ∷ []) ∷ codes "# none" ∷ [] ∷ codes "semaphores_()\r"
+    ∷ codes "\talloc_(b00,001)" ∷ codes "main_\r" ∷ codes "loop_" ∷ codes "op  s(;b0)" ∷ codes " op a(b-0;) # last" ∷ codes "endloop_"
+    ∷ codes "endmain_ \r" ∷ codes " " ∷ []) ≡ Ok plain_program
 unfolding macro_of
 loose_text = refl
 
 -- the last line may lack its line feed
-unended : program_in (codes "processor_(P)\nsemaphores_()\nalloc_(b0,1)\nmain_\nloop_\nop s(;b0)\nop a(b0;)\nendloop_\nendmain_") (graph (codes "s" ∷ codes "a" ∷ [])) (archi (codes "P" ∷ []) []) ≡ Ok plain_program
+unended : program_in (codes "processor_(P)\nsemaphores_()\nalloc_(b0,1)\nmain_\nloop_\nop s(;b0)\nop a(b0;)\nendloop_\nendmain_")
+    (graph (codes "s" ∷ codes "a" ∷ [])) (archi (codes "P" ∷ []) []) ≡ Ok plain_program
 unfolding macro_of
 unended = refl
 
@@ -46,7 +50,8 @@ abbrev thread_p : List Bytes
 thread_p = codes "loop_" ∷ codes "Suc1_(0)" ∷ codes "send_(b0,Q)" ∷ codes "Pre0_(0)" ∷ codes "endloop_" ∷ codes "endthread_" ∷ []
 
 abbrev main_p : List Bytes
-main_p = codes "spawn_thread_(bus)" ∷ codes "loop_" ∷ codes "Suc0_(0)" ∷ codes "op s(;b0)" ∷ codes "Pre1_(0)" ∷ codes "op f(b0;b1)" ∷ codes "op a(b1;)" ∷ codes "endloop_" ∷ codes "wait_endthread_(bus)" ∷ codes "endmain_" ∷ []
+main_p = codes "spawn_thread_(bus)" ∷ codes "loop_" ∷ codes "Suc0_(0)" ∷ codes "op s(;b0)" ∷ codes "Pre1_(0)" ∷ codes "op f(b0;b1)"
+    ∷ codes "op a(b1;)" ∷ codes "endloop_" ∷ codes "wait_endthread_(bus)" ∷ codes "endmain_" ∷ []
 
 abbrev thread_q : List Bytes
 thread_q = codes "thread_(bus)" ∷ codes "loop_" ∷ codes "Suc0_(1)" ∷ codes "recv_(b2,P)" ∷ codes "Pre1_(1)" ∷ codes "endloop_" ∷ codes "endthread_" ∷ []
@@ -73,8 +78,10 @@ bus_half : bus (once_p (codes "main_")) ≡ Ok (record {
 unfolding macro_of
 bus_half = refl
 
-bus_doubled : bus ((codes "processor_(P)" ∷ codes "semaphores_(0)" ∷ codes "alloc_(b0,1,2)" ∷ codes "alloc_(b1,1)" ∷ codes "thread_(bus)" ∷ codes "Pre0_(0)" ∷ codes "Pre0_(0)" ∷ thread_p ++ codes "main_" ∷ main_p)
-    ++ (codes "processor_(Q)" ∷ codes "semaphores_(1)" ∷ codes "alloc_(b2,1,2)" ∷ codes "alloc_(b3,1)" ∷ thread_q ++ codes "main_" ∷ codes "spawn_thread_(bus)" ∷ codes "Pre0_(1)" ∷ codes "Pre0_(1)" ∷ main_q))
+bus_doubled : bus ((codes "processor_(P)" ∷ codes "semaphores_(0)" ∷ codes "alloc_(b0,1,2)" ∷ codes "alloc_(b1,1)" ∷ codes "thread_(bus)"
+    ∷ codes "Pre0_(0)" ∷ codes "Pre0_(0)" ∷ thread_p ++ codes "main_" ∷ main_p)
+    ++ (codes "processor_(Q)" ∷ codes "semaphores_(1)" ∷ codes "alloc_(b2,1,2)" ∷ codes "alloc_(b3,1)" ∷ thread_q ++ codes "main_"
+    ∷ codes "spawn_thread_(bus)" ∷ codes "Pre0_(1)" ∷ codes "Pre0_(1)" ∷ main_q))
     ≡ Ok (bus_program 2 (Pre0 0 ∷ Pre0 0 ∷ []) (Pre0 1 ∷ Pre0 1 ∷ []))
 unfolding macro_of
 bus_doubled = refl
@@ -86,12 +93,15 @@ mian = refl
 
 -- Buffers and pairs go by their numbers, not by the order of the processors; instructions of all kinds may stand before a loop; media are numbered by the architecture.
 abbrev pub three : List Bytes → Result Program CodeRefusal
-three ls = program_in (text ls) (graph (codes "d:get" ∷ codes "w.1/x" ∷ [])) (archi (codes "A" ∷ codes "B" ∷ codes "C" ∷ []) (medium (codes "x") (0 ∷ 1 ∷ 2 ∷ []) ∷ medium (codes "y") (0 ∷ 2 ∷ []) ∷ medium (codes "z") (0 ∷ 1 ∷ []) ∷ []))
+three ls = program_in (text ls) (graph (codes "d:get" ∷ codes "w.1/x" ∷ []))
+    (archi (codes "A" ∷ codes "B" ∷ codes "C" ∷ [])
+    (medium (codes "x") (0 ∷ 1 ∷ 2 ∷ []) ∷ medium (codes "y") (0 ∷ 2 ∷ []) ∷ medium (codes "z") (0 ∷ 1 ∷ []) ∷ []))
 
 another_order : three (codes "processor_(A)" ∷ codes "semaphores_(1,3)" ∷ codes "alloc_(b2,5,4)" ∷ codes "alloc_(b3,7)"
     ∷ codes "thread_(x)" ∷ codes "sync_(B,C)" ∷ codes "loop_" ∷ codes "sync_(C,B)" ∷ codes "endloop_" ∷ codes "endthread_"
     ∷ codes "thread_(y)" ∷ codes "loop_" ∷ codes "endloop_" ∷ codes "endthread_"
-    ∷ codes "main_" ∷ codes "spawn_thread_(x)" ∷ codes "spawn_thread_(y)" ∷ codes "send_(b2,C)" ∷ codes "loop_" ∷ codes "op w.1/x(b3,b2,b3;b2)" ∷ codes "Suc1_(3)" ∷ codes "endloop_" ∷ codes "wait_endthread_(x)" ∷ codes "wait_endthread_(y)" ∷ codes "endmain_"
+    ∷ codes "main_" ∷ codes "spawn_thread_(x)" ∷ codes "spawn_thread_(y)" ∷ codes "send_(b2,C)" ∷ codes "loop_"
+    ∷ codes "op w.1/x(b3,b2,b3;b2)" ∷ codes "Suc1_(3)" ∷ codes "endloop_" ∷ codes "wait_endthread_(x)" ∷ codes "wait_endthread_(y)" ∷ codes "endmain_"
     ∷ codes "processor_(C)" ∷ codes "semaphores_(0,2)" ∷ codes "alloc_(b0,1)" ∷ codes "alloc_(b1,64,2)"
     ∷ codes "main_" ∷ codes "op d:get(;)" ∷ codes "loop_" ∷ codes "endloop_" ∷ codes "endmain_" ∷ [])
     ≡ Ok (record {

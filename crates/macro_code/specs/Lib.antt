@@ -3,3 +3,4 @@ pub mod ReadText
 pub mod Refusals
 pub mod Macros
 pub mod Text
+pub mod Placed

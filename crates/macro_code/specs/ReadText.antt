@@ -211,7 +211,7 @@ last_of ns = slice_get ns (length ns - 1)
 abbrev pub is_among : List ℕ → ℕ → Bool
 is_among ns n = list_any (λ k. nat_eq k n) ns
 
--- a declared number
+-- The number is there, and is one of those that are declared here.
 abbrev pub is_known : List ℕ → Option ℕ → Bool
 is_known here None = false
 is_known here (Some n) = is_among here n
@@ -369,7 +369,7 @@ declaration_of n here arguments =
 abbrev pub alloc_line : Reading → ℕ → Arguments → Result Reading CodeRefusal
 alloc_line r n arguments = and_then (declaration_of n r.buffers_here arguments) (λ d. Ok (with_buffer r n d))
 
--- main_
+-- What has been read after line n, which has the form `main_`, or its refusal.
 abbrev pub main_line : Reading → ℕ → Arguments → Result Reading CodeRefusal
 main_line r n arguments =
     without n arguments (Ok (record r { stage = Prologue; medium = None; spawned = []; awaited = [] }))
@@ -463,7 +463,7 @@ module _ (a : Architecture) where
       and_then (known n w (place_in medium_names w)) (λ m.
       if follows (last_of media) m then Ok (record { word = w; medium = m }) else refused n BadArgument))
 
-  -- thread_(MEDIUM)
+  -- What has been read after a line `thread_(MEDIUM)`.
   abbrev pub at_thread : Reading → ℕ → Reading
   at_thread r m = record r { stage = Prologue; media = r.media ++ m ∷ []; medium = Some m }
 
@@ -506,7 +506,7 @@ module _ (a : Architecture) where
   transfer_line r n make arguments =
       and_then (moved_of n r.buffers_here arguments) (λ t. Ok (with_instr r (make t.buffer t.operator)))
 
-  -- sync_(FROM,TO)
+  -- Both ends of a line `sync_(FROM,TO)`, or its refusal.
   abbrev pub ends_of : ℕ → Arguments → Result Ends CodeRefusal
   ends_of n arguments =
       and_then (argument n (two_of arguments)) (λ t.

@@ -44,7 +44,7 @@ pub record Names : Type 0 where
 abbrev pub names_of : Named → Names
 names_of n = record { vertices = n.vertices.now; operators = n.operators.now; media = n.media.now }
 
--- joined by commas
+-- These words, joined by commas.
 abbrev pub joined : List Bytes → Bytes
 joined [] = []
 joined (w ∷ ws) = w ++ each_after_comma ws

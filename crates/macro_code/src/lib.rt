@@ -8,17 +8,21 @@
 #![tactic(auto)]
 
 mod arguments;
+mod ascending;
 mod code;
 mod fault;
 mod instruction;
 mod macros;
 mod named;
 mod numbered;
+mod places;
 mod processor;
 mod stage;
 
+pub use ascending::{are_followed_by, follows};
 pub use code::print_code;
 pub use fault::{CodeCause, CodeError, CodeFault};
 pub use macros::Macro;
 pub use numbered::{Numbered, Size};
+pub use places::{Places, places_of};
 pub use stage::Stage;

@@ -5,7 +5,24 @@ use mathlib.Core.Path.{fun_ext}
 use Rattle.algo_tree.specs.declared.Source.{Source}
 use Rattle.algo_tree.specs.declared.Source.TheVariants.{Of}
 use Rattle.algo_tree.specs.declared.Part.TheVariants.{Named, Numbered}
-use Rattle.algo_tree.specs.Level.{State, Path, Node, below, source_value, with_node, node_outputs, node_next, out, level_value, case_look, case_outputs, graph_outputs, graph_next, switch_outputs, switch_next}
+use Rattle.algo_tree.specs.Level.{
+  State,
+  Path,
+  Node,
+  below,
+  source_value,
+  with_node,
+  node_outputs,
+  node_next,
+  out,
+  level_value,
+  case_look,
+  case_outputs,
+  graph_outputs,
+  graph_next,
+  switch_outputs,
+  switch_next,
+}
 use Rattle.algo_tree.specs.Parts.{HasDistinctParts}
 use Rattle.algo_tree.specs.Tree.{Label, Vertices}
 use Rattle.algo_tree.specs.Meaning.{kind_outputs, kind_next, node, nodes}
@@ -84,7 +101,8 @@ module _ (m : Mark) (l : Label) (us : Vertices) where
           ap₂ (λ v vs. v ∷ vs) (counted-at fuel)
           (map-append (look (suc fuel)) (inputs_from 0 (length l.ins)) (map (λ i. Of (suc i) 0) (numbers_below q))
           ∙ ap₂ (λ xs ys. xs ++ ys)
-          (ap (λ xs. map (source_value xs (out level row st' ins (suc fuel))) (inputs_from 0 (length l.ins))) (sym (append-nil ins)) ∙ inputs_are [] ins [] (out level row st' ins (suc fuel)) 0 (length l.ins) refl fed)
+          (ap (λ xs. map (source_value xs (out level row st' ins (suc fuel))) (inputs_from 0 (length l.ins))) (sym (append-nil ins))
+          ∙ inputs_are [] ins [] (out level row st' ins (suc fuel)) 0 (length l.ins) refl fed)
           (map_map (look (suc fuel)) (λ i. Of (suc i) 0) (numbers_below q) ∙ map_below (λ i. look (suc fuel) (Of (suc i) 0)) (vector_at kept) q (λ i lt. kept-at fuel i lt) ∙ all_below kept q h.long))
 
       -- where the reference stands
@@ -163,18 +181,24 @@ module _ (m : Mark) (l : Label) (us : Vertices) where
             ap (λ v. drop 1 (st' (Named (codes "count") ∷ [])) ++ v ∷ []) (ap (λ n. look n (Of 0 0)) long-level)
             ∙ ap (λ vs. drop 1 vs ++ slice_index_or vs 0 [] ∷ []) h.counted;
         keeps = λ i lt.
-            ap (λ o. with_node o (st' (Named (keep_name l.names i) ∷ [])) (λ c. node_next row (below c.part st') (level_value level row st' ins) c [])) (found_at level (suc i) (kid i) distinct (at_below kid q (heart ∷ []) i lt))
+            ap (λ o. with_node o (st' (Named (keep_name l.names i) ∷ []))
+            (λ c. node_next row (below c.part st') (level_value level row st' ins) c []))
+            (found_at level (suc i) (kid i) distinct (at_below kid q (heart ∷ []) i lt))
             ∙ ap (λ vs. drop 1 vs ++ level_value level row st' ins (Of (suc q) i) ∷ []) (h.keeps i lt)
             ∙ ap (λ n. vector_at (out level row st' ins n (suc q)) i ∷ []) long-level
             ∙ ap (λ vs. vector_at vs i ∷ []) (heart-gives q);
         runs = λ p.
-            ap (λ o. with_node o (st' (Named (codes "body") ∷ Numbered 0 ∷ Named (codes "run") ∷ p)) (λ c. node_next row (below c.part st') (level_value level row st' ins) c (Numbered 0 ∷ Named (codes "run") ∷ p))) (found_at level (suc q) heart distinct (past_below kid q heart []))
+            ap (λ o. with_node o (st' (Named (codes "body") ∷ Numbered 0 ∷ Named (codes "run") ∷ p))
+            (λ c. node_next row (below c.part st') (level_value level row st' ins) c (Numbered 0 ∷ Named (codes "run") ∷ p)))
+            (found_at level (suc q) heart distinct (past_below kid q heart []))
             ∙ ap (λ n. switch_next (pos 0 ∷ []) (node (when_runs l us) ∷ node (otherwise l) ∷ []) row deep (map (look n) heart.ins) (Numbered 0 ∷ Named (codes "run") ∷ p)) long-level
             ∙ ap (λ vs. switch_next (pos 0 ∷ []) (node (when_runs l us) ∷ node (otherwise l) ∷ []) row deep vs (Numbered 0 ∷ Named (codes "run") ∷ p)) (handed-is (suc q))
             ∙ next-by runs_now p;
       }
         where
-          next-by : (b : Bool) (p : Path) → switch_next (pos 0 ∷ []) (node (when_runs l us) ∷ node (otherwise l) ∷ []) row deep (handed b) (Numbered 0 ∷ Named (codes "run") ∷ p) ≡ cond b (plain_next row st ins) st p
+          next-by : (b : Bool) (p : Path)
+              → switch_next (pos 0 ∷ []) (node (when_runs l us) ∷ node (otherwise l) ∷ []) row deep (handed b)
+              (Numbered 0 ∷ Named (codes "run") ∷ p) ≡ cond b (plain_next row st ins) st p
           next-by true p =
               ap (λ xs. graph_next (node (run l us) ∷ []) row deeper xs (Named (codes "run") ∷ p)) (case-inputs true)
               ∙ ap (λ xs. plain_next row deepest xs p) (run-inputs (out (node (run l us) ∷ []) row deeper ins 1))

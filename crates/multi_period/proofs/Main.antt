@@ -40,7 +40,8 @@ able-at mark own outs (and_vertex (vertex k ws) us) may typed (suc r) u e = able
 keeps-at : (marks : List Mark) (l : Label) (us : Vertices) → l ≡ as_main l → AreMarked (mark_at marks) us → IsAcyclic (nodes us) → HasDistinctParts (nodes us) → AllTyped [] (outs_of us) us
     → PeriodsKeep marks (vertex l us)
 keeps-at marks l us e may acyclic distinct typed =
-    subst (λ x. PeriodsKeep marks (vertex x us)) (sym e) (λ rows k. taken (mark_at marks) l us acyclic distinct (λ r l vs is. able-at (mark_at marks) [] (outs_of us) us may typed r (vertex l vs) is) rows k)
+    subst (λ x. PeriodsKeep marks (vertex x us)) (sym e)
+    (λ rows k. taken (mark_at marks) l us acyclic distinct (λ r l vs is. able-at (mark_at marks) [] (outs_of us) us may typed r (vertex l vs) is) rows k)
 
 same_label : (l : Label) → l.kind ≡ graph [] → l ≡ as_main l
 same_label l e = ap (λ k. record { part = l.part; definition = l.definition; ins = l.ins; guards = l.guards; outs = l.outs; names = l.names; kind = k }) e

@@ -12,7 +12,6 @@ use Rattle.algo_tree.specs.Bounded.{IsBounded, AllBounded, HasBounds}
 use Rattle.multi_period.specs.declared.mark.Mark.{Mark}
 use Rattle.multi_period.specs.Marks.{mark_at, IsMark, MayHave, AreMarked}
 use Rattle.multi_period.specs.Periods.{keep, body, period, period_by, all_periods, periods}
-use Rattle.multi_period.specs.Named.{AreNamed, MarkNamed}
 use Rattle.syn_base.specs.Numbers.{numbers_below}
 
 name-at : (names : List (List ℕ)) (i : ℕ) → AreNames names → i < length names → is_word (slice_index_or names i []) ≡ true
@@ -35,15 +34,15 @@ named-keeps l (suc n) h inside =
     ((record { part = keep-word (slice_index_or l.names n []) (name-at l.names n h (inside n (omega arith))); definition = refl; kind = tt }, tt), tt))
 
 module _ (m : Mark) (l : Label) (us : Vertices) (h : IsMark m l) where
-  named-period : AreNames l.names → IsNamed (vertex l us) → IsNamed (period m l us)
-  named-period names named = (
+  named-period : IsNamed (vertex l us) → IsNamed (period m l us)
+  named-period named = (
     record { part = named.0.part; definition = named.0.definition; kind = tt },
     (
       (record { part = refl; definition = refl; kind = tt }, tt),
       named-append (map (keep l) (numbers_below (length l.outs))) (body l us ∷ [])
-          (named-keeps l (length l.outs) names (λ i lt. let e = h.named in omega (arith, e, lt))) (
+          (named-keeps l (length l.outs) h.words (λ i lt. let e = h.named in omega (arith, e, lt))) (
             (
-              record { part = refl; definition = refl; kind = names },
+              record { part = refl; definition = refl; kind = h.words },
               (
                 (record { part = tt; definition = refl; kind = tt }, ((record { part = refl; definition = named.0.definition; kind = named.0.kind }, named.1), tt)),
                 ((record { part = tt; definition = refl; kind = tt }, tt), tt),
@@ -54,16 +53,16 @@ module _ (m : Mark) (l : Label) (us : Vertices) (h : IsMark m l) where
     ),
   )
 
-pub named-made : (mark : ℕ → Option Mark) (us : Vertices) → AreMarked mark us → AreNamed mark us → AllNamed us → AllNamed (all_periods mark us)
-named-made mark no_vertices may named h = tt
-named-made mark (and_vertex (vertex l vs) us) may named h = (here (mark 0) may.0 named.0, named-made (λ r. mark (suc r)) us may.1 named.1 h.1)
+pub named-made : (mark : ℕ → Option Mark) (us : Vertices) → AreMarked mark us → AllNamed us → AllNamed (all_periods mark us)
+named-made mark no_vertices may h = tt
+named-made mark (and_vertex (vertex l vs) us) may h = (here (mark 0) may.0, named-made (λ r. mark (suc r)) us may.1 h.1)
   where
-    here : (o : Option Mark) → MayHave o l → MarkNamed o l → IsNamed (period_by o (vertex l vs))
-    here None k n = h.0
-    here (Some m) k n = named-period m l vs k n h.0
+    here : (o : Option Mark) → MayHave o l → IsNamed (period_by o (vertex l vs))
+    here None k = h.0
+    here (Some m) k = named-period m l vs k h.0
 
-pub names-keep : (marks : List Mark) (main : Vertex) → AreMarked (mark_at marks) (vertices_in main) → AreNamed (mark_at marks) (vertices_in main) → HasNames main → HasNames (periods marks main)
-names-keep marks (vertex l us) may named h = named-made (mark_at marks) us may named h
+pub names-keep : (marks : List Mark) (main : Vertex) → AreMarked (mark_at marks) (vertices_in main) → HasNames main → HasNames (periods marks main)
+names-keep marks (vertex l us) may h = named-made (mark_at marks) us may h
 
 -- numbers
 bounded-append : (xs ys : List Vertex) → AllBounded (vertices_of xs) → AllBounded (vertices_of ys) → AllBounded (vertices_of (xs ++ ys))

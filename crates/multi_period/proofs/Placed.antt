@@ -95,7 +95,8 @@ long_table f n table is = ap length is ∙ long_below f n
 
 -- one vertex more
 pub next_made : (mark : ℕ → Option Mark) (us : List Declared) (i : ℕ) (u : Declared) (o : Option Mark) (w : Declared) (all all' : List Declared) → o ≡ mark i → i < length us → u ≡ get_or us i u
-    → view w ≡ period_by o (view u) → map view all ≡ map (made_of mark (vertices_view us)) (numbers_below i) → all' ≡ all ++ w ∷ [] → map view all' ≡ map (made_of mark (vertices_view us)) (numbers_below (i + 1))
+    → view w ≡ period_by o (view u) → map view all ≡ map (made_of mark (vertices_view us)) (numbers_below i) → all' ≡ all ++ w ∷ []
+    → map view all' ≡ map (made_of mark (vertices_view us)) (numbers_below (i + 1))
 next_made mark us i u o w all all' o_is lt at is so_far push =
     ap (map view) push ∙ map-append view all (w ∷ [])
     ∙ ap₂ (λ xs x. xs ++ x ∷ []) so_far (is ∙ ap₂ period_by o_is (view_at us i u lt at))

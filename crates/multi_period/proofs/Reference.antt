@@ -46,7 +46,8 @@ rel-first (Some m) l us able = subst (λ cs. Kept m l us 0 (map zeros l.outs) (n
       long = long_map zeros l.outs;
       counted = refl;
       keeps = λ i lt.
-          ap (λ o. with_node o [] (λ c. c.does.initial [])) (found_at (level m l us) (suc i) (kid m l us i) (level-distinct m l us able.0) (at_below (kid m l us) (length l.outs) (heart m l us ∷ []) i lt))
+          ap (λ o. with_node o [] (λ c. c.does.initial []))
+          (found_at (level m l us) (suc i) (kid m l us i) (level-distinct m l us able.0) (at_below (kid m l us) (length l.outs) (heart m l us ∷ []) i lt))
           ∙ ap (λ v. v ∷ []) (zeros-at l.outs i lt);
       runs = λ p.
           ap (λ o. with_node o [] (λ c. c.does.initial (Numbered 0 ∷ Named (codes "run") ∷ p)))

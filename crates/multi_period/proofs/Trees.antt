@@ -10,6 +10,7 @@ use Rattle.multi_period.specs.Marks.{mark_at, AreMarked}
 use Rattle.multi_period.specs.Periods.{all_periods}
 use Rattle.multi_period.specs.Laws.{PeriodsAreTrees}
 use Rattle.multi_period.proofs.Levels.{made-distinct}
+use Rattle.multi_period.proofs.Names.{bounds-keep, names-keep}
 use Rattle.multi_period.proofs.Wellness.{well-made, made-acyclic}
 use Rattle.multi_period.proofs.Typing.{outs-made, typed-made}
 use Rattle.multi_period.proofs.Endings.{inside-made, numbered-made}
@@ -36,4 +37,6 @@ tree-made marks (vertex l us) tree may few =
       inside = inside-made mark us may tree.inside;
       numbered = numbered-made mark us may tree.numbered;
       few = few;
+      named = names-keep marks (vertex l us) may tree.named;
+      bounded = bounds-keep marks (vertex l us) tree.bounded;
     }

@@ -1,5 +1,36 @@
 -- In the made tree the lengths of values fit.
-use Rattle.std.proofs.Common.{◌≡◌, pos, ℕ, zero, suc, ◌+◌, ◌-◌, ◌<◌, ◌≤◌, List, [], ◌∷◌, ◌++◌, length, map, take, replicate, Option, Some, None, slice_get, slice_index_or, refl, sym, ap, ap₂, ◌∙◌, subst, append-nil, arith}
+use Rattle.std.proofs.Common.{
+  ◌≡◌,
+  pos,
+  ℕ,
+  zero,
+  suc,
+  ◌+◌,
+  ◌-◌,
+  ◌<◌,
+  ◌≤◌,
+  List,
+  [],
+  ◌∷◌,
+  ◌++◌,
+  length,
+  map,
+  take,
+  replicate,
+  Option,
+  Some,
+  None,
+  slice_get,
+  slice_index_or,
+  refl,
+  sym,
+  ap,
+  ap₂,
+  ◌∙◌,
+  subst,
+  append-nil,
+  arith,
+}
 use Rattle.std.proofs.lemmas.List.{map-append}
 use lib.Seq.{take-suc, take_all}
 use Rattle.algo_tree.specs.declared.Source.{Source}
@@ -137,7 +168,8 @@ module _ (m : Mark) (l : Label) (us : Vertices) (h : IsMark m l) (lens : List �
   typed-otherwise : IsTyped (map (source_length body_lens []) (inputs_from (suc (length l.ins)) q)) (otherwise l)
   typed-otherwise =
       subst (λ ns. IsTyped ns (otherwise l))
-      (sym (ap (λ xs. map (source_length (1 ∷ (lens ++ xs)) []) (inputs_from (suc (length l.ins)) q)) (sym (append-nil l.outs)) ∙ own_lengths (1 ∷ lens) l.outs [] [] (suc (length l.ins)) q (ap suc long) refl))
+      (sym (ap (λ xs. map (source_length (1 ∷ (lens ++ xs)) []) (inputs_from (suc (length l.ins)) q)) (sym (append-nil l.outs))
+      ∙ own_lengths (1 ∷ lens) l.outs [] [] (suc (length l.ins)) q (ap suc long) refl))
       ((typed.0.1, typed.0.1), (tt, sym (own-all l.outs q [] refl)))
 
   typed-body : IsTyped (map len (Of 0 0 ∷ (inputs_from 0 (length l.ins) ++ map (λ i. Of (suc i) 0) (numbers_below q)))) (body l us)

@@ -67,7 +67,8 @@ module _ (m : Mark) (l : Label) (us : Vertices) (h : IsMark m l) where
   level-acyclic = acyclic-in_order (level m l us) (in_order-from (level m l us) level-order)
 
   run-alone : IsAcyclic (node (run l us) ∷ [])
-  run-alone = acyclic-in_order (node (run l us) ∷ []) (in_order-from (node (run l us) ∷ []) ((tt, before-asked 0 l.kind (inputs_from 0 (length l.ins)) (own-before 0 0 (numbers_below (length l.ins)))), tt))
+  run-alone = acyclic-in_order (node (run l us) ∷ [])
+      (in_order-from (node (run l us) ∷ []) ((tt, before-asked 0 l.kind (inputs_from 0 (length l.ins)) (own-before 0 0 (numbers_below (length l.ins)))), tt))
 
   well-run : IsWell (vertex l us) → IsWell (run l us)
   well-run w = (subst (λ gs. IsKindWell l.kind gs us) h.guards w.0, w.1)
@@ -77,7 +78,22 @@ module _ (m : Mark) (l : Label) (us : Vertices) (h : IsMark m l) where
 
   well-body : IsWell (vertex l us) → IsWell (body l us)
   well-body w = (
-    ((refl, (refl, ((((refl, tt), (tt, tt))), ((own-inputs 1 (numbers_below (length l.ins)), tt), ((own-inputs (suc (length l.ins)) (numbers_below (length l.outs)), tt), tt))))), ((tt, (tt, tt)), h.distinct)),
+    (
+      (
+        refl,
+        (
+          refl,
+          (
+            (((refl, tt), (tt, tt))),
+            (
+              (own-inputs 1 (numbers_below (length l.ins)), tt),
+              ((own-inputs (suc (length l.ins)) (numbers_below (length l.outs)), tt), tt),
+            ),
+          ),
+        ),
+      ),
+      ((tt, (tt, tt)), h.distinct),
+    ),
     (((refl, (run-alone, (tt, tt))), (well-run w, tt)), (((refl, (none-alone, tt)), tt), tt)),
   )
 
@@ -100,7 +116,8 @@ made-ready : (done : ℕ → Bool) (o : Option Mark) (l : Label) (vs : Vertices)
 made-ready done None l vs h = refl
 made-ready done (Some m) l vs h = ap₂ (λ gs ss. guards_ready done gs && sources_ready done ss) (sym h.guards) (sym (asked-all l.kind l.ins h.kind))
 
-made-round : (done : ℕ → Bool) (mark : ℕ → Option Mark) (us : Vertices) → AreMarked mark us → (r : ℕ) → with_node (slice_get (nodes (all_periods mark us)) r) false (is_ready done) ≡ with_node (slice_get (nodes us) r) false (is_ready done)
+made-round : (done : ℕ → Bool) (mark : ℕ → Option Mark) (us : Vertices) → AreMarked mark us → (r : ℕ)
+    → with_node (slice_get (nodes (all_periods mark us)) r) false (is_ready done) ≡ with_node (slice_get (nodes us) r) false (is_ready done)
 made-round done mark no_vertices may r = refl
 made-round done mark (and_vertex (vertex l vs) us) may zero = made-ready done (mark 0) l vs may.0
 made-round done mark (and_vertex (vertex l vs) us) may (suc r) = made-round done (λ r. mark (suc r)) us may.1 r

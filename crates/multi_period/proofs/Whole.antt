@@ -1,5 +1,40 @@
 -- The made tree has the meaning with periods.
-use Rattle.std.proofs.Common.{◌≡◌, ℕ, zero, suc, ◌-◌, ◌%◌, ◌==◌, ◌<◌, ◌≤◌, List, [], ◌∷◌, ◌++◌, length, map, Bool, true, false, cond, Option, Some, None, inl, inr, slice_get, slice_index_or, refl, sym, ap, ◌∙◌, subst, eq-eqb, ne_eqb, arith}
+use Rattle.std.proofs.Common.{
+  ◌≡◌,
+  ℕ,
+  zero,
+  suc,
+  ◌-◌,
+  ◌%◌,
+  ◌==◌,
+  ◌<◌,
+  ◌≤◌,
+  List,
+  [],
+  ◌∷◌,
+  ◌++◌,
+  length,
+  map,
+  Bool,
+  true,
+  false,
+  cond,
+  Option,
+  Some,
+  None,
+  inl,
+  inr,
+  slice_get,
+  slice_index_or,
+  refl,
+  sym,
+  ap,
+  ◌∙◌,
+  subst,
+  eq-eqb,
+  ne_eqb,
+  arith,
+}
 use Rattle.std.proofs.lemmas.Bool.{cases_eq, false≢true}
 use mathlib.Core.Path.{fun_ext}
 use native.Mathlib.Nat.{zero-mod}
@@ -54,7 +89,9 @@ actuators-made mark look no_vertices able = refl
 actuators-made mark look (and_vertex (vertex l vs) us) able =
     here (mark 0) (able 0 l vs refl) ∙ ap (λ ys. actuator_value look l l.kind ++ ys) (actuators-made (λ r. mark (suc r)) look us (λ r l vs is. able (suc r) l vs is))
   where
-    here : (o : Option Mark) → Able o l vs → actuator_values look (and_vertex (period_by o (vertex l vs)) (all_periods (λ r. mark (suc r)) us)) ≡ actuator_value look l l.kind ++ actuator_values look (all_periods (λ r. mark (suc r)) us)
+    here : (o : Option Mark) → Able o l vs
+        → actuator_values look (and_vertex (period_by o (vertex l vs)) (all_periods (λ r. mark (suc r)) us)) ≡ actuator_value look l l.kind
+        ++ actuator_values look (all_periods (λ r. mark (suc r)) us)
     here None h = refl
     here (Some m) h = ap (λ xs. xs ++ actuator_values look (all_periods (λ r. mark (suc r)) us)) (sym (actuator-none look l l.kind h.0.kind))
 
@@ -106,7 +143,8 @@ module _ (mark : ℕ → Option Mark) (lab : Label) (us : Vertices) (acyclic : I
     looks-off : (k : ℕ) → ((k % m.every) == 0) ≡ false → G k r ≡ G (k - (k % m.every)) r
     looks-off k off =
         let before : Values = (H k).gave (k - (k % m.every)) r in
-        out_is (es k) (held-acyclic (hold k) (nodes us) acyclic) (row k) (H k).past [] r (held_by (hold k r) (node (vertex l vs))) (held-at (hold k) (nodes us) r (node (vertex l vs)) (node-at us r (vertex l vs) is))
+        out_is (es k) (held-acyclic (hold k) (nodes us) acyclic) (row k) (H k).past [] r (held_by (hold k r) (node (vertex l vs)))
+        (held-at (hold k) (nodes us) r (node (vertex l vs)) (node-at us r (vertex l vs) is))
         ∙ ap (λ o. node_outputs (row k) (below (held_by o (node (vertex l vs))).part (H k).past) (level_value (es k) (row k) (H k).past []) (held_by o (node (vertex l vs)))) (off-node k off)
         ∙ ap (λ gs. cond (all_hold (level_value (es k) (row k) (H k).past []) gs) before (map zeros l.outs)) ok.guards
         ∙ ap (λ f. f r) (gave-is k (k - (k % m.every)) (last_before m.every k off ok.some (later k off)))
@@ -146,7 +184,8 @@ module _ (mark : ℕ → Option Mark) (lab : Label) (us : Vertices) (acyclic : I
         ≡ node_outputs (row k) (below (held_by (hold k r) (node u)).part (H k).past) look (held_by (hold k r) (node u))
     given-at look r (vertex l vs) is =
         parts (mark r) (hold k r)
-        ∙ rel-outputs k (λ j. (H k).gave j r) (kept k r l) (below l.part (H k).past) (below l.part (past' k)) (row k) look (mark r) l vs (able r l vs is) (inv r l vs is) (holds-by (mark r) k r l vs is refl (able r l vs is))
+        ∙ rel-outputs k (λ j. (H k).gave j r) (kept k r l) (below l.part (H k).past) (below l.part (past' k)) (row k) look (mark r) l vs
+        (able r l vs is) (inv r l vs is) (holds-by (mark r) k r l vs is refl (able r l vs is))
         ∙ sym (parts' (hold k r))
       where
         parts : (o : Option Mark) (h : Option Values) → node_outputs (row k) (below (node (period_by o (vertex l vs))).part (past' k)) look (node (period_by o (vertex l vs)))
@@ -209,7 +248,8 @@ module _ (mark : ℕ → Option Mark) (lab : Label) (us : Vertices) (acyclic : I
           subst (λ x. Rel (mark r) l vs (suc k) x (below l.part (H (suc k)).past) (below l.part (past' (suc k)))) (sym gives)
           (subst (λ s. Rel (mark r) l vs (suc k) (node_outputs (row k) (below l.part (H k).past) look before) s (below l.part (past' (suc k)))) (sym keeps)
           (subst (λ s. Rel (mark r) l vs (suc k) (node_outputs (row k) (below l.part (H k).past) look before) (node_next (row k) (below l.part (H k).past) look before) s) (sym makes)
-          (rel-next k (λ j. (H k).gave j r) (kept k r l) (below l.part (H k).past) (below l.part (past' k)) (row k) look (mark r) l vs (able r l vs is) (inv r l vs is) (holds-by (mark r) k r l vs is refl (able r l vs is)))))
+          (rel-next k (λ j. (H k).gave j r) (kept k r l) (below l.part (H k).past) (below l.part (past' k)) (row k) look (mark r) l vs
+          (able r l vs is) (inv r l vs is) (holds-by (mark r) k r l vs is refl (able r l vs is)))))
 
   first-at : (r : ℕ) (l : Label) (vs : Vertices) → vertex_at us r ≡ Some (vertex l vs) → Rel (mark r) l vs 0 (map zeros l.outs) (below l.part (H 0).past) (below l.part (past' 0))
   first-at r l vs is =

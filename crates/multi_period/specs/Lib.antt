@@ -2,6 +2,5 @@ pub mod Marks
 pub mod Periods
 pub mod Meaning
 pub mod Laws
-pub mod Named
 pub mod Seen
 pub mod Within

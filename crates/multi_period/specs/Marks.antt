@@ -31,6 +31,7 @@ use Rattle.algo_tree.specs.Tree.{
 }
 use Rattle.algo_tree.specs.Code.{count_of}
 use Rattle.algo_tree.specs.Meaning.{vertices_in}
+use Rattle.algo_tree.specs.Named.{AreNames}
 use Rattle.algo_tree.specs.Well.{AreDistinctNames}
 use Rattle.multi_period.specs.declared.mark.Mark.{Mark}
 
@@ -47,8 +48,8 @@ IsMarkable (switch values names) = Unit {0}
 IsMarkable (repeat n feeds gives) = Unit {0}
 IsMarkable _ = ⊥
 
--- A reference of such a kind may run in every nth reaction. Each of its outputs has a name of its own, after which the
--- delay that keeps its last value is named.
+-- A reference of such a kind may run in every nth reaction. Each of its outputs has a name of its own, a word, after
+-- which the delay that keeps its last value is named.
 pub record IsMark (mark : Mark) (label : Label) : Type 0 where
   pub some : 1 ≤ mark.every
   pub few : mark.every ≤ 16
@@ -56,6 +57,7 @@ pub record IsMark (mark : Mark) (label : Label) : Type 0 where
   pub guards : label.guards ≡ []
   pub named : length label.names ≡ length label.outs
   pub distinct : AreDistinctNames label.names
+  pub words : AreNames label.names
 
 -- If there is a mark, a reference with this label may have it.
 abbrev pub MayHave : Option Mark → Label → Type 0

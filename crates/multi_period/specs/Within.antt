@@ -14,6 +14,7 @@ use Rattle.std.specs.Prelude.{
   [],
   if◌then◌else◌,
 }
+use Rattle.syn_base.specs.declared.limits.LimitFault.{LimitFault}
 use Rattle.syn_base.specs.declared.limits.LimitKind.TheVariants.{Operations}
 use Rattle.syn_base.specs.Limits.{bound_of}
 use Rattle.algo_tree.specs.Tree.{Vertex, Vertices}
@@ -29,20 +30,20 @@ abbrev pub adds : Vertices → Mark → ℕ
 adds us m = 2 * m.every + 3 * length (slice_index_or (outs_of us) m.reference [])
 
 -- The made tree, or the limit where it has too many operations.
-abbrev pub made_within : List Mark → Vertex → Result Vertex PeriodError
+abbrev pub made_within : List Mark → Vertex → Result Vertex LimitFault
 made_within marks main =
     if nat_lt 2048 (operations (periods marks main)) then
-    Err (Limit (record { which = Operations; count = operations (periods marks main); bound = bound_of Operations }))
+    Err (record { which = Operations; count = operations (periods marks main); bound = bound_of Operations })
     else Ok (periods marks main)
 
 -- There is a tree to make, and no limit that it is above.
-abbrev pub IsWithin : Result Vertex PeriodError → Type 0
+abbrev pub IsWithin : Result Vertex LimitFault → Type 0
 IsWithin (Ok u) = Unit {0}
 IsWithin (Err e) = ⊥
 
 -- What is returned is what was to be made, or want of memory, which comes only if there is a tree
 -- to make.
-abbrev pub Gives : Result Vertex PeriodError → Result Vertex PeriodError → Type 0
+abbrev pub Gives : Result Vertex PeriodError → Result Vertex LimitFault → Type 0
 Gives (Ok u) expected = expected ≡ Ok u
-Gives (Err (Limit f)) expected = expected ≡ Err (Limit f)
+Gives (Err (Limit f)) expected = expected ≡ Err f
 Gives (Err OutOfMemory) expected = IsWithin expected

@@ -3,9 +3,6 @@ ghost use Rattle.std.specs.Prelude.{◌≡◌, ℕ, List, []};
 ghost use Rattle.algo_tree.specs.Tree.{Label, Vertex, Vertices};
 ghost use Rattle.algo_tree.specs.Meaning.{vertices_in, act_row};
 ghost use Rattle.algo_tree.specs.Valid.{IsTree};
-ghost use Rattle.algo_tree.specs.Named.{HasNames};
-ghost use Rattle.algo_tree.specs.Bounded.{HasBounds};
-ghost use Rattle.multi_period.specs.Named.{AreNamed};
 ghost use Rattle.multi_period.specs.Periods.{periods};
 ghost use Rattle.multi_period.specs.declared.mark.Mark.{Mark};
 ghost use Rattle.multi_period.specs.Marks.{mark_at, AreMarked, IsMark};
@@ -30,8 +27,9 @@ pub fn unmarked_trees_stay()
     ensures { (main : Vertex) → periods [] main ≡ main }
 {}
 
-/// The made tree is a valid tree where it has few enough operations; each marked reference has
-/// become as many as are said.
+/// The made tree is a valid tree where it has few enough operations: names stand where names are asked
+/// for, if longer ones, and numbers in paths have 32 bits. Each marked reference has become as many
+/// operations as are said.
 pub fn periods_are_trees()
     ensures valid { (marks : List Mark) (main : Vertex) → IsTree main
         → AreMarked (mark_at marks) (vertices_in main) → PeriodsAreTrees marks main }
@@ -45,15 +43,4 @@ pub fn periods_are_trees()
 pub fn periods_keep_values()
     ensures { (marks : List Mark) (main : Vertex) → IsTree main
         → AreMarked (mark_at marks) (vertices_in main) → PeriodsKeepValues marks main }
-{}
-
-/// Where names stand in a tree, names stand in the made tree; those of references may be longer.
-/// Numbers in paths have 32 bits.
-pub fn periods_keep_names()
-    ensures names { (marks : List Mark) (main : Vertex)
-        → AreMarked (mark_at marks) (vertices_in main)
-        → AreNamed (mark_at marks) (vertices_in main)
-        → HasNames main → HasNames (periods marks main) }
-    ensures bounds { (marks : List Mark) (main : Vertex) → HasBounds main
-        → HasBounds (periods marks main) }
 {}

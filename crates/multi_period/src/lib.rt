@@ -17,8 +17,8 @@ mod table;
 
 pub use fault::PeriodError;
 pub use laws::{
-    nothing_marked, periods_are_trees, periods_keep_names, periods_keep_the_meaning,
-    periods_keep_values, unmarked_trees_stay,
+    nothing_marked, periods_are_trees, periods_keep_the_meaning, periods_keep_values,
+    unmarked_trees_stay,
 };
 pub use mark::Mark;
 pub use pass::periods;

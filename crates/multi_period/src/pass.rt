@@ -3,13 +3,9 @@ ghost use Rattle.std.specs.Prelude.{◌≡◌, ◌≤◌, ◌<◌, IfOk, length}
 ghost use Rattle.std.specs.List.{All};
 ghost use Rattle.syn_base.specs.Limits.{most_operations};
 ghost use Rattle.algo_tree.specs.Counted.{operations};
-ghost use Rattle.algo_tree.specs.Meaning.{vertices_in};
 ghost use Rattle.algo_tree.specs.View.{view, vertices_view};
-ghost use Rattle.algo_tree.specs.Bounded.{HasBounds};
-ghost use Rattle.algo_tree.specs.Named.{HasNames};
 ghost use Rattle.multi_period.specs.Laws.{DoesAsMarked};
 ghost use Rattle.multi_period.specs.Marks.{mark_at, MayHave, MayHaveMarks, AreMarked};
-ghost use Rattle.multi_period.specs.Named.{AreNamed};
 ghost use Rattle.multi_period.specs.Periods.{period_by as one_period, all_periods, periods as tree_made};
 ghost use Rattle.multi_period.specs.Seen.{label_seen};
 ghost use Rattle.multi_period.specs.Within.{Gives, made_within};
@@ -33,9 +29,6 @@ pub fn periods(alloc: Global, tree: &Tree, marks: &[Mark]) -> Result<Tree, Perio
     requires { MayHaveMarks marks.now tree.now }
     ensures gives { Gives result (made_within marks.now tree.now) }
     ensures meaning { IfOk result (DoesAsMarked marks.now tree.now) }
-    ensures named { HasNames tree.now → AreNamed (mark_at marks.now) (vertices_in tree.now)
-        → IfOk result (λ t. HasNames t) }
-    ensures bounded { HasBounds tree.now → IfOk result (λ t. HasBounds t) }
 {
     let count = count_made(tree, marks);
     let bound = LimitKind::Operations.bound();

@@ -20,7 +20,8 @@ delay_suc (x ∷ xs) zero = by (is_get x.kind)
 delay_suc (x ∷ xs) (suc k) = by (is_get x.kind) (is_get_at xs k) (delay_suc xs k)
   where
     by : (b g : Bool) → delay_number xs (suc k) ≡ cond g (delay_number xs k + 1) (delay_number xs k)
-        → (if b then delay_number xs (suc k) + 1 else delay_number xs (suc k)) ≡ cond g ((if b then delay_number xs k + 1 else delay_number xs k) + 1) (if b then delay_number xs k + 1 else delay_number xs k)
+        → (if b then delay_number xs (suc k) + 1 else delay_number xs (suc k))
+        ≡ cond g ((if b then delay_number xs k + 1 else delay_number xs k) + 1) (if b then delay_number xs k + 1 else delay_number xs k)
     by true true e = ap (λ (n : ℕ). n + 1) e
     by true false e = ap (λ (n : ℕ). n + 1) e
     by false true e = e

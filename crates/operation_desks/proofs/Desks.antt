@@ -15,7 +15,8 @@ drop-zero [] = refl
 drop-zero (x ∷ xs) = refl
 
 -- the guards' vectors are read first, and then those of the inputs, which stand before them
-module _ (row : List ℤ) (n m after : ℕ) (old half new : Values) (len : n + m ≡ length old) (r : ReadsPorts row 0 n m old half) (b : after ≡ 0 + sum (take m (drop n (lens old)))) (q : ReadsPorts row after 0 n half new) where
+module _ (row : List ℤ) (n m after : ℕ) (old half new : Values) (len : n + m ≡ length old) (r : ReadsPorts row 0 n m old half)
+    (b : after ≡ 0 + sum (take m (drop n (lens old)))) (q : ReadsPorts row after 0 n half new) where
   G : List ℕ
   G = drop n (lens old)
 

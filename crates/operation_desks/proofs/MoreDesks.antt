@@ -18,7 +18,8 @@ entry_of (x ∷ xs) d e (suc u) h = by (entry_of xs d e u h)
     by (inl l) = inl l
     by (inr (p, q)) = inr (ap suc p, q)
 
-pub desks_more : (g : Graph) (mine : ℕ → Bool) (v : ℕ) (x : Vertex) (d : Option DeskLens) (desks new : List (Option DeskLens)) → slice_get g.vertices v ≡ Some x → AreDesks g mine v desks → (mine v ≡ true → HasDesk g v x d) → new ≡ desks ++ d ∷ [] → AreDesks g mine (v + 1) new
+pub desks_more : (g : Graph) (mine : ℕ → Bool) (v : ℕ) (x : Vertex) (d : Option DeskLens) (desks new : List (Option DeskLens))
+    → slice_get g.vertices v ≡ Some x → AreDesks g mine v desks → (mine v ≡ true → HasDesk g v x d) → new ≡ desks ++ d ∷ [] → AreDesks g mine (v + 1) new
 desks_more g mine v x d desks new is are desk e = record {
   there = (let n = are.there in let a = ap (λ (l : List (Option DeskLens)). length l) e in let b = length-append desks (d ∷ []) in omega arith);
   each = λ u y f m at stands. by u y f m at (entry_of desks d f u (ap (λ (l : List (Option DeskLens)). slice_get l u) (sym e) ∙ stands));
@@ -32,7 +33,8 @@ desks_more g mine v x d desks new is are desk e = record {
         subst (λ (n : ℕ). HasDesk g n y f) place (subst (λ (z : Vertex). HasDesk g v z f) same (subst (λ (z : Option DeskLens). HasDesk g v x z) q (desk (ap mine place ∙ m))))
 
 -- where each is to be computed, each of a list of places is one of those
-pub all_desks : (g : Graph) (desks : List (Option DeskLens)) (mine : List Bool) → mine ≡ replicate (length g.vertices) true → AreDesks g (λ v. slice_index_or mine v false) (length g.vertices) desks → AreDesks g (λ v. true) (length g.vertices) desks
+pub all_desks : (g : Graph) (desks : List (Option DeskLens)) (mine : List Bool) → mine ≡ replicate (length g.vertices) true
+    → AreDesks g (λ v. slice_index_or mine v false) (length g.vertices) desks → AreDesks g (λ v. true) (length g.vertices) desks
 all_desks g desks mine e are = record {
   there = are.there;
   each = λ v x d m is at. are.each v x d (ap (λ (l : List Bool). slice_index_or l v false) e ∙ get_or-replicate (length g.vertices) v true false (slice_get_within g.vertices v x is)) is at;

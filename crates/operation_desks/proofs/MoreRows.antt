@@ -9,7 +9,8 @@ use Rattle.executive_program.specs.FlatLaws.{actuator_len}
 use Rattle.operation_desks.specs.RowLens.{lens_for}
 
 -- one more operation
-pub lens_more : (g : Graph) (mine : ℕ → Bool) (vs : List Vertex) (k : ℕ) (x : Vertex) (b : Bool) (lens new all : List ℕ) → slice_get vs k ≡ Some x → b ≡ mine k → new ≡ lens ++ map (λ (l : ℕ). cond b l 0) (actuator_len g x x.kind)
+pub lens_more : (g : Graph) (mine : ℕ → Bool) (vs : List Vertex) (k : ℕ) (x : Vertex) (b : Bool) (lens new all : List ℕ) → slice_get vs k
+    ≡ Some x → b ≡ mine k → new ≡ lens ++ map (λ (l : ℕ). cond b l 0) (actuator_len g x x.kind)
     → lens ++ lens_for g mine k (drop k vs) ≡ all → new ++ lens_for g mine (k + 1) (drop (k + 1) vs) ≡ all
 lens_more g mine vs k x b lens new all is on n e =
     ap (λ (l : List ℕ). l ++ lens_for g mine (k + 1) (drop (k + 1) vs)) n

@@ -1,5 +1,35 @@
 -- Vectors that are read from registers, one element after another and one port after another.
-use Rattle.std.proofs.Common.{◌≡◌, ℕ, ◌+◌, ◌-◌, ◌<◌, ◌≤◌, List, [], ◌∷◌, ◌++◌, map, take, drop, length, get_or, sum, refl, sym, ap, arith, ◌∙◌, ℤ, pos, add-zero, drop-drop, take-append-drop, append_assoc, length-append, length-drop}
+use Rattle.std.proofs.Common.{
+  ◌≡◌,
+  ℕ,
+  ◌+◌,
+  ◌-◌,
+  ◌<◌,
+  ◌≤◌,
+  List,
+  [],
+  ◌∷◌,
+  ◌++◌,
+  map,
+  take,
+  drop,
+  length,
+  get_or,
+  sum,
+  refl,
+  sym,
+  ap,
+  arith,
+  ◌∙◌,
+  ℤ,
+  pos,
+  add-zero,
+  drop-drop,
+  take-append-drop,
+  append_assoc,
+  length-append,
+  length-drop,
+}
 use Rattle.std.specs.Prelude.{slice_set}
 use Rattle.std.specs.List.{range_with_len}
 use Rattle.std.proofs.lemmas.List.{set-set, set-append_right, drop_more, get_or-set_same, length-map, get_or-drop, take_more, take_more_set, take-set-le, drop-set-lt, drop-set-add}
@@ -24,7 +54,8 @@ module _ (row : List ℤ) (at : ℕ) (old : Vector) where
   half_more : (j : ℕ) (v : ℤ) → j < length old → v ≡ element_at row (at + j) → slice_set (half_read row at old j) j v ≡ half_read row at old (j + 1)
   half_more j v h e = set-append_right (read j) (drop j old) j j v (length-map-range_with_len (λ (i : ℕ). element_at row (at + i)) 0 j) (omega arith)
       ∙ ap (λ (n : ℕ). read j ++ slice_set (drop j old) n v) zero_is ∙ ap (λ (l : List ℤ). read j ++ slice_set l 0 v) (drop_more old j (pos 0) h)
-      ∙ sym (append_assoc (read j) (v ∷ []) (drop (j + 1) old)) ∙ ap (λ (x : ℤ). (read j ++ x ∷ []) ++ drop (j + 1) old) e ∙ ap (λ (l : List ℤ). l ++ drop (j + 1) old) (sym (map-range_with_len_more (λ (i : ℕ). element_at row (at + i)) 0 j j (omega arith)))
+      ∙ sym (append_assoc (read j) (v ∷ []) (drop (j + 1) old)) ∙ ap (λ (x : ℤ). (read j ++ x ∷ []) ++ drop (j + 1) old) e
+      ∙ ap (λ (l : List ℤ). l ++ drop (j + 1) old) (sym (map-range_with_len_more (λ (i : ℕ). element_at row (at + i)) 0 j j (omega arith)))
     where
       read : ℕ → List ℤ
       read n = map (λ (i : ℕ). element_at row (at + i)) (range_with_len 0 n)
@@ -41,9 +72,11 @@ module _ (row : List ℤ) (at port : ℕ) (old : Values) where
   place_there ins j p e h = let a = ap (λ (x : Values). vector_at x port) e in let b = get_or-set_same old port (half_read row at V j) [] p in let c = length_half row at V j (omega arith) in
       let d = ap (λ (x : Vector). length x) (a ∙ b) in omega arith
 
-  pub element_more : (ins new : Values) (j : ℕ) (v : ℤ) → port < length old → ins ≡ slice_set old port (half_read row at V j) → j < length V → v ≡ element_at row (at + j) → new ≡ with_value ins port j v
+  pub element_more : (ins new : Values) (j : ℕ) (v : ℤ) → port < length old → ins ≡ slice_set old port (half_read row at V j) → j
+      < length V → v ≡ element_at row (at + j) → new ≡ with_value ins port j v
       → new ≡ slice_set old port (half_read row at V (j + 1))
-  element_more ins new j v p e h f n = n ∙ ap (λ (x : Values). with_value x port j v) e ∙ ap (λ (x : Vector). slice_set (slice_set old port (half_read row at V j)) port (slice_set x j v)) (get_or-set_same old port (half_read row at V j) [] p)
+  element_more ins new j v p e h f n = n ∙ ap (λ (x : Values). with_value x port j v) e
+      ∙ ap (λ (x : Vector). slice_set (slice_set old port (half_read row at V j)) port (slice_set x j v)) (get_or-set_same old port (half_read row at V j) [] p)
       ∙ set-set old port (half_read row at V j) (slice_set (half_read row at V j) j v) ∙ ap (slice_set old port) (half_more row at V j v h f)
 
 pub whole_read : (row : List ℤ) (at : ℕ) (old : Vector) → half_read row at old (length old) ≡ vector_in row at (length old)
@@ -63,13 +96,17 @@ length-vector_in row at n = length-map-range_with_len (λ (i : ℕ). element_at 
 -- vectors that are read one after the other
 pub vectors-append : (row : List ℤ) (at : ℕ) (xs ys : List ℕ) → vectors_from row at (xs ++ ys) ≡ vectors_from row at xs ++ vectors_from row (at + sum xs) ys
 vectors-append row at [] ys = ap (λ (n : ℕ). vectors_from row n ys) (sym (add-zero at))
-vectors-append row at (n ∷ xs) ys = ap (λ (l : Values). vector_in row at n ∷ l) (vectors-append row (at + n) xs ys ∙ ap (λ (m : ℕ). vectors_from row (at + n) xs ++ vectors_from row m ys) (let e = sum_by-cons (λ x. x) n xs in omega arith))
+vectors-append row at (n ∷ xs) ys =
+    ap (λ (l : Values). vector_in row at n ∷ l)
+    (vectors-append row (at + n) xs ys
+    ∙ ap (λ (m : ℕ). vectors_from row (at + n) xs ++ vectors_from row m ys) (let e = sum_by-cons (λ x. x) n xs in omega arith))
 
 abbrev pub lens : Values → List ℕ
 lens vs = map (λ (v : Vector). length v) vs
 
 -- one more port
-module _ (row : List ℤ) (at first : ℕ) (old ins new : Values) (i next len : ℕ) (there : first + i < length old) (r : ReadsPorts row at first i old ins) (e : next ≡ at + sum (take i (drop first (lens old))))
+module _ (row : List ℤ) (at first : ℕ) (old ins new : Values) (i next len : ℕ) (there : first + i < length old)
+    (r : ReadsPorts row at first i old ins) (e : next ≡ at + sum (take i (drop first (lens old))))
     (is : new ≡ slice_set ins (first + i) (vector_in row next (length (vector_at ins (first + i))))) (l : len ≡ length (vector_at new (first + i))) where
   n : ℕ
   n = length (vector_at ins (first + i))
@@ -96,7 +133,8 @@ module _ (row : List ℤ) (at first : ℕ) (old ins new : Values) (i next len : 
   lens_more = take_more (drop first (lens old)) i 0 in_lens
 
   same_lens : map (λ (v : Vector). length v) new ≡ map (λ (v : Vector). length v) old
-  same_lens = ap lens is ∙ map-set_same (λ (v : Vector). length v) ins (first + i) (vector_in row next (length (vector_at ins (first + i)))) [] (length-vector_in row next (length (vector_at ins (first + i)))) ∙ r.lens
+  same_lens = ap lens is ∙ map-set_same (λ (v : Vector). length v) ins (first + i)
+      (vector_in row next (length (vector_at ins (first + i)))) [] (length-vector_in row next (length (vector_at ins (first + i)))) ∙ r.lens
 
   read_more : take (i + 1) (drop first new) ≡ vectors_from row at (take (i + 1) (drop first (lens old)))
   read_more = ap (λ (x : Values). take (i + 1) (drop first x)) is

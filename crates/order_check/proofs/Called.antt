@@ -53,11 +53,14 @@ module _ (p : Program) where
       let only = and_parts (passes (calls v) (slice_get (turn p s) a)) (every p (only_test v s a)) h in (
         call_there v (slice_get (turn p s) a) only.0,
         λ t b ins outs e.
-            let r = and_parts (nat_eq t s) (nat_eq b a) (implied (calls v (Call v ins outs)) (nat_eq t s && nat_eq b a) (every_of p (only_test v s a) only.1 t b (Call v ins outs) e) (same_numbers v)) in
+            let r = and_parts (nat_eq t s) (nat_eq b a)
+            (implied (calls v (Call v ins outs)) (nat_eq t s && nat_eq b a)
+            (every_of p (only_test v s a) only.1 t b (Call v ins outs) e) (same_numbers v)) in
             (eqb-true t s r.0, eqb-true b a r.1),
       )
 
-  pub of_only_call : (v s a : ℕ) (ins outs : List ℕ) → Stands p s a (Call v ins outs) → ((t b : ℕ) (ins outs : List ℕ) → Stands p t b (Call v ins outs) → (t ≡ s) × (b ≡ a)) → is_only p (calls v) s a ≡ true
+  pub of_only_call : (v s a : ℕ) (ins outs : List ℕ) → Stands p s a (Call v ins outs)
+      → ((t b : ℕ) (ins outs : List ℕ) → Stands p t b (Call v ins outs) → (t ≡ s) × (b ≡ a)) → is_only p (calls v) s a ≡ true
   of_only_call v s a ins outs e only =
       both_true (subst (λ (o : Option Instr). passes (calls v) o ≡ true) (sym e) (same_numbers v))
       (of_every p (only_test v s a) (λ t b y f.
@@ -86,7 +89,8 @@ module _ (p : Program) (order : List ℕ) (g : Graph) where
   is_carries : (x : Source) (b : ℕ) → b < length p.buffers → carried p b ≡ x → HasLength p order (places p) (carried p) g x (len_of p b) → carries p g.vertices x (Some b) ≡ true
   is_carries x b l e h = both_true (both_true (lt-ltb b (length p.buffers) l) (is_same_source (carried p b) x e)) (told_length x (len_of p b) (slice_get g.vertices x.vertex) refl h)
 
-  carry_of : (bs : List ℕ) (xs : List Source) → length bs ≡ length xs → ((k : ℕ) (x : Source) → slice_get xs k ≡ Some x → carries p g.vertices x (slice_get bs k) ≡ true) → CarryInOrder p order (places p) (carried p) g bs xs
+  carry_of : (bs : List ℕ) (xs : List Source) → length bs ≡ length xs
+      → ((k : ℕ) (x : Source) → slice_get xs k ≡ Some x → carries p g.vertices x (slice_get bs k) ≡ true) → CarryInOrder p order (places p) (carried p) g bs xs
   carry_of [] [] n h = tt
   carry_of [] (x ∷ xs) n h = absurd (omega (arith, n))
   carry_of (b ∷ bs) [] n h = absurd (omega (arith, n))
@@ -94,8 +98,10 @@ module _ (p : Program) (order : List ℕ) (g : Graph) where
       let c = carries_is x b (h zero x refl) in
       (c.0, c.1, c.2, carry_of bs xs (let m : length bs ≡ length xs = omega (arith, n) in m) (λ k y e. h (suc k) y e))
 
-  take_of : (ins : List ℕ) (ds : List Guard) (xs : List Source) → length ins ≡ length ds + length xs → ((k : ℕ) (d : Guard) → slice_get ds k ≡ Some d → carries p g.vertices d.source (slice_get ins k) ≡ true)
-      → ((k : ℕ) (x : Source) → slice_get xs k ≡ Some x → carries p g.vertices x (slice_get (drop (length ds) ins) k) ≡ true) → CarryInOrder p order (places p) (carried p) g ins (map (λ d. d.source) ds ++ xs)
+  take_of : (ins : List ℕ) (ds : List Guard) (xs : List Source) → length ins ≡ length ds + length xs
+      → ((k : ℕ) (d : Guard) → slice_get ds k ≡ Some d → carries p g.vertices d.source (slice_get ins k) ≡ true)
+      → ((k : ℕ) (x : Source) → slice_get xs k ≡ Some x → carries p g.vertices x (slice_get (drop (length ds) ins) k) ≡ true)
+      → CarryInOrder p order (places p) (carried p) g ins (map (λ d. d.source) ds ++ xs)
   take_of ins [] xs n h i = carry_of ins xs (let m : length ins ≡ length xs = omega (arith, n) in m) i
   take_of [] (d ∷ ds) xs n h i = absurd (omega (arith, n))
   take_of (b ∷ ins) (d ∷ ds) xs n h i =
@@ -122,7 +128,9 @@ module _ (p : Program) (order : List ℕ) (g : Graph) where
   long_take [] (d ∷ ds) xs h = absurd h
   long_take (b ∷ ins) (d ∷ ds) xs h = let r = long_take ins ds xs h.3 in let m : length (b ∷ ins) ≡ length (d ∷ ds) + length xs = omega (arith, r) in m
 
-  each_guard : (ins : List ℕ) (ds : List Guard) (xs : List Source) → CarryInOrder p order (places p) (carried p) g ins (map (λ d. d.source) ds ++ xs) → (k : ℕ) (d : Guard) → slice_get ds k ≡ Some d → carries p g.vertices d.source (slice_get ins k) ≡ true
+  each_guard : (ins : List ℕ) (ds : List Guard) (xs : List Source)
+      → CarryInOrder p order (places p) (carried p) g ins (map (λ d. d.source) ds ++ xs) → (k : ℕ) (d : Guard) → slice_get ds k ≡ Some d
+      → carries p g.vertices d.source (slice_get ins k) ≡ true
   each_guard ins [] xs h k d e = absurd (cc)
   each_guard [] (f ∷ ds) xs h k d e = absurd h
   each_guard (b ∷ ins) (f ∷ ds) xs h zero d e =
@@ -158,12 +166,14 @@ module _ (p : Program) (order : List ℕ) (g : Graph) where
   told_len None n h = absurd h
   told_len (Some x) n h = eq-eqb x.len n h
 
-  give_of : (v port : ℕ) (bs ns : List ℕ) → length bs ≡ length ns → ((k n : ℕ) → slice_get ns k ≡ Some n → gives_at p v (port + k) n (slice_get bs k) ≡ true) → CarryOutputs p order (places p) (carried p) g v port bs ns
+  give_of : (v port : ℕ) (bs ns : List ℕ) → length bs ≡ length ns
+      → ((k n : ℕ) → slice_get ns k ≡ Some n → gives_at p v (port + k) n (slice_get bs k) ≡ true) → CarryOutputs p order (places p) (carried p) g v port bs ns
   give_of v port [] [] l h = tt
   give_of v port [] (n ∷ ns) l h = absurd (omega (arith, l))
   give_of v port (b ∷ bs) [] l h = absurd (omega (arith, l))
   give_of v port (b ∷ bs) (n ∷ ns) l h =
-      let here = and_parts (same_source (carried p b) (record { vertex = v; port = port })) (has_len (slice_get p.buffers b) n) (subst (λ (k : ℕ). gives_at p v k n (Some b) ≡ true) (add-zero port) (h zero n refl)) in (
+      let here = and_parts (same_source (carried p b) (record { vertex = v; port = port })) (has_len (slice_get p.buffers b) n)
+      (subst (λ (k : ℕ). gives_at p v k n (Some b) ≡ true) (add-zero port) (h zero n refl)) in (
         same_source_is (carried p b) (record { vertex = v; port = port }) here.0,
         len_told (slice_get p.buffers b) n here.1,
         give_of v (port + 1) bs ns (let m : length bs ≡ length ns = omega (arith, l) in m)

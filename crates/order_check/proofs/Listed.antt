@@ -67,7 +67,8 @@ module _ (codes : List SeqCode) where
       ap listed (drop_all n codes (let l : length codes ≤ n = omega (arith, e) in l))
   left_is n (x ∷ xs) h = by (is_sequence codes n x) refl h (λ e. left_is (n + 1) xs e)
     where
-      by : (b : Bool) → is_sequence codes n x ≡ b → passes_by n x xs b ≡ true → (is_last (length codes) (passed (is_sequence codes) (n + 1) xs) ≡ true → listed (drop (n + 1) codes) ≡ xs) → listed (drop n codes) ≡ x ∷ xs
+      by : (b : Bool) → is_sequence codes n x ≡ b → passes_by n x xs b ≡ true
+          → (is_last (length codes) (passed (is_sequence codes) (n + 1) xs) ≡ true → listed (drop (n + 1) codes) ≡ xs) → listed (drop n codes) ≡ x ∷ xs
       by false e h rest = absurd (false≢true h)
       by true e h rest =
           let parts = and_parts (nat_lt n (length codes)) (is_of (slice_get codes n) x) e in
@@ -82,7 +83,9 @@ module _ (codes : List SeqCode) where
       eq-eqb (length codes) n (omega (arith, l, none, length-drop n codes))
   is_left n (x ∷ xs) l h = by (slice_get codes n) refl (λ l e. is_left (n + 1) xs l e)
     where
-      by : (o : Option SeqCode) → slice_get codes n ≡ o → (n + 1 ≤ length codes → listed (drop (n + 1) codes) ≡ xs → is_last (length codes) (passed (is_sequence codes) (n + 1) xs) ≡ true) → passes_by n x xs (is_sequence codes n x) ≡ true
+      by : (o : Option SeqCode) → slice_get codes n ≡ o
+          → (n + 1 ≤ length codes → listed (drop (n + 1) codes) ≡ xs → is_last (length codes) (passed (is_sequence codes) (n + 1) xs)
+          ≡ true) → passes_by n x xs (is_sequence codes n x) ≡ true
       by None e rest = let gone = sym (ap listed (drop_gone codes n e)) ∙ h in absurd (cc)
       by (Some q) e rest =
           let here : q.seq ∷ listed (drop (suc n) codes) ≡ x ∷ xs = sym (ap listed (drop_there codes n q e)) ∙ h in
@@ -100,5 +103,6 @@ module _ (codes : List SeqCode) where
   test_of_sequences seqs h = is_left 0 seqs (omega arith) h
 
 -- the sequences of an architecture, by its parts
-pub listed_are : (a : Architecture) (operators : List (List ℕ)) (media : List Medium) → operators ≡ a.operators → media ≡ a.media → flat_map (sequences_of media) (range_with_len 0 (length operators)) ≡ sequences a
+pub listed_are : (a : Architecture) (operators : List (List ℕ)) (media : List Medium) → operators ≡ a.operators → media ≡ a.media
+    → flat_map (sequences_of media) (range_with_len 0 (length operators)) ≡ sequences a
 listed_are a operators media o m = λ i. flat_map (sequences_of (m i)) (range_with_len 0 (length (o i)))

@@ -15,7 +15,24 @@ use Rattle.executive_program.specs.Places.{buffer_in, communication_at, places}
 use Rattle.executive_program.specs.WellFormed.{Communicates, IsTransfer, place_in}
 use Rattle.executive_program.proofs.Passing.{on_is, is_on_it}
 use Rattle.program_walks.specs.Walks.{all_at, all_below, implies}
-use Rattle.order_check.specs.Transfers.{are_transfers, buffer_at, is_before_next, is_later, is_other, is_receive_from, is_received, is_send_to, is_sent, is_transfer, is_wait, place_of, receiver_of, sender_of, stands_at, waits}
+use Rattle.order_check.specs.Transfers.{
+  are_transfers,
+  buffer_at,
+  is_before_next,
+  is_later,
+  is_other,
+  is_receive_from,
+  is_received,
+  is_send_to,
+  is_sent,
+  is_transfer,
+  is_wait,
+  place_of,
+  receiver_of,
+  sender_of,
+  stands_at,
+  waits,
+}
 use Rattle.program_walks.proofs.ListTests.{below_of, of_below, from_zero, to_zero, implied, implying, not_true}
 use Rattle.program_walks.proofs.Readings.{same_numbers}
 
@@ -27,20 +44,39 @@ found_at : (xs : List Instr) (t : ℕ) (x : Instr) → slice_get xs (communicati
 found_at [] t x h = absurd (cc)
 found_at (y ∷ ys) zero x h = by (is_communication y) refl (λ k e. found_at ys k x e) h
   where
-    by : (b : Bool) → is_communication y ≡ b → ((k : ℕ) → slice_get ys (communication_at ys k) ≡ Some x → (is_communication x ≡ true) × (count_by is_communication (take (communication_at ys k) ys) ≡ k)) → slice_get (y ∷ ys) (cond b 0 (suc (communication_at ys zero))) ≡ Some x → (is_communication x ≡ true) × (count_by is_communication (take (cond b 0 (suc (communication_at ys zero))) (y ∷ ys)) ≡ zero)
+    by : (b : Bool) → is_communication y ≡ b
+        → ((k : ℕ) → slice_get ys (communication_at ys k) ≡ Some x → (is_communication x ≡ true)
+        × (count_by is_communication (take (communication_at ys k) ys) ≡ k))
+        → slice_get (y ∷ ys) (cond b 0 (suc (communication_at ys zero))) ≡ Some x → (is_communication x ≡ true)
+        × (count_by is_communication (take (cond b 0 (suc (communication_at ys zero))) (y ∷ ys)) ≡ zero)
     by true e more h = let same : y ≡ x = cc in (ap is_communication (sym same) ∙ e, refl)
     by false e more h =
-        let r = more zero h in
-        (r.0, counted y (take (communication_at ys zero) ys) ∙ ap (λ (b : Bool). cond b 1 0 + count_by is_communication (take (communication_at ys zero) ys)) e ∙ (let z : 0 + count_by is_communication (take (communication_at ys zero) ys) ≡ zero = omega (arith, r.1) in z))
+        let r = more zero h in (
+          r.0,
+          counted y (take (communication_at ys zero) ys)
+              ∙ ap (λ (b : Bool). cond b 1 0 + count_by is_communication (take (communication_at ys zero) ys)) e
+              ∙ (let z : 0 + count_by is_communication (take (communication_at ys zero) ys) ≡ zero = omega (arith, r.1) in z),
+        )
 found_at (y ∷ ys) (suc t) x h = by (is_communication y) refl (λ k e. found_at ys k x e) h
   where
-    by : (b : Bool) → is_communication y ≡ b → ((k : ℕ) → slice_get ys (communication_at ys k) ≡ Some x → (is_communication x ≡ true) × (count_by is_communication (take (communication_at ys k) ys) ≡ k)) → slice_get ys (communication_at ys (cond b t (suc t))) ≡ Some x → (is_communication x ≡ true) × (count_by is_communication (y ∷ take (communication_at ys (cond b t (suc t))) ys) ≡ suc t)
+    by : (b : Bool) → is_communication y ≡ b
+        → ((k : ℕ) → slice_get ys (communication_at ys k) ≡ Some x → (is_communication x ≡ true)
+        × (count_by is_communication (take (communication_at ys k) ys) ≡ k)) → slice_get ys (communication_at ys (cond b t (suc t)))
+        ≡ Some x → (is_communication x ≡ true) × (count_by is_communication (y ∷ take (communication_at ys (cond b t (suc t))) ys) ≡ suc t)
     by true e more h =
-        let r = more t h in
-        (r.0, counted y (take (communication_at ys t) ys) ∙ ap (λ (b : Bool). cond b 1 0 + count_by is_communication (take (communication_at ys t) ys)) e ∙ (let z : 1 + count_by is_communication (take (communication_at ys t) ys) ≡ suc t = omega (arith, r.1) in z))
+        let r = more t h in (
+          r.0,
+          counted y (take (communication_at ys t) ys)
+              ∙ ap (λ (b : Bool). cond b 1 0 + count_by is_communication (take (communication_at ys t) ys)) e
+              ∙ (let z : 1 + count_by is_communication (take (communication_at ys t) ys) ≡ suc t = omega (arith, r.1) in z),
+        )
     by false e more h =
-        let r = more (suc t) h in
-        (r.0, counted y (take (communication_at ys (suc t)) ys) ∙ ap (λ (b : Bool). cond b 1 0 + count_by is_communication (take (communication_at ys (suc t)) ys)) e ∙ (let z : 0 + count_by is_communication (take (communication_at ys (suc t)) ys) ≡ suc t = omega (arith, r.1) in z))
+        let r = more (suc t) h in (
+          r.0,
+          counted y (take (communication_at ys (suc t)) ys)
+              ∙ ap (λ (b : Bool). cond b 1 0 + count_by is_communication (take (communication_at ys (suc t)) ys)) e
+              ∙ (let z : 0 + count_by is_communication (take (communication_at ys (suc t)) ys) ≡ suc t = omega (arith, r.1) in z),
+        )
 
 past : (y : Instr) (ys : List Instr) (t : ℕ) → is_communication y ≡ false → communication_at (y ∷ ys) t ≡ suc (communication_at ys t)
 past y ys zero e = ap (λ (b : Bool). cond b 0 (suc (communication_at ys zero))) e
@@ -153,13 +189,17 @@ module _ (p : Program) where
         by (Some q) i on e n =
             let here : communication_at q.turn t ≡ a = placed q.turn a x t e c.is_one n in
             let is_it : is_other m sender receiver s q.seq.medium ≡ true =
-            both_true (both_true (is_on_it m q.seq.medium on) (not_true (nat_eq s sender) (λ k. other_sender (eqb-true s sender k)))) (not_true (nat_eq s receiver) (λ k. other_receiver (eqb-true s receiver k))) in
-            let there = implied (is_other m sender receiver s q.seq.medium) (waits_when sender receiver s q.turn (communication_at q.turn t)) (from_zero (waits_so m t sender receiver) p.seqs h s q i) is_it in
+            both_true (both_true (is_on_it m q.seq.medium on) (not_true (nat_eq s sender) (λ k. other_sender (eqb-true s sender k))))
+            (not_true (nat_eq s receiver) (λ k. other_receiver (eqb-true s receiver k))) in
+            let there = implied (is_other m sender receiver s q.seq.medium)
+            (waits_when sender receiver s q.turn (communication_at q.turn t)) (from_zero (waits_so m t sender receiver) p.seqs h s q i) is_it in
             let at_a : waits_when sender receiver s q.turn a ≡ true = subst (λ (k : ℕ). waits_when sender receiver s q.turn k ≡ true) here there in
             wait_is (operator p sender) (operator p receiver) (later s a) x
             (subst (λ (o : Option Instr). is_wait (operator p sender) (operator p receiver) (later s a) o ≡ true) e at_a)
 
-    pub of_others : (m t sender receiver : ℕ) → ((s a : ℕ) (x : Instr) → Communicates p m t s a x → s ≢ sender → s ≢ receiver → (x ≡ Sync (operator p sender) (operator p receiver)) × (later s a ≡ true))
+    pub of_others : (m t sender receiver : ℕ)
+        → ((s a : ℕ) (x : Instr) → Communicates p m t s a x → s ≢ sender → s ≢ receiver
+        → (x ≡ Sync (operator p sender) (operator p receiver)) × (later s a ≡ true))
         → all_at (waits_so m t sender receiver) 0 p.seqs ≡ true
     of_others m t sender receiver h =
         to_zero (waits_so m t sender receiver) p.seqs (λ s q i.
@@ -201,7 +241,9 @@ module _ (p : Program) (order : List ℕ) where
         receives = receives_of p m t s r ends.1;
         others = λ u a x c d e. let w = others_of p (is_later p order t r) m t s r others.1 u a x c d e in (w.0, ltb-true (place_of p order r t) (place_in order u a) w.1);
         in_order = ltb-true (place_of p order s t) (place_of p order r t) ordered.1;
-        next = λ l. ltb-true (place_of p order r t) (place_of p order (sender_of p m (t + 1)) (t + 1)) (implied (nat_lt (t + 1) (transfers p m)) (nat_lt (place_of p order r t) (place_of p order (sender_of p m (t + 1)) (t + 1))) next.1 (lt-ltb (t + 1) (transfers p m) l));
+        next = λ l. ltb-true (place_of p order r t) (place_of p order (sender_of p m (t + 1)) (t + 1))
+            (implied (nat_lt (t + 1) (transfers p m))
+            (nat_lt (place_of p order r t) (place_of p order (sender_of p m (t + 1)) (t + 1))) next.1 (lt-ltb (t + 1) (transfers p m) l));
         lengths = eqb-true (len_of p (buffer_at p r t)) (len_of p (buffer_at p s t)) long.1;
       }
 
@@ -222,4 +264,5 @@ module _ (p : Program) (order : List ℕ) where
   transfers_of media h m t l k = transfer_of m t (below_of (λ t. is_transfer p order m t) (transfers p m) (below_of (λ m. all_below (λ t. is_transfer p order m t) (transfers p m)) media h m l) t k)
 
   pub of_transfers : (media : ℕ) → ((m t : ℕ) → m < media → t < transfers p m → IsTransfer p order (places p) m t) → are_transfers p order media ≡ true
-  of_transfers media h = of_below (λ m. all_below (λ t. is_transfer p order m t) (transfers p m)) media (λ m l. of_below (λ t. is_transfer p order m t) (transfers p m) (λ t k. of_transfer m t (h m t l k)))
+  of_transfers media h = of_below (λ m. all_below (λ t. is_transfer p order m t) (transfers p m)) media
+      (λ m l. of_below (λ t. is_transfer p order m t) (transfers p m) (λ t k. of_transfer m t (h m t l k)))

@@ -1,4 +1,33 @@
-use Rattle.std.proofs.Common.{◌≡◌, ℕ, zero, suc, ◌+◌, ◌-◌, ◌<◌, ◌≤◌, List, [], ◌∷◌, ◌++◌, length, take, drop, refl, ap, sym, ◌∙◌, arith, append_assoc, append-nil, zero-add, false, true, suc-add, length-append, subst}
+use Rattle.std.proofs.Common.{
+  ◌≡◌,
+  ℕ,
+  zero,
+  suc,
+  ◌+◌,
+  ◌-◌,
+  ◌<◌,
+  ◌≤◌,
+  List,
+  [],
+  ◌∷◌,
+  ◌++◌,
+  length,
+  take,
+  drop,
+  refl,
+  ap,
+  sym,
+  ◌∙◌,
+  arith,
+  append_assoc,
+  append-nil,
+  zero-add,
+  false,
+  true,
+  suc-add,
+  length-append,
+  subst,
+}
 use Rattle.std.proofs.lemmas.List.{take-append-le}
 use Rattle.std.specs.Prelude.{Bool, if◌then◌else◌, Option, Some, None, IfSome}
 use Rattle.std.proofs.lemmas.Grind.{common_steps}
@@ -65,7 +94,8 @@ front_whole file bytes n buffer p q h e =
     let f = p.front in
     grind (arith, common_steps)
 
-pub front_if : (o o' : Option Bytes) (bytes : Bytes) (at n : ℕ) (buffer : List ℕ) → at ≡ length bytes → o' ≡ o → IfSome o (λ file. IsFront file bytes) → IfSome o' (λ file. Took file at n buffer) → n ≤ length buffer
+pub front_if : (o o' : Option Bytes) (bytes : Bytes) (at n : ℕ) (buffer : List ℕ) → at ≡ length bytes → o' ≡ o
+    → IfSome o (λ file. IsFront file bytes) → IfSome o' (λ file. Took file at n buffer) → n ≤ length buffer
     → IfSome o (λ file. IsFront file (bytes ++ take n buffer))
 front_if None o' bytes at n buffer same_at e p q h = tt
 front_if (Some x) None bytes at n buffer same_at e p q h = cc e
@@ -73,7 +103,8 @@ front_if (Some x) (Some y) bytes at n buffer same_at e p q h =
     let same : y ≡ x = cc e in
     front_more x bytes n buffer p (subst (λ (k : ℕ). Took x k n buffer) same_at (subst (λ (z : Bytes). Took z at n buffer) same q)) h
 
-pub whole_if : (o o' : Option Bytes) (bytes : Bytes) (n : ℕ) (buffer : List ℕ) → o' ≡ o → IfSome o (λ file. IsFront file bytes) → IfSome o' (λ file. Took file (length bytes) n buffer) → 0 < length buffer → n ≡ 0
+pub whole_if : (o o' : Option Bytes) (bytes : Bytes) (n : ℕ) (buffer : List ℕ) → o' ≡ o → IfSome o (λ file. IsFront file bytes)
+    → IfSome o' (λ file. Took file (length bytes) n buffer) → 0 < length buffer → n ≡ 0
     → IfSome o (λ file. bytes ≡ file)
 whole_if None o' bytes n buffer e p q h z = tt
 whole_if (Some x) None bytes n buffer e p q h z = cc e

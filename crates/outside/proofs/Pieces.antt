@@ -12,7 +12,8 @@ rest_at [] i d h = absurd (omega arith)
 rest_at (x ∷ xs) zero d h = refl
 rest_at (x ∷ xs) (suc i) d h = let k : i < length xs = omega arith in rest_at xs i d k ∙ rw suc-add refl
 
-pub piece_more : (a b c : Sunk) (done piece more whole : Bytes) → Appends a b done → Appends b c piece → done ++ (piece ++ more) ≡ whole → Appends a c (done ++ piece) × ((done ++ piece) ++ more ≡ whole)
+pub piece_more : (a b c : Sunk) (done piece more whole : Bytes) → Appends a b done → Appends b c piece → done ++ (piece ++ more) ≡ whole
+    → Appends a c (done ++ piece) × ((done ++ piece) ++ more ≡ whole)
 piece_more a b c done piece more whole p q e = (appends_more p q, append_assoc done piece more ∙ e)
 
 pub piece_failed : (a b c : Sunk) (done piece more whole : Bytes) → Appends a b done → Wrote b c piece false → done ++ (piece ++ more) ≡ whole → Wrote a c whole false

@@ -22,7 +22,8 @@ more_gets : (xs : List Vertex) (v u : ℕ) (x : Vertex) (z : List ℤ) → slice
 more_gets [] v u x z e k l = absurd (cc)
 more_gets (y ∷ ys) v zero x z e k l = absurd (omega arith)
 more_gets (y ∷ ys) zero (suc u) x z e k l = let same : y.kind ≡ Get z = ap (λ (q : Vertex). q.kind) (same_Some y x e) ∙ k in
-    let one : (if is_get y.kind then delay_number ys u + 1 else delay_number ys u) ≡ delay_number ys u + 1 = ap (λ (q : Kind). if is_get q then delay_number ys u + 1 else delay_number ys u) same in omega arith
+    let one : (if is_get y.kind then delay_number ys u + 1 else delay_number ys u)
+    ≡ delay_number ys u + 1 = ap (λ (q : Kind). if is_get q then delay_number ys u + 1 else delay_number ys u) same in omega arith
 more_gets (y ∷ ys) (suc v) (suc u) x z e k l = by (is_get y.kind) (more_gets ys v u x z e k (omega arith))
   where
     by : (b : Bool) → delay_number ys v < delay_number ys u → (if b then delay_number ys v + 1 else delay_number ys v) < (if b then delay_number ys u + 1 else delay_number ys u)
@@ -30,7 +31,8 @@ more_gets (y ∷ ys) (suc v) (suc u) x z e k l = by (is_get y.kind) (more_gets y
     by false r = r
 
 -- so that a number is that of one get half
-one_get : (xs : List Vertex) (v u : ℕ) (x y : Vertex) (z w : List ℤ) → slice_get xs v ≡ Some x → slice_get xs u ≡ Some y → x.kind ≡ Get z → y.kind ≡ Get w → delay_number xs v ≡ delay_number xs u → v ≡ u
+one_get : (xs : List Vertex) (v u : ℕ) (x y : Vertex) (z w : List ℤ) → slice_get xs v ≡ Some x → slice_get xs u ≡ Some y → x.kind ≡ Get z
+    → y.kind ≡ Get w → delay_number xs v ≡ delay_number xs u → v ≡ u
 one_get xs v u x y z w e f k q n = by (cases_lt v u) (cases_lt u v)
   where
     by : (v < u) ⊎ (u ≤ v) → (u < v) ⊎ (v ≤ u) → v ≡ u
@@ -77,7 +79,8 @@ one_first y ys n u a x h k e q = let first : actuators_from n (Actuator a ∷ ki
     let parts = and_parts (a == n) (actuators_from (n + 1) (kinds_of ys)) first in
     let is = eqb-true a n parts.0 in let l = later_row ys (n + 1) u a x parts.1 e q in omega arith
 
-one_row : (xs : List Vertex) (n v u a : ℕ) (x y : Vertex) → actuators_from n (kinds_of xs) ≡ true → slice_get xs v ≡ Some x → slice_get xs u ≡ Some y → x.kind ≡ Actuator a → y.kind ≡ Actuator a → v ≡ u
+one_row : (xs : List Vertex) (n v u a : ℕ) (x y : Vertex) → actuators_from n (kinds_of xs) ≡ true → slice_get xs v ≡ Some x
+    → slice_get xs u ≡ Some y → x.kind ≡ Actuator a → y.kind ≡ Actuator a → v ≡ u
 one_row [] n v u a x y h e f k q = absurd (cc)
 one_row (z ∷ zs) n zero zero a x y h e f k q = refl
 one_row (z ∷ zs) n zero (suc u) a x y h e f k q = absurd (one_first z zs n u a y h (ap (λ (w : Vertex). w.kind) (same_Some z x e) ∙ k) f q)
@@ -140,7 +143,8 @@ module _ (p : Program) (g : Graph) (seqs : List Seq) (media : ℕ) (order : List
       by (Merge values) k twin t e = absurd (cc)
 
   -- the halves of one delay are called in one sequence
-  pub same_delay : (v u d : ℕ) (x y : Vertex) → slice_get g.vertices v ≡ Some x → slice_get g.vertices u ≡ Some y → delay_of g v x ≡ Some d → delay_of g u y ≡ Some d → (calling p v).sequence ≡ (calling p u).sequence
+  pub same_delay : (v u d : ℕ) (x y : Vertex) → slice_get g.vertices v ≡ Some x → slice_get g.vertices u ≡ Some y → delay_of g v x ≡ Some d
+      → delay_of g u y ≡ Some d → (calling p v).sequence ≡ (calling p u).sequence
   same_delay v u d x y e f a b = let k = get_half v d x e a in let q = get_half u d y f b in
       let same = one_get g.vertices k.at q.at k.half q.half k.values q.values k.stands q.stands k.kind q.kind (k.number ∙ sym q.number) in
       sym k.together ∙ ap (λ (i : ℕ). (calling p i).sequence) same ∙ q.together

@@ -59,7 +59,11 @@ module _ (j : JobData) where
         (r.0, r.1, (steps_agree j f (run j list) (theory.run (system j) list) (runs_agree j f list) r.0).enabled ∙ r.2)
 
     goes_on : (counts : List ℕ) (s : ℕ) → AreReached j counts → is_enabled j (told j counts) s ≡ true → GoesOn j counts s
-    goes_on counts s r h = record { reached = (r.0 ++ s ∷ [], counts_more); tells = sym (ap (told j) counts_more) ∙ sym (tells (r.0 ++ s ∷ [])) ∙ run_more j (opening j) r.0 s ∙ ap (λ (z : Core). step j z s) told_is }
+    goes_on counts s r h = record {
+      reached = (r.0 ++ s ∷ [], counts_more);
+      tells = sym (ap (told j) counts_more)
+          ∙ sym (tells (r.0 ++ s ∷ [])) ∙ run_more j (opening j) r.0 s ∙ ap (λ (z : Core). step j z s) told_is;
+    }
       where
         told_is : run j r.0 ≡ told j counts
         told_is = tells r.0 ∙ ap (told j) r.1

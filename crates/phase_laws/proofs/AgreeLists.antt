@@ -22,12 +22,14 @@ set_put xs f i j a b d l e h = by (cases_eq j i)
     by (inr k) = get_or-set_other xs i j a d k ∙ h ∙ sym (put_there f i b j k)
 
 -- and so are two lists of one length
-pub set_same : {A : Type 0} (xs ys : List A) (i j : ℕ) (a b d : A) → length xs ≡ length ys → a ≡ b → slice_index_or xs j d ≡ slice_index_or ys j d → slice_index_or (slice_set xs i a) j d ≡ slice_index_or (slice_set ys i b) j d
+pub set_same : {A : Type 0} (xs ys : List A) (i j : ℕ) (a b d : A) → length xs ≡ length ys → a ≡ b → slice_index_or xs j d
+    ≡ slice_index_or ys j d → slice_index_or (slice_set xs i a) j d ≡ slice_index_or (slice_set ys i b) j d
 set_same {A = A} xs ys i j a b d n e h = by (cases_eq j i) (cases_lt i (length xs))
   where
     by : (j ≡ i) ⊎ (j ≡ i → ⊥) → (i < length xs) ⊎ (length xs ≤ i) → slice_index_or (slice_set xs i a) j d ≡ slice_index_or (slice_set ys i b) j d
     by (inr k) l = get_or-set_other xs i j a d k ∙ h ∙ sym (get_or-set_other ys i j b d k)
-    by (inl k) (inl l) = ap (λ (n : ℕ). slice_index_or (slice_set xs i a) n d) k ∙ get_or-set_same xs i a d l ∙ e ∙ sym (get_or-set_same ys i b d (omega arith)) ∙ ap (λ (n : ℕ). slice_index_or (slice_set ys i b) n d) (sym k)
+    by (inl k) (inl l) = ap (λ (n : ℕ). slice_index_or (slice_set xs i a) n d) k ∙ get_or-set_same xs i a d l ∙ e
+        ∙ sym (get_or-set_same ys i b d (omega arith)) ∙ ap (λ (n : ℕ). slice_index_or (slice_set ys i b) n d) (sym k)
     by (inl k) (inr l) = ap (λ (zs : List A). slice_index_or zs j d) (set_past xs i a l) ∙ h ∙ sym (ap (λ (zs : List A). slice_index_or zs j d) (set_past ys i b (omega arith)))
 
 -- an entry of a list in a list was written
@@ -46,7 +48,8 @@ module _ {A : Type 0} where
 
   -- lengths stay
   pub set_in_lens : (xs : List (List A)) (h k : ℕ) (v : A) → map length (set_in xs h k v) ≡ map length xs
-  set_in_lens xs h k v = map-set (λ (x : List A). length x) xs h (slice_set (slice_index_or xs h []) k v) ∙ ap (slice_set (map length xs) h) (length-set (slice_index_or xs h []) k v ∙ length_at xs h) ∙ set-get_or (map length xs) h 0
+  set_in_lens xs h k v = map-set (λ (x : List A). length x) xs h (slice_set (slice_index_or xs h []) k v)
+      ∙ ap (slice_set (map length xs) h) (length-set (slice_index_or xs h []) k v ∙ length_at xs h) ∙ set-get_or (map length xs) h 0
 
   -- lists of lists whose lengths are the same, in all and one by one
   pub same_length : (xs ys : List (List A)) → map length xs ≡ map length ys → length xs ≡ length ys
@@ -70,7 +73,8 @@ module _ {A : Type 0} where
       by (inr a) b l = ap (λ (x : List A). slice_index_or x n d) (get_or-set_other xs h i (slice_set (slice_index_or xs h []) k v) [] a)
 
   -- written alike in two lists of lists of the same lengths
-  pub set_in_same : (xs ys : List (List A)) (h k i n : ℕ) (v w d : A) → map length xs ≡ map length ys → v ≡ w → get_in xs i n d ≡ get_in ys i n d → get_in (set_in xs h k v) i n d ≡ get_in (set_in ys h k w) i n d
+  pub set_in_same : (xs ys : List (List A)) (h k i n : ℕ) (v w d : A) → map length xs ≡ map length ys → v ≡ w → get_in xs i n d
+      ≡ get_in ys i n d → get_in (set_in xs h k v) i n d ≡ get_in (set_in ys h k w) i n d
   set_in_same xs ys h k i n v w d e q r = by (cases_eq i h) (cases_eq n k) (cases_lt h (length xs)) (cases_lt k (length (slice_index_or xs h [])))
     where
       long : length xs ≡ length ys
@@ -82,9 +86,13 @@ module _ {A : Type 0} where
       unset : (zs : List (List A)) (v : A) → length (slice_index_or zs h []) ≤ k → set_in zs h k v ≡ zs
       unset zs v m = ap (slice_set zs h) (set_past (slice_index_or zs h []) k v m) ∙ set-get_or zs h []
 
-      by : (i ≡ h) ⊎ (i ≡ h → ⊥) → (n ≡ k) ⊎ (n ≡ k → ⊥) → (h < length xs) ⊎ (length xs ≤ h) → (k < length (slice_index_or xs h [])) ⊎ (length (slice_index_or xs h []) ≤ k) → get_in (set_in xs h k v) i n d ≡ get_in (set_in ys h k w) i n d
+      by : (i ≡ h) ⊎ (i ≡ h → ⊥) → (n ≡ k) ⊎ (n ≡ k → ⊥) → (h < length xs) ⊎ (length xs ≤ h) → (k < length (slice_index_or xs h []))
+          ⊎ (length (slice_index_or xs h []) ≤ k) → get_in (set_in xs h k v) i n d ≡ get_in (set_in ys h k w) i n d
       by (inr a) b l m = get_in_there xs h k i n v d (λ z. a z.0) ∙ r ∙ sym (get_in_there ys h k i n w d (λ z. a z.0))
       by (inl a) (inr b) l m = get_in_there xs h k i n v d (λ z. b z.1) ∙ r ∙ sym (get_in_there ys h k i n w d (λ z. b z.1))
-      by (inl a) (inl b) (inr l) m = let z = long in ap (λ (x : List (List A)). get_in x i n d) (set_past xs h _ l) ∙ r ∙ sym (ap (λ (x : List (List A)). get_in x i n d) (set_past ys h _ (omega arith)))
+      by (inl a) (inl b) (inr l) m = let z = long in
+          ap (λ (x : List (List A)). get_in x i n d) (set_past xs h _ l) ∙ r ∙ sym (ap (λ (x : List (List A)). get_in x i n d) (set_past ys h _ (omega arith)))
       by (inl a) (inl b) (inl l) (inr m) = let z = inner in ap (λ (x : List (List A)). get_in x i n d) (unset xs v m) ∙ r ∙ sym (ap (λ (x : List (List A)). get_in x i n d) (unset ys w (omega arith)))
-      by (inl a) (inl b) (inl l) (inl m) = let y = long in let z = inner in (λ t. get_in (set_in xs h k v) (a t) (b t) d) ∙ get_in_here xs h k v d l m ∙ q ∙ sym (get_in_here ys h k w d (omega arith) (omega arith)) ∙ (λ t. get_in (set_in ys h k w) (sym a t) (sym b t) d)
+      by (inl a) (inl b) (inl l) (inl m) = let y = long in let z = inner in
+          (λ t. get_in (set_in xs h k v) (a t) (b t) d) ∙ get_in_here xs h k v d l m ∙ q
+          ∙ sym (get_in_here ys h k w d (omega arith) (omega arith)) ∙ (λ t. get_in (set_in ys h k w) (sym a t) (sym b t) d)

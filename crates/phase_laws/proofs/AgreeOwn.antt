@@ -145,7 +145,8 @@ module _ (j : JobData) (f : IsFormed j) (cells : Values) (rows : List Values) (s
       by (Some x) is = vertex_same v x is here k r c o i
 
   -- after a load
-  pub absorb_same : (then : OnLoad) (k : ℕ) (c o : Own) (z : ℤ) → LoadsHere j.program j.media s then → IsOwn c o → IsOwn (absorb_by j.graph j.sensors then k c z) (absorb_by j.graph j.sensors then k o z)
+  pub absorb_same : (then : OnLoad) (k : ℕ) (c o : Own) (z : ℤ) → LoadsHere j.program j.media s then → IsOwn c o
+      → IsOwn (absorb_by j.graph j.sensors then k c z) (absorb_by j.graph j.sensors then k o z)
   absorb_same CarryIn k c o z h i = with_same c o (z ∷ []) (z ∷ []) i refl
   absorb_same (Gather r) k c o z h i = with_same c o _ _ i (ap (λ (l : List ℤ). gathered l r z) i.registers)
   absorb_same (ComputeIn v r more) k c o z h i = kept_same more _ _ (compute_same v k (gathered c.registers r z) (gathered o.registers r z) c o h (ap (λ (l : List ℤ). gathered l r z) i.registers) i)

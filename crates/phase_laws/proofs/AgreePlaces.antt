@@ -1,5 +1,37 @@
 -- Where an element lies in the core, and which one of the theory it is.
-use Rattle.std.proofs.Common.{◌≡◌, ℕ, zero, suc, ◌+◌, ◌*◌, ◌/◌, ◌%◌, ◌<◌, ◌⊎◌, List, [], ◌∷◌, ◌++◌, length, map, Option, Some, None, refl, sym, ap, inl, inr, arith, ◌∙◌, ℤ, pos, suc-mul, mul-le-mul_right, length-append}
+use Rattle.std.proofs.Common.{
+  ◌≡◌,
+  ℕ,
+  zero,
+  suc,
+  ◌+◌,
+  ◌*◌,
+  ◌/◌,
+  ◌%◌,
+  ◌<◌,
+  ◌⊎◌,
+  List,
+  [],
+  ◌∷◌,
+  ◌++◌,
+  length,
+  map,
+  Option,
+  Some,
+  None,
+  refl,
+  sym,
+  ap,
+  inl,
+  inr,
+  arith,
+  ◌∙◌,
+  ℤ,
+  pos,
+  suc-mul,
+  mul-le-mul_right,
+  length-append,
+}
 use Rattle.std.specs.Prelude.{slice_get, slice_index_or}
 use Rattle.std.proofs.lemmas.Bool.{cases_eq, lt-ltb, le-ltb}
 use Rattle.std.proofs.lemmas.List.{length-map, length-replicate, get_or_append_left, get_or-append-add, get_or_push}
@@ -94,10 +126,12 @@ module _ (p : Program) (media : ℕ) where
     where
       by : (o : Option declared.Buffer) → slice_get p.buffers b ≡ o → slice_index_or (buffer_zeros p) b [] ≡ zeros (depth_in o * len_in o)
       by None e = let z = slice_get_some p.buffers b h in absurd (cc)
-      by (Some x) e = get_or_from_slice_get (buffer_zeros p) b (zeros (x.depth * x.len)) [] (slice_get-map (λ (y : declared.Buffer). zeros (y.depth * y.len)) p.buffers b ∙ ap (option_map (λ (y : declared.Buffer). zeros (y.depth * y.len))) e)
+      by (Some x) e = get_or_from_slice_get (buffer_zeros p) b (zeros (x.depth * x.len)) []
+          (slice_get-map (λ (y : declared.Buffer). zeros (y.depth * y.len)) p.buffers b ∙ ap (option_map (λ (y : declared.Buffer). zeros (y.depth * y.len))) e)
 
   pub wire_list : (m : ℕ) → m < media → slice_index_or opening_elements (length p.buffers + m) [] ≡ zeros (wire_len p m)
-  wire_list m h = ap (λ (n : ℕ). slice_index_or opening_elements (n + m) []) (sym buffers_many) ∙ get_or-append-add (buffer_zeros p) (wire_zeros p media) m [] ∙ singles_at (λ i. zeros (wire_len p i)) media m [] h
+  wire_list m h = ap (λ (n : ℕ). slice_index_or opening_elements (n + m) []) (sym buffers_many)
+      ∙ get_or-append-add (buffer_zeros p) (wire_zeros p media) m [] ∙ singles_at (λ i. zeros (wire_len p i)) media m [] h
 
   -- an element's slot is there
   room : (x : Place) (q : ℕ) → IsIn x q → (home_of p x < length opening_elements) × (slot_at x q < length (slice_index_or opening_elements (home_of p x) []))
@@ -106,7 +140,10 @@ module _ (p : Program) (media : ℕ) where
     (let e = ap (λ (l : List ℤ). length l) (buffer_list b h.0) ∙ length-replicate (depth_of p b * len_of p b) (pos 0) in
         let c = suc-mul q (len_of p b) in let l = mul-le-mul_right (len_of p b) h.2 in let k = h.1 in omega arith),
   )
-  room (Wire m n) q h = ((let z = lists_many in let y = h.0 in omega arith), (let e = ap (λ (l : List ℤ). length l) (wire_list m h.0) ∙ length-replicate (wire_len p m) (pos 0) in let k = h.1 in omega arith))
+  room (Wire m n) q h = (
+    (let z = lists_many in let y = h.0 in omega arith),
+    (let e = ap (λ (l : List ℤ). length l) (wire_list m h.0) ∙ length-replicate (wire_len p m) (pos 0) in let k = h.1 in omega arith),
+  )
 
   -- the elements of the core and those of the theory
   abbrev pub AllSame : List (List ℤ) → (ℕ → ℕ → ℤ) → Type 0
@@ -135,7 +172,8 @@ module _ (p : Program) (media : ℕ) where
       apart o = get_in_there lists (home_of p x) (slot_at x q) (home_of p y) (slot_at y r) v (pos 0) o ∙ all y r there ∙ sym (untouched (λ a b. o (same_word y x r q there inside a b)))
 
       by : (home_of p y ≡ home_of p x) ⊎ (home_of p y ≡ home_of p x → ⊥) → (slot_at y r ≡ slot_at x q) ⊎ (slot_at y r ≡ slot_at x q → ⊥) → Goal
-      by (inl a) (inl b) = let s = same_slot y x r q there inside a b in let k = room x q inside in let m = same_length lists opening_elements long in let n = same_lengths lists opening_elements (home_of p x) long in
+      by (inl a) (inl b) = let s = same_slot y x r q there inside a b in let k = room x q inside in
+          let m = same_length lists opening_elements long in let n = same_lengths lists opening_elements (home_of p x) long in
           (λ t. get_in (set_in lists (home_of p x) (slot_at x q) v) (a t) (b t) (pos 0)) ∙ get_in_here lists (home_of p x) (slot_at x q) v (pos 0) (omega arith) (omega arith)
           ∙ sym (ap (λ (g : ℕ → ℤ). g r) (put_here f W (put (f W) q v) (word_of y) s.0) ∙ put_here (f W) q v r s.1)
       by (inl a) (inr b) = apart (λ z. b z.1)

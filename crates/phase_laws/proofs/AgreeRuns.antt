@@ -1,5 +1,38 @@
 -- A step of the core and a step of the theory lead from states that agree to states that agree, and so do runs.
-use Rattle.std.proofs.Common.{◌≡◌, ℕ, ◌+◌, ◌-◌, ◌*◌, ◌/◌, ◌%◌, ◌<◌, ◌≤◌, ◌⊎◌, Bool, true, false, cond, List, [], ◌∷◌, length, map, Option, Some, None, refl, sym, ap, subst, inl, inr, arith, ◌∙◌, ℤ, pos}
+use Rattle.std.proofs.Common.{
+  ◌≡◌,
+  ℕ,
+  ◌+◌,
+  ◌-◌,
+  ◌*◌,
+  ◌/◌,
+  ◌%◌,
+  ◌<◌,
+  ◌≤◌,
+  ◌⊎◌,
+  Bool,
+  true,
+  false,
+  cond,
+  List,
+  [],
+  ◌∷◌,
+  length,
+  map,
+  Option,
+  Some,
+  None,
+  refl,
+  sym,
+  ap,
+  subst,
+  inl,
+  inr,
+  arith,
+  ◌∙◌,
+  ℤ,
+  pos,
+}
 use Rattle.std.specs.Prelude.{slice_get, slice_index_or, slice_set, replicate, nat_eq, nat_lt, nat_le}
 use Rattle.std.proofs.lemmas.Bool.{cases_eq, cases_lt, eq-eqb, ne_eqb, ltb-true}
 use Rattle.std.proofs.lemmas.List.{length-set, length-replicate, get_or-replicate, get_or_past}
@@ -99,7 +132,8 @@ module _ (j : JobData) (f : IsFormed j) where
           by : (t ≡ s) ⊎ (t ≡ s → ⊥) → slice_index_or (counted z s) t 0 ≡ one_more (count z) s t
           by (inl e) = set_put z.counts (count z) s t (count z s + 1) (count z s + 1) 0 (let l = a.counts_there in omega arith) refl refl ∙ put_here (count z) s (count z s + 1) t e
               ∙ ap (λ (i : ℕ). count z i + 1) (sym e) ∙ sym (rw (eq-eqb t s e) refl)
-          by (inr e) = set_put z.counts (count z) s t (count z s + 1) (count z s + 1) 0 (let l = a.counts_there in omega arith) refl refl ∙ put_there (count z) s (count z s + 1) t e ∙ sym (rw (ne_eqb t s e) refl)
+          by (inr e) = set_put z.counts (count z) s t (count z s + 1) (count z s + 1) 0 (let l = a.counts_there in omega arith) refl refl
+              ∙ put_there (count z) s (count z s + 1) t e ∙ sym (rw (ne_eqb t s e) refl)
 
       counts_long : length (counted z s) ≡ length j.program.seqs
       counts_long = length-set z.counts s (count z s + 1) ∙ a.counts_there
@@ -128,15 +162,20 @@ module _ (j : JobData) (f : IsFormed j) where
         own_rows_there = a.own_rows_there;
       }
 
-      semaphore_step : (x n m : ℕ) → x < 2 * length j.program.pairs → n ≡ m → Agrees j (record z { counts = counted z s; semaphores = slice_set z.semaphores x n }) (record V { counts = one_more (count z) s; semaphores = put w.semaphores x m })
+      semaphore_step : (x n m : ℕ) → x < 2 * length j.program.pairs → n ≡ m
+          → Agrees j (record z { counts = counted z s; semaphores = slice_set z.semaphores x n })
+          (record V { counts = one_more (count z) s; semaphores = put w.semaphores x m })
       semaphore_step x n m l e = words_step (slice_set z.semaphores x n) z.turns (put w.semaphores x m) w.turns (length-set z.semaphores x n ∙ a.semaphores_there)
           (λ i k. set_put z.semaphores w.semaphores x i n m 0 (let q = a.semaphores_there in omega arith) e (a.semaphores i k)) a.turns_there a.turns
 
       waits : Agrees j (record z { counts = counted z s }) (record V { counts = one_more (count z) s })
       waits = words_step z.semaphores z.turns w.semaphores w.turns a.semaphores_there a.semaphores a.turns_there a.turns
 
-      turn_step : (m : ℕ) → m < j.media → Agrees j (record z { counts = counted z s; turns = slice_set z.turns m (slice_index_or z.turns m 0 + 1) }) (record V { counts = one_more (count z) s; turns = put w.turns m (w.turns m + 1) })
-      turn_step m l = words_step z.semaphores (slice_set z.turns m (slice_index_or z.turns m 0 + 1)) w.semaphores (put w.turns m (w.turns m + 1)) a.semaphores_there a.semaphores (length-set z.turns m _ ∙ a.turns_there)
+      turn_step : (m : ℕ) → m < j.media
+          → Agrees j (record z { counts = counted z s; turns = slice_set z.turns m (slice_index_or z.turns m 0 + 1) })
+          (record V { counts = one_more (count z) s; turns = put w.turns m (w.turns m + 1) })
+      turn_step m l = words_step z.semaphores (slice_set z.turns m (slice_index_or z.turns m 0 + 1)) w.semaphores
+          (put w.turns m (w.turns m + 1)) a.semaphores_there a.semaphores (length-set z.turns m _ ∙ a.turns_there)
           (λ i k. set_put z.turns w.turns m i (slice_index_or z.turns m 0 + 1) (w.turns m + 1) 0 (let q = a.turns_there in omega arith) (ap (λ (n : ℕ). n + 1) (a.turns m l)) (a.turns i k))
 
       -- what the sequence has of its own before the step
@@ -154,7 +193,8 @@ module _ (j : JobData) (f : IsFormed j) where
       }
 
       -- a step that changes what the sequence has of its own, and may store an element
-      module _ (e : List (List ℤ)) (g : ℕ → ℕ → ℤ) (long : map length e ≡ map length (opening_elements j.program j.media)) (same : AllSame j.program j.media e g) (c o : Own) (i : IsOwn j f z.cells z.rows s c o) where
+      module _ (e : List (List ℤ)) (g : ℕ → ℕ → ℤ) (long : map length e ≡ map length (opening_elements j.program j.media))
+          (same : AllSame j.program j.media e g) (c o : Own) (i : IsOwn j f z.cells z.rows s c o) where
         abbrev O : ℕ → Own
         O = put w.own s o
 
@@ -245,7 +285,8 @@ module _ (j : JobData) (f : IsFormed j) where
             → Agrees j (done_by j z s (Some (Load x then))) (theory.done_by (system j) V s (Some (load y i)))
         load_step then h is = subst (λ (o : Own). Agrees j (done_by j z s (Some (Load x then))) (record V { counts = one_more (count z) s; own = put w.own s o }))
             (λ t. absorb_at j.graph j.sensors (sym is t) (reactions_same t) (w.own s) (element_is t))
-            (own_step z.elements w.elements a.elements_there all_same (absorb_by j.graph j.sensors then K (own j z s) (element_of j z x K)) (absorb_by j.graph j.sensors then K (w.own s) (element_of j z x K))
+            (own_step z.elements w.elements a.elements_there all_same (absorb_by j.graph j.sensors then K (own j z s) (element_of j z x K))
+            (absorb_by j.graph j.sensors then K (w.own s) (element_of j z x K))
             (absorb_same j f z.cells z.rows s then K (own j z s) (w.own s) (element_of j z x K) h own_start))
 
         store_step : (what : OnStore) → StoresHere j.program j.media s what → step_at (steps j.program s) (count z s) ≡ Some (Store x what)
@@ -279,8 +320,18 @@ module _ (j : JobData) (f : IsFormed j) where
       one : (m : MicroStep) (c : Micro) → Same s (Some m) (Some c) → step_at (steps j.program s) (count z s) ≡ Some m → Together m c
       one (Take x) c h is = subst (λ (q : Micro). Together (Take x) q) (sym h.1) (record { enabled = ap (λ (n : ℕ). nat_eq n 1) (a.semaphores x h.0); steps = semaphore_step x 0 0 h.0 refl })
       one (See x) c h is = subst (λ (q : Micro). Together (See x) q) (sym h.1) (record { enabled = ap (λ (n : ℕ). nat_le 1 n) (a.semaphores x h.0); steps = waits })
-      one (Lower x) c h is = subst (λ (q : Micro). Together (Lower x) q) (sym h.1) (record { enabled = refl; steps = semaphore_step x (slice_index_or z.semaphores x 0 - 1) (w.semaphores x - 1) h.0 (ap (λ (n : ℕ). n - 1) (a.semaphores x h.0)) })
-      one (Signal x) c h is = subst (λ (q : Micro). Together (Signal x) q) (sym h.1) (record { enabled = refl; steps = semaphore_step x (slice_index_or z.semaphores x 0 + 1) (w.semaphores x + 1) h.0 (ap (λ (n : ℕ). n + 1) (a.semaphores x h.0)) })
+      one (Lower x) c h is = subst (λ (q : Micro). Together (Lower x) q) (sym h.1)
+          (record {
+            enabled = refl;
+            steps =
+                semaphore_step x (slice_index_or z.semaphores x 0 - 1) (w.semaphores x - 1) h.0 (ap (λ (n : ℕ). n - 1) (a.semaphores x h.0));
+          })
+      one (Signal x) c h is = subst (λ (q : Micro). Together (Signal x) q) (sym h.1)
+          (record {
+            enabled = refl;
+            steps =
+                semaphore_step x (slice_index_or z.semaphores x 0 + 1) (w.semaphores x + 1) h.0 (ap (λ (n : ℕ). n + 1) (a.semaphores x h.0));
+          })
       one (Await m i n exact) c h is = subst (λ (q : Micro). Together (Await m i n exact) q) (sym h.2)
           (record { enabled = (λ t. turn_reached exact (a.turns m h.0 t) (reactions_same t * h.1 t + i)); steps = waits })
       one (Advance m) c h is = subst (λ (q : Micro). Together (Advance m) q) (sym h.2) (record { enabled = refl; steps = turn_step m h.0 })
@@ -291,12 +342,15 @@ module _ (j : JobData) (f : IsFormed j) where
     next_is : (s : ℕ) (m : MicroStep) → next j z s ≡ Some m → (s < length j.program.seqs) × (step_at (steps j.program s) (count z s) ≡ Some m)
     next_is s m e = by (nat_lt s (length j.program.seqs)) refl (nat_lt (count z s) (full j s)) e
       where
-        by : (b : Bool) → nat_lt s (length j.program.seqs) ≡ b → (d : Bool) → cond b (cond d (step_at (steps j.program s) (count z s)) None) None ≡ Some m → (s < length j.program.seqs) × (step_at (steps j.program s) (count z s) ≡ Some m)
+        by : (b : Bool) → nat_lt s (length j.program.seqs) ≡ b → (d : Bool)
+            → cond b (cond d (step_at (steps j.program s) (count z s)) None) None ≡ Some m → (s < length j.program.seqs)
+            × (step_at (steps j.program s) (count z s) ≡ Some m)
         by true q true e = (ltb-true s (length j.program.seqs) q, e)
         by true q false e = absurd (cc)
         by false q d e = absurd (cc)
 
-    together : (s : ℕ) (o : Option MicroStep) (u : Option Micro) → next j z s ≡ o → Same s o u → (enabled_by j z s o ≡ theory.enabled_by (system j) V s u) × Agrees j (done_by j z s o) (theory.done_by (system j) V s u)
+    together : (s : ℕ) (o : Option MicroStep) (u : Option Micro) → next j z s ≡ o → Same s o u
+        → (enabled_by j z s o ≡ theory.enabled_by (system j) V s u) × Agrees j (done_by j z s o) (theory.done_by (system j) V s u)
     together s None None e h = (refl, given)
     together s None (Some c) e h = absurd h
     together s (Some m) None e h = absurd h
@@ -319,7 +373,8 @@ module _ (j : JobData) (f : IsFormed j) where
     counts = λ s. replicate_at (length j.program.seqs) s 0;
     semaphores = λ x h. replicate_at (2 * length j.program.pairs) x 0;
     turns = λ m h. replicate_at j.media m 0;
-    buffers = λ b n q h k l. ap (λ (v : Vector). element_at v (q * len_of j.program b + n)) (buffer_list j.program j.media b h) ∙ replicate_at (depth_of j.program b * len_of j.program b) (q * len_of j.program b + n) (pos 0);
+    buffers = λ b n q h k l. ap (λ (v : Vector). element_at v (q * len_of j.program b + n)) (buffer_list j.program j.media b h)
+        ∙ replicate_at (depth_of j.program b * len_of j.program b) (q * len_of j.program b + n) (pos 0);
     wires = λ m n h k. ap (λ (v : Vector). element_at v n) (wire_list j.program j.media m h) ∙ replicate_at (wire_len j.program m) n (pos 0);
     registers = λ s h. replicate_at (length j.program.seqs) s [];
     cells = λ v d x is e. refl;

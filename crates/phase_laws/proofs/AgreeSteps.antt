@@ -19,8 +19,51 @@ use Rattle.executive_program.specs.declared.steps.OnLoad.TheVariants.{Gather, Co
 use Rattle.executive_program.specs.declared.steps.OnStore.TheVariants.{Give, Compute as ComputeOut}
 use Rattle.executive_program.specs.Blocks.{blocks, repeated}
 use Rattle.executive_program.specs.Instructions.{is_communication, turn, turn_of, prologue, prologue_of, medium, medium_in, number_or, len_of, pair_depth, communications, readers, Reader}
-use Rattle.executive_program.specs.MicroSteps.{is_on, takes, transfers, element_of, wire_of, wire_len, longest_sent, longest_in, longest_on, sent_len, load_at, store_at, loads_of, stores_of, loads_at, stores_at, send_at, receive_at, micros_of, micros_in, block_in, code}
-use Rattle.executive_program.specs.Steps.{take_steps, on_load, on_store, load_step, store_step, send_step, receive_step, load_steps, store_steps, input_steps, output_steps, len_at, elements_in, steps_of, steps_in, steps_at, steps_in_list, steps_by, steps}
+use Rattle.executive_program.specs.MicroSteps.{
+  is_on,
+  takes,
+  transfers,
+  element_of,
+  wire_of,
+  wire_len,
+  longest_sent,
+  longest_in,
+  longest_on,
+  sent_len,
+  load_at,
+  store_at,
+  loads_of,
+  stores_of,
+  loads_at,
+  stores_at,
+  send_at,
+  receive_at,
+  micros_of,
+  micros_in,
+  block_in,
+  code,
+}
+use Rattle.executive_program.specs.Steps.{
+  take_steps,
+  on_load,
+  on_store,
+  load_step,
+  store_step,
+  send_step,
+  receive_step,
+  load_steps,
+  store_steps,
+  input_steps,
+  output_steps,
+  len_at,
+  elements_in,
+  steps_of,
+  steps_in,
+  steps_at,
+  steps_in_list,
+  steps_by,
+  steps,
+}
 use Rattle.executive_program.specs.Places.{calling, signals_of, opening_of, opening_signals, places, Transfer}
 use Rattle.executive_program.specs.WellFormed.{Stands, IsTransfer, IsOrder, operator_of}
 use Rattle.semaphore_core.specs.Job.{JobData}
@@ -119,28 +162,36 @@ module _ (p : Program) (media s : ℕ) where
   instr_matched m n t (Pre1 q) h = ((omega arith, refl), tt)
   instr_matched m n t (Call v ins outs) h =
       let loads = elements_in p ins in let micros = elements_in p ins + elements_in p outs in
-      matched_append (blocks (input_steps p v loads micros ins) (length ins)) (blocks (output_steps p v loads micros outs) (length outs)) (blocks (loads_at p ins) (length ins)) (blocks (stores_at p outs) (length outs))
-      (matched_blocks (input_steps p v loads micros ins) (loads_at p ins) (length ins) (λ k l. loads_matched v loads micros h.0 (sum_below (len_at p ins) k) (slice_get ins k) (λ b e. h.1 k b (inl e))))
-      (matched_blocks (output_steps p v loads micros outs) (stores_at p outs) (length outs) (λ k l. stores_matched v loads micros h.0 (loads + sum_below (len_at p outs) k) (slice_get outs k) (λ b e. h.1 k b (inr e))))
+      matched_append (blocks (input_steps p v loads micros ins) (length ins)) (blocks (output_steps p v loads micros outs) (length outs))
+      (blocks (loads_at p ins) (length ins)) (blocks (stores_at p outs) (length outs))
+      (matched_blocks (input_steps p v loads micros ins) (loads_at p ins) (length ins)
+      (λ k l. loads_matched v loads micros h.0 (sum_below (len_at p ins) k) (slice_get ins k) (λ b e. h.1 k b (inl e))))
+      (matched_blocks (output_steps p v loads micros outs) (stores_at p outs) (length outs)
+      (λ k l. stores_matched v loads micros h.0 (loads + sum_below (len_at p outs) k) (slice_get outs k) (λ b e. h.1 k b (inr e))))
   instr_matched m n t (Send b q) h = (
     (h.1, ap (λ (k : ℕ). 2 * k) h.2, refl),
     matched_append (blocks (send_step m b) (len_of p b)) _ (blocks (send_at p m t b) (len_of p b)) _
-        (matched_blocks (send_step m b) (send_at p m t b) (len_of p b) (λ i l. ((tt, element_of p b i, 0, (h.0, l, refl, refl), refl), ((tt, wire_of p m i, _, (h.1, (let w = h.3 in omega arith), refl), refl), tt))))
+        (matched_blocks (send_step m b) (send_at p m t b) (len_of p b)
+        (λ i l. ((tt, element_of p b i, 0, (h.0, l, refl, refl), refl), ((tt, wire_of p m i, _, (h.1, (let w = h.3 in omega arith), refl), refl), tt))))
         ((h.1, 2 * t, refl), tt),
   )
   instr_matched m n t (Recv b q) h = (
     (h.1, ap (λ (k : ℕ). 2 * k) h.2, refl),
     matched_append (blocks (receive_step m b) (len_of p b)) _ (blocks (receive_at p m t b) (len_of p b)) _
-        (matched_blocks (receive_step m b) (receive_at p m t b) (len_of p b) (λ i l. ((tt, wire_of p m i, _, (h.1, (let w = h.3 in omega arith), refl), refl), ((tt, element_of p b i, 0, (h.0, l, refl, refl), refl), tt))))
+        (matched_blocks (receive_step m b) (receive_at p m t b) (len_of p b)
+        (λ i l. ((tt, wire_of p m i, _, (h.1, (let w = h.3 in omega arith), refl), refl), ((tt, element_of p b i, 0, (h.0, l, refl, refl), refl), tt))))
         ((h.1, 2 * t + 1, refl), tt),
   )
   instr_matched m n t (Sync q r) h = ((h.0, ap (λ (k : ℕ). 2 * k) h.1, refl), tt)
 
   -- and every list of them
-  list_matched : (m : ℕ) (xs : List Instr) → ((a : ℕ) (x : Instr) → slice_get xs a ≡ Some x → Names m (count_by is_communication xs) x) → AreMatched p media s (steps_in_list p m xs) (blocks (block_in p m xs) (length xs))
+  list_matched : (m : ℕ) (xs : List Instr) → ((a : ℕ) (x : Instr) → slice_get xs a ≡ Some x → Names m (count_by is_communication xs) x)
+      → AreMatched p media s (steps_in_list p m xs) (blocks (block_in p m xs) (length xs))
   list_matched m xs h = matched_blocks (steps_at p m xs) (block_in p m xs) (length xs) (λ a l. by a (slice_get xs a) refl)
     where
-      by : (a : ℕ) (o : Option Instr) → slice_get xs a ≡ o → AreMatched p media s (steps_in p m (count_by is_communication xs) (count_by is_communication (take a xs)) o) (micros_in p m (count_by is_communication (take a xs)) o)
+      by : (a : ℕ) (o : Option Instr) → slice_get xs a ≡ o
+          → AreMatched p media s (steps_in p m (count_by is_communication xs) (count_by is_communication (take a xs)) o)
+          (micros_in p m (count_by is_communication (take a xs)) o)
       by a None e = tt
       by a (Some x) e = instr_matched m (count_by is_communication xs) (count_by is_communication (take a xs)) x (h a x e)
 
@@ -149,7 +200,8 @@ module _ (p : Program) (media s : ℕ) where
   AllName o xs = (a : ℕ) (x : Instr) → slice_get xs a ≡ Some x → Names (number_or 0 (medium_in o)) (count_by is_communication xs) x
 
   -- the prologue and the loop of a sequence
-  prologue_matched : (o : Option SeqCode) → AllName o (prologue_of o) → AreMatched p media s (steps_by p o).prologue (blocks (block_in p (number_or 0 (medium_in o)) (prologue_of o)) (length (prologue_of o)))
+  prologue_matched : (o : Option SeqCode) → AllName o (prologue_of o)
+      → AreMatched p media s (steps_by p o).prologue (blocks (block_in p (number_or 0 (medium_in o)) (prologue_of o)) (length (prologue_of o)))
   prologue_matched None h = tt
   prologue_matched (Some q) h = list_matched (number_or 0 q.seq.medium) q.prologue h
 

@@ -1,5 +1,41 @@
 -- A state of the core is told by the state of the theory with which it agrees.
-use Rattle.std.proofs.Common.{◌≡◌, ℕ, zero, suc, ◌+◌, ◌-◌, ◌*◌, ◌/◌, ◌%◌, ◌<◌, ◌≤◌, ◌⊎◌, true, ◌==◌, List, [], ◌∷◌, ◌++◌, length, map, Some, refl, sym, ap, subst, inl, inr, arith, ◌∙◌, ℤ, pos, length-append, div-add-mod', add-one, ext_get_or}
+use Rattle.std.proofs.Common.{
+  ◌≡◌,
+  ℕ,
+  zero,
+  suc,
+  ◌+◌,
+  ◌-◌,
+  ◌*◌,
+  ◌/◌,
+  ◌%◌,
+  ◌<◌,
+  ◌≤◌,
+  ◌⊎◌,
+  true,
+  ◌==◌,
+  List,
+  [],
+  ◌∷◌,
+  ◌++◌,
+  length,
+  map,
+  Some,
+  refl,
+  sym,
+  ap,
+  subst,
+  inl,
+  inr,
+  arith,
+  ◌∙◌,
+  ℤ,
+  pos,
+  length-append,
+  div-add-mod',
+  add-one,
+  ext_get_or,
+}
 use Rattle.std.specs.Prelude.{slice_get, slice_index_or, if◌then◌else◌}
 use Rattle.std.proofs.lemmas.Bool.{cases_eq, cases_lt, and_parts, eqb-true}
 use Rattle.std.proofs.lemmas.List.{length-map, length-replicate, get_or-replicate}
@@ -66,7 +102,8 @@ abbrev pub OneInput : Graph → List Vertex → Type 0
 OneInput g xs = (v a : ℕ) (x : Vertex) → slice_get xs v ≡ Some x → x.kind ≡ Actuator a → length (lens_of g.vertices x.ins) ≡ 1
 
 pub one_input : (g : Graph) → is_flat g ≡ true → OneInput g g.vertices
-one_input g valid v a x e k = let f : fits g.bodies (Actuator a) (lens_of g.vertices x.ins) x.outs ≡ true = subst (λ (q : Kind). fits g.bodies q (lens_of g.vertices x.ins) x.outs ≡ true) k (fits_of g v x (vertex_valid g valid v x e)) in
+one_input g valid v a x e k = let f : fits g.bodies (Actuator a) (lens_of g.vertices x.ins) x.outs
+    ≡ true = subst (λ (q : Kind). fits g.bodies q (lens_of g.vertices x.ins) x.outs ≡ true) k (fits_of g v x (vertex_valid g valid v x e)) in
     eqb-true (length (lens_of g.vertices x.ins)) 1 (and_parts (length (lens_of g.vertices x.ins) == 1) (length x.outs == 0) f).0
 
 row_from : (g : Graph) (xs : List Vertex) (n a : ℕ) → OneInput g xs → actuators_from n (kinds_of xs) ≡ true → a < length (actuator_lens g xs) → RowAt xs (n + a)
@@ -81,8 +118,17 @@ row_from g (y ∷ ys) n a o h l = by y.kind refl h a l (λ m b h' l'. row_from g
 
     by : (k : Kind) → y.kind ≡ k → actuators_from n (k ∷ kinds_of ys) ≡ true → (a : ℕ) → a < length (actuator_len g y k ++ actuator_lens g ys)
         → ((m b : ℕ) → actuators_from m (kinds_of ys) ≡ true → b < length (actuator_lens g ys) → RowAt ys (m + b)) → Goal a
-    by (Actuator i) k h zero l r = record { at = 0; vertex = y; stands = refl; kind = k ∙ ap (λ (b : ℕ). Actuator b) (let e = eqb-true i n (and_parts (i == n) (actuators_from (n + 1) (kinds_of ys)) h).0 in let z : i ≡ n + 0 = omega arith in z) }
-    by (Actuator i) k h (suc a) l r = subst (λ (b : ℕ). RowAt (y ∷ ys) b) (let z : n + 1 + a ≡ n + suc a = omega arith in z) (behind (n + 1 + a) (r (n + 1) a (and_parts (i == n) (actuators_from (n + 1) (kinds_of ys)) h).1
+    by (Actuator i) k h zero l r = record {
+      at = 0;
+      vertex = y;
+      stands = refl;
+      kind = k
+          ∙ ap (λ (b : ℕ). Actuator b) (let e = eqb-true i n (and_parts (i == n) (actuators_from (n + 1) (kinds_of ys)) h).0 in
+          let z : i ≡ n + 0 = omega arith in z);
+    }
+    by (Actuator i) k h (suc a) l r =
+        subst (λ (b : ℕ). RowAt (y ∷ ys) b) (let z : n + 1 + a ≡ n + suc a = omega arith in z)
+        (behind (n + 1 + a) (r (n + 1) a (and_parts (i == n) (actuators_from (n + 1) (kinds_of ys)) h).1
         (let e = length-append (lens_of g.vertices y.ins) (actuator_lens g ys) in let q = o 0 i y refl k in omega arith)))
     by (Sensor i) k h a l r = behind (n + a) (r n a h l)
     by (Function b) k h a l r = behind (n + a) (r n a h l)
@@ -101,13 +147,15 @@ module _ (j : JobData) (f : IsFormed j) (z y : Core) (w : State Own) (a : Agrees
   counts_same = ext_get_or 0 z.counts y.counts (a.counts_there ∙ sym b.counts_there) (λ s l. a.counts s ∙ sym (b.counts s))
 
   semaphores_same : z.semaphores ≡ y.semaphores
-  semaphores_same = ext_get_or 0 z.semaphores y.semaphores (a.semaphores_there ∙ sym b.semaphores_there) (λ x l. let h : x < 2 * length j.program.pairs = (let e = a.semaphores_there in omega arith) in a.semaphores x h ∙ sym (b.semaphores x h))
+  semaphores_same = ext_get_or 0 z.semaphores y.semaphores (a.semaphores_there ∙ sym b.semaphores_there)
+      (λ x l. let h : x < 2 * length j.program.pairs = (let e = a.semaphores_there in omega arith) in a.semaphores x h ∙ sym (b.semaphores x h))
 
   turns_same : z.turns ≡ y.turns
   turns_same = ext_get_or 0 z.turns y.turns (a.turns_there ∙ sym b.turns_there) (λ m l. let h : m < j.media = (let e = a.turns_there in omega arith) in a.turns m h ∙ sym (b.turns m h))
 
   registers_same : z.registers ≡ y.registers
-  registers_same = ext_get_or [] z.registers y.registers (a.registers_there ∙ sym b.registers_there) (λ s l. let h : s < length j.program.seqs = (let e = a.registers_there in omega arith) in a.registers s h ∙ sym (b.registers s h))
+  registers_same = ext_get_or [] z.registers y.registers (a.registers_there ∙ sym b.registers_there)
+      (λ s l. let h : s < length j.program.seqs = (let e = a.registers_there in omega arith) in a.registers s h ∙ sym (b.registers s h))
 
   -- lists of elements
   abbrev O : List (List ℤ)
@@ -123,7 +171,8 @@ module _ (j : JobData) (f : IsFormed j) (z y : Core) (w : State Own) (a : Agrees
       len = len_of j.program n
 
       few : (i : ℕ) → i < length (slice_index_or z.elements n []) → i < depth_of j.program n * len_of j.program n
-      few i l = let e = same_lengths z.elements O n a.elements_there ∙ ap (λ (v : Vector). length v) (buffer_list j.program j.media n h) ∙ length-replicate (depth_of j.program n * len_of j.program n) (pos 0) in omega arith
+      few i l = let e = same_lengths z.elements O n a.elements_there ∙ ap (λ (v : Vector). length v) (buffer_list j.program j.media n h)
+          ∙ length-replicate (depth_of j.program n * len_of j.program n) (pos 0) in omega arith
 
       at : (i : ℕ) → i < depth_of j.program n * len_of j.program n → element_at (slice_index_or z.elements n []) i ≡ element_at (slice_index_or y.elements n []) i
       at i l = subst (λ (k : ℕ). element_at (slice_index_or z.elements n []) k ≡ element_at (slice_index_or y.elements n []) k) (div-add-mod' i (len_of j.program n))
@@ -143,11 +192,13 @@ module _ (j : JobData) (f : IsFormed j) (z y : Core) (w : State Own) (a : Agrees
           high = div_below i (len_of j.program n) (depth_of j.program n) some l
 
   wire_same : (m : ℕ) → m < j.media → slice_index_or z.elements (length j.program.buffers + m) [] ≡ slice_index_or y.elements (length j.program.buffers + m) []
-  wire_same m h = ext_get_or (pos 0) (slice_index_or z.elements (length j.program.buffers + m) []) (slice_index_or y.elements (length j.program.buffers + m) []) (same_lengths z.elements y.elements (length j.program.buffers + m) lens_same)
+  wire_same m h = ext_get_or (pos 0) (slice_index_or z.elements (length j.program.buffers + m) [])
+      (slice_index_or y.elements (length j.program.buffers + m) []) (same_lengths z.elements y.elements (length j.program.buffers + m) lens_same)
       (λ i l. let k = few i l in a.wires m i h k ∙ sym (b.wires m i h k))
     where
       few : (i : ℕ) → i < length (slice_index_or z.elements (length j.program.buffers + m) []) → i < wire_len j.program m
-      few i l = let e = same_lengths z.elements O (length j.program.buffers + m) a.elements_there ∙ ap (λ (v : Vector). length v) (wire_list j.program j.media m h) ∙ length-replicate (wire_len j.program m) (pos 0) in omega arith
+      few i l = let e = same_lengths z.elements O (length j.program.buffers + m) a.elements_there
+          ∙ ap (λ (v : Vector). length v) (wire_list j.program j.media m h) ∙ length-replicate (wire_len j.program m) (pos 0) in omega arith
 
   list_same : (n : ℕ) → n < length z.elements → slice_index_or z.elements n [] ≡ slice_index_or y.elements n []
   list_same n l = by (cases_lt n (length j.program.buffers))
@@ -155,7 +206,9 @@ module _ (j : JobData) (f : IsFormed j) (z y : Core) (w : State Own) (a : Agrees
       by : (n < length j.program.buffers) ⊎ (length j.program.buffers ≤ n) → slice_index_or z.elements n [] ≡ slice_index_or y.elements n []
       by (inl h) = buffer_same n h
       by (inr h) = let e = same_length z.elements O a.elements_there in let q = lists_many j.program j.media in
-          subst (λ (k : ℕ). slice_index_or z.elements k [] ≡ slice_index_or y.elements k []) (let r : length j.program.buffers + (n - length j.program.buffers) ≡ n = omega arith in r) (wire_same (n - length j.program.buffers) (omega arith))
+          subst (λ (k : ℕ). slice_index_or z.elements k [] ≡ slice_index_or y.elements k [])
+          (let r : length j.program.buffers + (n - length j.program.buffers) ≡ n = omega arith in r)
+          (wire_same (n - length j.program.buffers) (omega arith))
 
   elements_same : z.elements ≡ y.elements
   elements_same = ext_get_or [] z.elements y.elements (same_length z.elements y.elements lens_same) list_same

@@ -1,5 +1,48 @@
 -- What counts tell of the core and what they tell of the theory agree.
-use Rattle.std.proofs.Common.{◌≡◌, ℕ, zero, suc, ◌+◌, ◌-◌, ◌*◌, ◌/◌, ◌%◌, ◌<◌, ◌≤◌, ◌⊎◌, Bool, true, false, ◌==◌, cond, List, [], ◌∷◌, ◌++◌, length, map, Option, Some, None, refl, sym, ap, subst, inl, inr, arith, ◌∙◌, ℤ, pos, length-append, add-one, zero-add, suc-mul, mul-le-mul_right, ext_get_or}
+use Rattle.std.proofs.Common.{
+  ◌≡◌,
+  ℕ,
+  zero,
+  suc,
+  ◌+◌,
+  ◌-◌,
+  ◌*◌,
+  ◌/◌,
+  ◌%◌,
+  ◌<◌,
+  ◌≤◌,
+  ◌⊎◌,
+  Bool,
+  true,
+  false,
+  ◌==◌,
+  cond,
+  List,
+  [],
+  ◌∷◌,
+  ◌++◌,
+  length,
+  map,
+  Option,
+  Some,
+  None,
+  refl,
+  sym,
+  ap,
+  subst,
+  inl,
+  inr,
+  arith,
+  ◌∙◌,
+  ℤ,
+  pos,
+  length-append,
+  add-one,
+  zero-add,
+  suc-mul,
+  mul-le-mul_right,
+  ext_get_or,
+}
 use Rattle.std.specs.Prelude.{slice_get, slice_index_or, replicate, nat_lt, if◌then◌else◌}
 use Rattle.std.specs.List.{range_with_len}
 use Rattle.std.proofs.lemmas.Bool.{cases_lt, and_parts, eqb-true, eq-eqb}
@@ -21,7 +64,26 @@ use Rattle.executive_program.specs.Instructions.{len_of, depth_of}
 use Rattle.executive_program.specs.MicroSteps.{element_of, wire_of, wire_len}
 use Rattle.semaphore_core.specs.Operation.{delay_of}
 use Rattle.semaphore_core.specs.Job.{JobData, reactions, zero_rows, system}
-use Rattle.semaphore_core.specs.Told.{stored_value, registers_after, made, last_load, cell_by, cells_from, cells_by, row_by, row_of, rows_from, rows_by, done_in, done_by, own_after, element_told, buffer_told, wire_told, told}
+use Rattle.semaphore_core.specs.Told.{
+  stored_value,
+  registers_after,
+  made,
+  last_load,
+  cell_by,
+  cells_from,
+  cells_by,
+  row_by,
+  row_of,
+  rows_from,
+  rows_by,
+  done_in,
+  done_by,
+  own_after,
+  element_told,
+  buffer_told,
+  wire_told,
+  told,
+}
 use Rattle.phase_laws.specs.Agrees.{IsFormed, Agrees, caller, row_at}
 use Rattle.phase_laws.proofs.AgreeLists.{same_length, length_at}
 use Rattle.phase_laws.proofs.AgreeDelays.{GetHalf, get_half, later_row, numbered_rows}
@@ -59,7 +121,9 @@ module _ (j : JobData) where
       by (Some t) q = ap (λ (i : ℕ). vector_at (cells_after j.graph j.sensors j.opening i) n) (h t q)
   cells_same c d (y ∷ ys) n (suc v) x z e k h = by (is_get y.kind) (cells_same c d ys (suc n) v x z e k h) (cells_same c d ys n v x z e k h)
     where
-      by : (b : Bool) → vector_at (cells_from j c ys (suc n)) (delay_number ys v) ≡ vector_at (cells_from j d ys (suc n)) (delay_number ys v) → vector_at (cells_from j c ys n) (delay_number ys v) ≡ vector_at (cells_from j d ys n) (delay_number ys v)
+      by : (b : Bool) → vector_at (cells_from j c ys (suc n)) (delay_number ys v)
+          ≡ vector_at (cells_from j d ys (suc n)) (delay_number ys v) → vector_at (cells_from j c ys n) (delay_number ys v)
+          ≡ vector_at (cells_from j d ys n) (delay_number ys v)
           → vector_at (cond b (cell_by j c n y.twin ∷ cells_from j c ys (suc n)) (cells_from j c ys n)) (if b then delay_number ys v + 1 else delay_number ys v)
           ≡ vector_at (cond b (cell_by j d n y.twin ∷ cells_from j d ys (suc n)) (cells_from j d ys n)) (if b then delay_number ys v + 1 else delay_number ys v)
       by true r q = rw add-one r
@@ -87,8 +151,10 @@ module _ (j : JobData) where
   rows_long c [] v k = refl
   rows_long c (y ∷ ys) v k = by y.kind (rows_long c ys (suc v) k)
     where
-      by : (q : Kind) → length (rows_from j c ys (suc v) k) ≡ length (actuator_lens j.graph ys) → length (row_of j c v y k q ++ rows_from j c ys (suc v) k) ≡ length (actuator_len j.graph y q ++ actuator_lens j.graph ys)
-      by (Actuator a) r = length-append (map (λ n. row_by j c v a n k) (lens_of j.graph.vertices y.ins)) (rows_from j c ys (suc v) k) ∙ (λ t. length-map (lens_of j.graph.vertices y.ins) (λ n. row_by j c v a n k) t + r t)
+      by : (q : Kind) → length (rows_from j c ys (suc v) k) ≡ length (actuator_lens j.graph ys)
+          → length (row_of j c v y k q ++ rows_from j c ys (suc v) k) ≡ length (actuator_len j.graph y q ++ actuator_lens j.graph ys)
+      by (Actuator a) r = length-append (map (λ n. row_by j c v a n k) (lens_of j.graph.vertices y.ins)) (rows_from j c ys (suc v) k)
+          ∙ (λ t. length-map (lens_of j.graph.vertices y.ins) (λ n. row_by j c v a n k) t + r t)
           ∙ sym (length-append (lens_of j.graph.vertices y.ins) (actuator_lens j.graph ys))
       by (Sensor i) r = r
       by (Function b) r = r
@@ -100,7 +166,8 @@ module _ (j : JobData) where
       by (Merge z) r = r
 
   -- and takes the same where its operation was computed as often
-  rows_same : (c d : ℕ → ℕ) (xs : List Vertex) (n u v a k : ℕ) (x : Vertex) → OneInput j.graph xs → actuators_from n (kinds_of xs) ≡ true → slice_get xs v ≡ Some x → x.kind ≡ Actuator (n + a) → c (u + v) ≡ d (u + v)
+  rows_same : (c d : ℕ → ℕ) (xs : List Vertex) (n u v a k : ℕ) (x : Vertex) → OneInput j.graph xs → actuators_from n (kinds_of xs) ≡ true
+      → slice_get xs v ≡ Some x → x.kind ≡ Actuator (n + a) → c (u + v) ≡ d (u + v)
       → vector_at (rows_from j c xs u k) a ≡ vector_at (rows_from j d xs u k) a
   rows_same c d [] n u v a k x o h e q r = absurd (cc)
   rows_same c d (y ∷ ys) n u zero a k x o h e q r = at_first c ∙ by (lens_of j.graph.vertices y.ins) (o 0 (n + a) y refl kind) ∙ sym (at_first d)
@@ -118,10 +185,13 @@ module _ (j : JobData) where
       now : c u ≡ d u
       now = let z : u + 0 ≡ u = omega arith in subst (λ (i : ℕ). c i ≡ d i) z r
 
-      by : (l : List ℕ) → length l ≡ 1 → vector_at (map (λ m. row_by j c u (n + a) m k) l ++ rows_from j c ys (suc u) k) 0 ≡ vector_at (map (λ m. row_by j d u (n + a) m k) l ++ rows_from j d ys (suc u) k) 0
+      by : (l : List ℕ) → length l ≡ 1 → vector_at (map (λ m. row_by j c u (n + a) m k) l ++ rows_from j c ys (suc u) k) 0
+          ≡ vector_at (map (λ m. row_by j d u (n + a) m k) l ++ rows_from j d ys (suc u) k) 0
       by [] g = absurd (omega arith)
       by (i ∷ l) g = ap (λ (s : ℕ). cond (nat_lt k s) (flat_act j.graph j.sensors j.opening (n + a) k) (zeros i)) now
-  rows_same c d (y ∷ ys) n u (suc v) a k x o h e q r = by y.kind refl h (λ m b g w. rows_same c d ys m (suc u) v b k x (λ i s z. o (suc i) s z) g e w (let z : u + suc v ≡ suc u + v = omega arith in subst (λ (i : ℕ). c i ≡ d i) z r))
+  rows_same c d (y ∷ ys) n u (suc v) a k x o h e q r =
+      by y.kind refl h (λ m b g w. rows_same c d ys m (suc u) v b k x (λ i s z. o (suc i) s z) g e w
+      (let z : u + suc v ≡ suc u + v = omega arith in subst (λ (i : ℕ). c i ≡ d i) z r))
     where
       -- one row stands before those of the later operations
       behind : (i b : ℕ) → a ≡ suc b → (l : List ℕ) → length l ≡ 1 → vector_at (rows_from j c ys (suc u) k) b ≡ vector_at (rows_from j d ys (suc u) k) b
@@ -152,7 +222,8 @@ module _ (j : JobData) where
     done_same : (v t : ℕ) → caller j t ≡ caller j v → done_in j C t ≡ done_by j (caller j v) (C (caller j v)) t
     done_same v t e = sym (rw (eq-eqb (caller j t) (caller j v) e) (λ i. made j (sym e i) (last_load j t) (C (sym e i))))
 
-    cells_agree : (v d : ℕ) (x : Vertex) → slice_get j.graph.vertices v ≡ Some x → delay_of j.graph v x ≡ Some d → vector_at (cells_by j (done_in j C)) d ≡ vector_at (cells_by j (done_by j (caller j v) (C (caller j v)))) d
+    cells_agree : (v d : ℕ) (x : Vertex) → slice_get j.graph.vertices v ≡ Some x → delay_of j.graph v x ≡ Some d
+        → vector_at (cells_by j (done_in j C)) d ≡ vector_at (cells_by j (done_by j (caller j v) (C (caller j v)))) d
     cells_agree v d x is e = subst (λ (n : ℕ). vector_at (cells_by j (done_in j C)) n ≡ vector_at (cells_by j (done_by j (caller j v) (C (caller j v)))) n) g.number
         (cells_same (done_in j C) (done_by j (caller j v) (C (caller j v))) j.graph.vertices 0 g.at g.half g.values g.stands g.kind
         (λ t q. done_same v t (sym ((f.formed.1.called g.at g.half g.stands).twins g.values t g.kind q).0 ∙ g.together)))
@@ -160,22 +231,27 @@ module _ (j : JobData) where
         g : GetHalf j.program j.graph v d
         g = get_half j.program j.graph f.seqs j.media f.formed.0 f.formed.1 f.valid v d x is e
 
-    rows_agree : (v a k : ℕ) (x : Vertex) → slice_get j.graph.vertices v ≡ Some x → x.kind ≡ Actuator a → row_at (rows_by j (done_in j C)) k a ≡ row_at (rows_by j (done_by j (caller j v) (C (caller j v)))) k a
+    rows_agree : (v a k : ℕ) (x : Vertex) → slice_get j.graph.vertices v ≡ Some x → x.kind ≡ Actuator a
+        → row_at (rows_by j (done_in j C)) k a ≡ row_at (rows_by j (done_by j (caller j v) (C (caller j v)))) k a
     rows_agree v a k x is e = by (cases_lt k (reactions j))
       where
         by : (k < reactions j) ⊎ (reactions j ≤ k) → row_at (rows_by j (done_in j C)) k a ≡ row_at (rows_by j (done_by j (caller j v) (C (caller j v)))) k a
         by (inl l) = ap (λ (r : Values). vector_at r a) (made_at (rows_from j (done_in j C) j.graph.vertices 0) (reactions j) k [] l)
-            ∙ rows_same (done_in j C) (done_by j (caller j v) (C (caller j v))) j.graph.vertices 0 0 v a k x (one_input j.graph f.valid) (numbered_rows j.graph f.valid) is (e ∙ ap (λ (b : ℕ). Actuator b) (sym (zero-add a)))
+            ∙ rows_same (done_in j C) (done_by j (caller j v) (C (caller j v))) j.graph.vertices 0 0 v a k x (one_input j.graph f.valid)
+            (numbered_rows j.graph f.valid) is (e ∙ ap (λ (b : ℕ). Actuator b) (sym (zero-add a)))
             (subst (λ (i : ℕ). done_in j C i ≡ done_by j (caller j v) (C (caller j v)) i) (sym (zero-add v)) (done_same v v refl))
             ∙ sym (ap (λ (r : Values). vector_at r a) (made_at (rows_from j (done_by j (caller j v) (C (caller j v))) j.graph.vertices 0) (reactions j) k [] l))
-        by (inr l) = ap (λ (r : Values). vector_at r a) (made_past (rows_from j (done_in j C) j.graph.vertices 0) (reactions j) k [] l ∙ sym (made_past (rows_from j (done_by j (caller j v) (C (caller j v))) j.graph.vertices 0) (reactions j) k [] l))
+        by (inr l) = ap (λ (r : Values). vector_at r a)
+            (made_past (rows_from j (done_in j C) j.graph.vertices 0) (reactions j) k [] l
+            ∙ sym (made_past (rows_from j (done_by j (caller j v) (C (caller j v))) j.graph.vertices 0) (reactions j) k [] l))
 
     -- the lists that are told have the lengths of the opening
     cells_there : (c : ℕ → ℕ) → length (cells_by j c) ≡ length j.opening
     cells_there c = cells_long c j.graph.vertices 0 ∙ sym (same_length j.opening (initial_cells j.graph.vertices) f.opened)
 
     rows_there : (c : ℕ → ℕ) → map length (rows_by j c) ≡ map length (zero_rows j)
-    rows_there c = all_long (rows_from j c j.graph.vertices 0) (map zeros (actuator_lens j.graph j.graph.vertices)) 0 (reactions j) (λ k. rows_long c j.graph.vertices 0 k ∙ sym (length-map (actuator_lens j.graph j.graph.vertices) zeros))
+    rows_there c = all_long (rows_from j c j.graph.vertices 0) (map zeros (actuator_lens j.graph j.graph.vertices)) 0 (reactions j)
+        (λ k. rows_long c j.graph.vertices 0 k ∙ sym (length-map (actuator_lens j.graph j.graph.vertices) zeros))
 
     abbrev E : List (List ℤ)
     E = map (buffer_told j C) (range_with_len 0 (length j.program.buffers)) ++ map (wire_told j C) (range_with_len 0 j.media)
@@ -184,24 +260,34 @@ module _ (j : JobData) where
     buffers_many = length-map-range_with_len (buffer_told j C) 0 (length j.program.buffers)
 
     buffer_is : (b : ℕ) → b < length j.program.buffers → slice_index_or E b [] ≡ buffer_told j C b
-    buffer_is b l = get_or_append_left (map (buffer_told j C) (range_with_len 0 (length j.program.buffers))) (map (wire_told j C) (range_with_len 0 j.media)) [] b (let e = buffers_many in omega arith) ∙ made_at (buffer_told j C) (length j.program.buffers) b [] l
+    buffer_is b l = get_or_append_left (map (buffer_told j C) (range_with_len 0 (length j.program.buffers)))
+        (map (wire_told j C) (range_with_len 0 j.media)) [] b (let e = buffers_many in omega arith)
+        ∙ made_at (buffer_told j C) (length j.program.buffers) b [] l
 
     wire_is : (m : ℕ) → m < j.media → slice_index_or E (length j.program.buffers + m) [] ≡ wire_told j C m
-    wire_is m l = ap (λ (n : ℕ). slice_index_or E (n + m) []) (sym buffers_many) ∙ get_or-append-add (map (buffer_told j C) (range_with_len 0 (length j.program.buffers))) (map (wire_told j C) (range_with_len 0 j.media)) m [] ∙ made_at (wire_told j C) j.media m [] l
+    wire_is m l = ap (λ (n : ℕ). slice_index_or E (n + m) []) (sym buffers_many)
+        ∙ get_or-append-add (map (buffer_told j C) (range_with_len 0 (length j.program.buffers)))
+        (map (wire_told j C) (range_with_len 0 j.media)) m [] ∙ made_at (wire_told j C) j.media m [] l
 
     elements_many : length E ≡ length j.program.buffers + j.media
-    elements_many = length-append (map (buffer_told j C) (range_with_len 0 (length j.program.buffers))) (map (wire_told j C) (range_with_len 0 j.media)) ∙ (let a = buffers_many in let b = length-map-range_with_len (wire_told j C) 0 j.media in omega arith)
+    elements_many = length-append (map (buffer_told j C) (range_with_len 0 (length j.program.buffers)))
+        (map (wire_told j C) (range_with_len 0 j.media)) ∙ (let a = buffers_many in let b = length-map-range_with_len (wire_told j C) 0 j.media in omega arith)
 
     list_long : (n : ℕ) → n < length j.program.buffers + j.media → length (slice_index_or E n []) ≡ length (slice_index_or (opening_elements j.program j.media) n [])
     list_long n l = by (cases_lt n (length j.program.buffers))
       where
         wire : (m : ℕ) → m < j.media → length (slice_index_or E (length j.program.buffers + m) []) ≡ length (slice_index_or (opening_elements j.program j.media) (length j.program.buffers + m) [])
-        wire m k = ap (λ (v : Vector). length v) (wire_is m k) ∙ length-map-range_with_len (λ i. element_told j C (wire_of j.program m i) 0) 0 (wire_len j.program m) ∙ sym (ap (λ (v : Vector). length v) (wire_list j.program j.media m k) ∙ length-replicate (wire_len j.program m) (pos 0))
+        wire m k = ap (λ (v : Vector). length v) (wire_is m k)
+            ∙ length-map-range_with_len (λ i. element_told j C (wire_of j.program m i) 0) 0 (wire_len j.program m)
+            ∙ sym (ap (λ (v : Vector). length v) (wire_list j.program j.media m k) ∙ length-replicate (wire_len j.program m) (pos 0))
 
         by : (n < length j.program.buffers) ⊎ (length j.program.buffers ≤ n) → length (slice_index_or E n []) ≡ length (slice_index_or (opening_elements j.program j.media) n [])
-        by (inl h) = ap (λ (v : Vector). length v) (buffer_is n h) ∙ length-map-range_with_len (λ i. element_told j C (element_of j.program n (i % len_of j.program n)) (i / len_of j.program n)) 0 (depth_of j.program n * len_of j.program n)
+        by (inl h) = ap (λ (v : Vector). length v) (buffer_is n h)
+            ∙ length-map-range_with_len (λ i. element_told j C (element_of j.program n (i % len_of j.program n))
+            (i / len_of j.program n)) 0 (depth_of j.program n * len_of j.program n)
             ∙ sym (ap (λ (v : Vector). length v) (buffer_list j.program j.media n h) ∙ length-replicate (depth_of j.program n * len_of j.program n) (pos 0))
-        by (inr h) = subst (λ (k : ℕ). length (slice_index_or E k []) ≡ length (slice_index_or (opening_elements j.program j.media) k [])) (let r : length j.program.buffers + (n - length j.program.buffers) ≡ n = omega arith in r) (wire (n - length j.program.buffers) (omega arith))
+        by (inr h) = subst (λ (k : ℕ). length (slice_index_or E k []) ≡ length (slice_index_or (opening_elements j.program j.media) k []))
+            (let r : length j.program.buffers + (n - length j.program.buffers) ≡ n = omega arith in r) (wire (n - length j.program.buffers) (omega arith))
 
     elements_there : map length E ≡ map length (opening_elements j.program j.media)
     elements_there = ext_get_or 0 (map length E) (map length (opening_elements j.program j.media)) (many_a ∙ elements_many ∙ sym (many_b ∙ lists_many j.program j.media))
@@ -213,7 +299,8 @@ module _ (j : JobData) where
         many_b : length (map length (opening_elements j.program j.media)) ≡ length (opening_elements j.program j.media)
         many_b = length-map (opening_elements j.program j.media) (λ (v : Vector). length v)
 
-    buffers_agree : (b n q : ℕ) → b < length j.program.buffers → n < len_of j.program b → q < depth_of j.program b → element_at (slice_index_or E b []) (q * len_of j.program b + n) ≡ element_told j C (element_of j.program b n) q
+    buffers_agree : (b n q : ℕ) → b < length j.program.buffers → n < len_of j.program b → q < depth_of j.program b
+        → element_at (slice_index_or E b []) (q * len_of j.program b + n) ≡ element_told j C (element_of j.program b n) q
     buffers_agree b n q h k l = ap (λ (v : Vector). element_at v (q * len_of j.program b + n)) (buffer_is b h)
         ∙ made_at (λ i. element_told j C (element_of j.program b (i % len_of j.program b)) (i / len_of j.program b)) (depth_of j.program b * len_of j.program b) (q * len_of j.program b + n) (pos 0)
         (let c = suc-mul q (len_of j.program b) in let m = mul-le-mul_right (len_of j.program b) l in omega arith)

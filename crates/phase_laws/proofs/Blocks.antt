@@ -73,9 +73,13 @@ module _ {A : Type 0} (f : ℕ → List A) where
   blocks_at zero a r h g = absurd (omega arith)
   blocks_at (suc n) a r h g = by (cases_eq a n) (λ x. blocks_at n a r x g)
     where
-      by : (a ≡ n) ⊎ (a ≡ n → ⊥) → (a < n → slice_get (blocks f n) (sum_below (λ b. length (f b)) a + r) ≡ slice_get (f a) r) → slice_get (blocks f (suc n)) (sum_below (λ b. length (f b)) a + r) ≡ slice_get (f a) r
-      by (inl e) q = ap (λ (k : ℕ). slice_get (blocks f n ++ f n) (k + r)) (ap (λ (k : ℕ). sum_below (λ b. length (f b)) k) e ∙ sym (blocks_length n)) ∙ get-append_past (blocks f n) (f n) r ∙ ap (λ (k : ℕ). slice_get (f k) r) (sym e)
-      by (inr e) q = get-append_within (blocks f n) (f n) (sum_below (λ b. length (f b)) a + r) (let x = sum_inside (λ b. length (f b)) n a r (omega arith) g in let y = blocks_length n in omega arith) ∙ q (omega arith)
+      by : (a ≡ n) ⊎ (a ≡ n → ⊥) → (a < n → slice_get (blocks f n) (sum_below (λ b. length (f b)) a + r) ≡ slice_get (f a) r)
+          → slice_get (blocks f (suc n)) (sum_below (λ b. length (f b)) a + r) ≡ slice_get (f a) r
+      by (inl e) q = ap (λ (k : ℕ). slice_get (blocks f n ++ f n) (k + r))
+          (ap (λ (k : ℕ). sum_below (λ b. length (f b)) k) e ∙ sym (blocks_length n)) ∙ get-append_past (blocks f n) (f n) r
+          ∙ ap (λ (k : ℕ). slice_get (f k) r) (sym e)
+      by (inr e) q = get-append_within (blocks f n) (f n) (sum_below (λ b. length (f b)) a + r)
+          (let x = sum_inside (λ b. length (f b)) n a r (omega arith) g in let y = blocks_length n in omega arith) ∙ q (omega arith)
 
   -- what stands at a place stands in a block
   pub record InBlock (n l : ℕ) (m : A) : Type 0 where

@@ -41,7 +41,8 @@ module _ (p : Program) where
 
   pub store_from : (y t a r : ℕ) (x : Instr) (d : Micro) → stores y d ≡ true → FromAt p t a x r d
       → (i : ℕ) × (d ≡ store y i) × (StoresBuffer p x r y i ⊎ StoresWire p (MediumAt t) (communications p t a) x r y i)
-  store_from y t a r x (store z i) e f = let q = eqb-true z y e in (i, ap (λ (k : ℕ). store k i) q, subst (λ (k : ℕ). StoresBuffer p x r k i ⊎ StoresWire p (MediumAt t) (communications p t a) x r k i) q f)
+  store_from y t a r x (store z i) e f = let q = eqb-true z y e in
+      (i, ap (λ (k : ℕ). store k i) q, subst (λ (k : ℕ). StoresBuffer p x r k i ⊎ StoresWire p (MediumAt t) (communications p t a) x r k i) q f)
   store_from y t a r x (taken z) e f = absurd cc
   store_from y t a r x (see z) e f = absurd cc
   store_from y t a r x (sub z) e f = absurd cc
@@ -72,7 +73,8 @@ module _ (p : Program) (w : Places) (c : Conditions p w) {P : Type 0} (reactions
     stored_at j = begins p (w.writing b).writer (w.writing b).at + store_place p (c.holds.buffers b inside).instr (w.writing b).port j
 
     -- any store of the element is this one
-    pub only_store : (j t a r : ℕ) (x : Instr) (y i l : ℕ) → j < len_of p b → y ≡ element_of p b j → Stands p t a x → StoresBuffer p x r y i → l ≡ begins p t a + r → (t ≡ (w.writing b).writer) × (l ≡ stored_at j)
+    pub only_store : (j t a r : ℕ) (x : Instr) (y i l : ℕ) → j < len_of p b → y ≡ element_of p b j → Stands p t a x
+        → StoresBuffer p x r y i → l ≡ begins p t a + r → (t ≡ (w.writing b).writer) × (l ≡ stored_at j)
     only_store j t a r x y i l l1 e st s at = (
       u.0,
       same_place p t (w.writing b).writer a (w.writing b).at r (store_place p (c.holds.buffers b inside).instr (w.writing b).port j) l at u.0 u.1
@@ -90,14 +92,16 @@ module _ (p : Program) (w : Places) (c : Conditions p w) {P : Type 0} (reactions
 
     -- the element is a buffer's
     module _ (j : ℕ) (low : j < len_of p b) where
-      store_here : (slice_get (code p (w.writing b).writer).turn (stored_at j) ≡ Some (store (element_of p b j) 0)) × (store_place p (c.holds.buffers b inside).instr (w.writing b).port j < size p (w.writing b).writer (w.writing b).at)
+      store_here : (slice_get (code p (w.writing b).writer).turn (stored_at j) ≡ Some (store (element_of p b j) 0))
+          × (store_place p (c.holds.buffers b inside).instr (w.writing b).port j < size p (w.writing b).writer (w.writing b).at)
       store_here = at_turn p (w.writing b).writer (w.writing b).at (store_place p one.instr (w.writing b).port j) one.instr (store (element_of p b j) 0) one.stands
           (store_stands p (MediumAt p (w.writing b).writer) (communications p (w.writing b).writer (w.writing b).at) one.instr (w.writing b).port b j one.writes low)
 
       only_here : (t l : ℕ) (d : Micro) → slice_get (code p t).turn l ≡ Some d → stores (element_of p b j) d ≡ true → (t ≡ (w.writing b).writer) × (l ≡ stored_at j)
       only_here t l d e k = let o = origin p t l d e in by o (store_from p (element_of p b j) t o.index o.at o.instr d k o.from)
         where
-          by : (o : Origin p t l d) → (i : ℕ) × (d ≡ store (element_of p b j) i) × (StoresBuffer p o.instr o.at (element_of p b j) i ⊎ StoresWire p (MediumAt p t) (communications p t o.index) o.instr o.at (element_of p b j) i)
+          by : (o : Origin p t l d) → (i : ℕ) × (d ≡ store (element_of p b j) i)
+              × (StoresBuffer p o.instr o.at (element_of p b j) i ⊎ StoresWire p (MediumAt p t) (communications p t o.index) o.instr o.at (element_of p b j) i)
               → (t ≡ (w.writing b).writer) × (l ≡ stored_at j)
           by o (i, q, inl s) = only_store j t o.index o.at o.instr (element_of p b j) i l low refl o.stands s o.is
           by o (i, q, inr s) = let z = s.is in let v = element_low p b j low in absurd (omega arith)
@@ -107,14 +111,16 @@ module _ (p : Program) (w : Places) (c : Conditions p w) {P : Type 0} (reactions
 
       pub buffer_is : V.IsBuffer W S H (element_of p b j) (w.writing b).writer (stored_at j)
       buffer_is = record {
-        written = owned_late p c.media reactions own (stores (element_of p b j)) (w.writing b).writer (stored_at j) (store (element_of p b j) 0) store_here.0 (eq-eqb (element_of p b j) (element_of p b j) refl)
+        written = owned_late p c.media reactions own (stores (element_of p b j)) (w.writing b).writer (stored_at j)
+            (store (element_of p b j) 0) store_here.0 (eq-eqb (element_of p b j) (element_of p b j) refl)
             (stands_sequence p _ _ _ one.stands) only_here (front_no_store (element_of p b j));
         once = rw (lt-ltb (element_of p b j) (buffer_elements p) (element_low p b j low)) refl;
         some = let d = depth_is in let e = one.some_place in omega arith;
       }
 
       -- in the writing sequence it is loaded after the store
-      pub own_load : (a k r l : ℕ) (x : Instr) → Stands p (w.writing b).writer a x → ReadsAt x k b → l ≡ begins p (w.writing b).writer a + r → V.IsOwnLoad W S H (w.writing b).writer l (element_of p b j) 0
+      pub own_load : (a k r l : ℕ) (x : Instr) → Stands p (w.writing b).writer a x → ReadsAt x k b → l
+          ≡ begins p (w.writing b).writer a + r → V.IsOwnLoad W S H (w.writing b).writer l (element_of p b j) 0
       own_load a k r l x st rd at = record {
         st = stored_at j;
         buffer = buffer_is;
@@ -123,7 +129,8 @@ module _ (p : Program) (w : Places) (c : Conditions p w) {P : Type 0} (reactions
       }
 
   -- in another sequence, between the pair's take and signal
-  pub pair_load : (q : ℕ) (inside : q < length p.pairs) (j a k r l : ℕ) (x : Instr) → j < len_of p (w.pair q).buffer → Stands p (w.pair q).reader a x → ReadsAt x k (w.pair q).buffer → l ≡ begins p (w.pair q).reader a + r → r < size p (w.pair q).reader a
+  pub pair_load : (q : ℕ) (inside : q < length p.pairs) (j a k r l : ℕ) (x : Instr) → j < len_of p (w.pair q).buffer
+      → Stands p (w.pair q).reader a x → ReadsAt x k (w.pair q).buffer → l ≡ begins p (w.pair q).reader a + r → r < size p (w.pair q).reader a
       → V.IsPairLoad W S H (w.pair q).reader l (element_of p (w.pair q).buffer j) 0
   pair_load q inside j a k r l x low st rd at fits = record {
     pair = pair_of p w q;
@@ -133,9 +140,12 @@ module _ (p : Program) (w : Places) (c : Conditions p w) {P : Type 0} (reactions
     st = stored_at (w.pair q).buffer here j;
     buffer = buffer_is (w.pair q).buffer here j low;
     first = refl;
-    store_after = earlier p (writer w q) (w.pair q).take_empty (w.writing (w.pair q).buffer).at (take_place p q) (store_place p (c.holds.buffers (w.pair q).buffer here).instr (w.writing (w.pair q).buffer).port j) of.before_write
+    store_after = earlier p (writer w q) (w.pair q).take_empty (w.writing (w.pair q).buffer).at (take_place p q)
+        (store_place p (c.holds.buffers (w.pair q).buffer here).instr (w.writing (w.pair q).buffer).port j) of.before_write
         (empty_within p w c reactions own q inside);
-    store_before = let z = earlier p (writer w q) (w.writing (w.pair q).buffer).at (w.pair q).signal_full (store_place p (c.holds.buffers (w.pair q).buffer here).instr (w.writing (w.pair q).buffer).port j) 0 of.after_write (store_here (w.pair q).buffer here j low).1 in omega arith;
+    store_before = let z = earlier p (writer w q) (w.writing (w.pair q).buffer).at (w.pair q).signal_full
+        (store_place p (c.holds.buffers (w.pair q).buffer here).instr (w.writing (w.pair q).buffer).port j) 0 of.after_write
+        (store_here (w.pair q).buffer here j low).1 in omega arith;
     load_after = let z = earlier p (w.pair q).reader (w.pair q).take_full a (take_place p q) r (of.reads a k x st rd).0 (full_within p w c reactions own q inside) in omega arith;
     load_before = let z = earlier p (w.pair q).reader a (w.pair q).signal_empty r 0 (of.reads a k x st rd).1 fits in omega arith;
   }
@@ -153,7 +163,8 @@ module _ (p : Program) (w : Places) (c : Conditions p w) {P : Type 0} (reactions
   pub buffer_load : (s a r l y i : ℕ) (x : Instr) → Stands p s a x → LoadsBuffer p x r y i → l ≡ begins p s a + r → r < size p s a
       → V.IsOwnLoad W S H s l y i ⊎ (V.IsPairLoad W S H s l y i ⊎ V.IsFromWire W S H s l y i)
   buffer_load s a r l y i x st f at fits = subst (λ (k : ℕ). V.IsOwnLoad W S H s l k i ⊎ (V.IsPairLoad W S H s l k i ⊎ V.IsFromWire W S H s l k i)) (sym f.is)
-      (subst (λ (k : ℕ). V.IsOwnLoad W S H s l (element_of p f.buffer f.number) k ⊎ (V.IsPairLoad W S H s l (element_of p f.buffer f.number) k ⊎ V.IsFromWire W S H s l (element_of p f.buffer f.number) k)) (sym f.first)
+      (subst (λ (k : ℕ). V.IsOwnLoad W S H s l (element_of p f.buffer f.number) k
+      ⊎ (V.IsPairLoad W S H s l (element_of p f.buffer f.number) k ⊎ V.IsFromWire W S H s l (element_of p f.buffer f.number) k)) (sym f.first)
       (by (cases_eq s (w.writing f.buffer).writer)))
     where
       inside : f.buffer < length p.buffers

@@ -39,7 +39,8 @@ value_there f [] i b e = absurd cc
 value_there f (c ∷ cs) zero b e = ap f (same_Some c b e)
 value_there f (c ∷ cs) (suc i) b e = value_there f cs i b e
 
-module _ (j : JobData) (h : IsSupplied j) (k v : ℕ) (x : Vertex) (low : k < reactions j) (is : slice_get j.graph.vertices v ≡ Some x) (ins outs : List ℕ) (carry : Carry j h ins (map (λ d. d.source) x.guards ++ x.ins)) (give : Give j h v 0 outs x.outs) where
+module _ (j : JobData) (h : IsSupplied j) (k v : ℕ) (x : Vertex) (low : k < reactions j) (is : slice_get j.graph.vertices v ≡ Some x)
+    (ins outs : List ℕ) (carry : Carry j h ins (map (λ d. d.source) x.guards ++ x.ins)) (give : Give j h v 0 outs x.outs) where
   abbrev pub Loaded : List ℤ
   Loaded = all_joined (map (λ b. buffer_value j b k) ins)
 
@@ -56,11 +57,14 @@ module _ (j : JobData) (h : IsSupplied j) (k v : ℕ) (x : Vertex) (low : k < re
   loads_are = elements_are j.program ins (map (λ b. buffer_value j b k) ins) sized_in
 
   -- what load number n of input i finds
-  pub loaded_at : (i b n : ℕ) → slice_get ins i ≡ Some b → n < len_of j.program b → slice_get (all_joined (map (λ b. buffer_value j b k) ins)) (sum_below (len_at j.program ins) i + n) ≡ Some (element_at (buffer_value j b k) n)
-  loaded_at i b n e l = element_of_joined j.program ins (map (λ b. buffer_value j b k) ins) sized_in i b n e l ∙ ap (λ (u : Vector). Some (element_at u n)) (value_there (λ b. buffer_value j b k) ins i b e)
+  pub loaded_at : (i b n : ℕ) → slice_get ins i ≡ Some b → n < len_of j.program b
+      → slice_get (all_joined (map (λ b. buffer_value j b k) ins)) (sum_below (len_at j.program ins) i + n) ≡ Some (element_at (buffer_value j b k) n)
+  loaded_at i b n e l = element_of_joined j.program ins (map (λ b. buffer_value j b k) ins) sized_in i b n e l
+      ∙ ap (λ (u : Vector). Some (element_at u n)) (value_there (λ b. buffer_value j b k) ins i b e)
 
   -- what store number n of output i stores
-  pub stored_at : (i b n : ℕ) → slice_get outs i ≡ Some b → n < len_of j.program b → element_at (all_joined (flat_outputs j.graph j.sensors j.opening v k)) (sum_below (len_at j.program outs) i + n) ≡ element_at (buffer_value j b k) n
+  pub stored_at : (i b n : ℕ) → slice_get outs i ≡ Some b → n < len_of j.program b
+      → element_at (all_joined (flat_outputs j.graph j.sensors j.opening v k)) (sum_below (len_at j.program outs) i + n) ≡ element_at (buffer_value j b k) n
   stored_at i b n e l = element_is Given (sum_below (len_at j.program outs) i + n) _ (element_of_joined j.program outs (flat_outputs j.graph j.sensors j.opening v k) sized_out i b n e l)
       ∙ ap (λ (u : Vector). element_at u n) (sym (given_value j h k v outs x.outs give i b e))
 
@@ -81,7 +85,8 @@ module _ (j : JobData) (h : IsSupplied j) (k v : ℕ) (x : Vertex) (low : k < re
   gathers r c z l e q = ap (λ (y : List ℤ). take r y ++ z ∷ []) (q ∙ loading r l) ∙ ap (λ (y : List ℤ). y ++ z ∷ []) (take-take r r Loaded (omega arith)) ∙ sym (take_snoc Loaded r z e)
 
   -- with the last load all is loaded
-  pub full_load : (r : ℕ) (c : List ℤ) (z : ℤ) → r + 1 ≡ elements_in j.program ins → slice_get (all_joined (map (λ b. buffer_value j b k) ins)) r ≡ Some z → c ≡ registers_in j k (Some (Call v ins outs)) r
+  pub full_load : (r : ℕ) (c : List ℤ) (z : ℤ) → r + 1 ≡ elements_in j.program ins
+      → slice_get (all_joined (map (λ b. buffer_value j b k) ins)) r ≡ Some z → c ≡ registers_in j k (Some (Call v ins outs)) r
       → gathered c r z ≡ all_joined (map (λ b. buffer_value j b k) ins)
   full_load r c z a e q = gathers r c z (omega arith) e q ∙ take_all (suc r) Loaded (let b = loads_are in omega arith)
 

@@ -22,7 +22,8 @@ use Rattle.phase_laws.proofs.Lengths.{Carry, carried_values, carried_sized, call
 use Rattle.phase_laws.proofs.Joined.{vectors_back}
 use Rattle.syn_base.specs.Vectors.{Vector, Values, vector_at, zeros}
 
-cell_unused : (bodies : List (List Expr)) (k : Kind) (outs : List ℕ) (c d seen : Vector) (ins : Values) → ((z : List ℤ) → k ≡ Get z → c ≡ d) → kind_outputs bodies k outs c seen ins ≡ kind_outputs bodies k outs d seen ins
+cell_unused : (bodies : List (List Expr)) (k : Kind) (outs : List ℕ) (c d seen : Vector) (ins : Values)
+    → ((z : List ℤ) → k ≡ Get z → c ≡ d) → kind_outputs bodies k outs c seen ins ≡ kind_outputs bodies k outs d seen ins
 cell_unused bodies (Sensor i) outs c d seen ins h = refl
 cell_unused bodies (Actuator i) outs c d seen ins h = refl
 cell_unused bodies (Function b) outs c d seen ins h = refl
@@ -55,7 +56,8 @@ module _ (j : JobData) (h : IsSupplied j) (k v : ℕ) (x : Vertex) (low : k < re
   module _ (ins : List ℕ) (carry : Carry j h ins (map (λ d. d.source) x.guards ++ x.ins)) (loaded : List ℤ) (all : loaded ≡ all_joined (map (λ b. buffer_value j b k) ins)) where
     read_is : vectors_from loaded 0 (lens_in j.graph x) ≡ map (λ s. source_value j s k) (map (λ d. d.source) x.guards ++ x.ins)
     read_is = ap (λ (l : List ℤ). vectors_from l 0 (lens_in j.graph x)) all
-        ∙ vectors_back (map (λ b. buffer_value j b k) ins) (lens_in j.graph x) (sym (called_lens j h v x ins is carry) ∙ sym (carried_sized j h k ins (map (λ d. d.source) x.guards ++ x.ins) low carry))
+        ∙ vectors_back (map (λ b. buffer_value j b k) ins) (lens_in j.graph x)
+        (sym (called_lens j h v x ins is carry) ∙ sym (carried_sized j h k ins (map (λ d. d.source) x.guards ++ x.ins) low carry))
         ∙ carried_values j h k ins (map (λ d. d.source) x.guards ++ x.ins) carry
 
     pub conditions_are : conditions_in x (vectors_from loaded 0 (lens_in j.graph x)) ≡ conditions look x
@@ -78,8 +80,10 @@ module _ (j : JobData) (h : IsSupplied j) (k v : ℕ) (x : Vertex) (low : k < re
     rows_are rows = ap (λ (vs : Values). rows_by x.kind k (vector_at vs 0) rows) inputs_are
 
     -- a set half keeps the next cell of its delay
-    pub kept_is : (u : ℕ) (y : Vertex) (z : List ℤ) → slice_get j.graph.vertices u ≡ Some y → y.kind ≡ Get z → y.twin ≡ Some v → (cell : Vector) → cell ≡ cell_of j.graph (cells_after j.graph j.sensors j.opening k) u
-        → kept x cell (conditions_in x (vectors_from loaded 0 (lens_in j.graph x))) (inputs_in x (vectors_from loaded 0 (lens_in j.graph x))) ≡ cell_of j.graph (cells_after j.graph j.sensors j.opening (suc k)) u
+    pub kept_is : (u : ℕ) (y : Vertex) (z : List ℤ) → slice_get j.graph.vertices u ≡ Some y → y.kind ≡ Get z → y.twin ≡ Some v
+        → (cell : Vector) → cell ≡ cell_of j.graph (cells_after j.graph j.sensors j.opening k) u
+        → kept x cell (conditions_in x (vectors_from loaded 0 (lens_in j.graph x)))
+        (inputs_in x (vectors_from loaded 0 (lens_in j.graph x))) ≡ cell_of j.graph (cells_after j.graph j.sensors j.opening (suc k)) u
     kept_is u y z e q t cell c = (λ i. kept x (c i) (conditions_are i) (inputs_are i))
         ∙ (λ i. kept x (cell_of j.graph Cells u) (sym (last_reads look x) i) (sym (first_reads look x) i))
         ∙ sym (ap (λ (o : Option Vertex). with_vertex o (cell_of j.graph Cells u) (λ w. kept w (cell_of j.graph Cells u) (drop (length w.ins) (reads look x)) (take (length w.ins) (reads look x)))) is)
@@ -89,7 +93,9 @@ module _ (j : JobData) (h : IsSupplied j) (k v : ℕ) (x : Vertex) (low : k < re
 pub cells_other : (g : Graph) (v : ℕ) (x : Vertex) (vs cells : Values) → (x.kind ≡ Set → ⊥) → cells_left g v x vs cells ≡ cells
 cells_other g v x vs cells n = by x.kind n
   where
-    by : (k : Kind) → (k ≡ Set → ⊥) → with_cell cells (delay_by g.vertices v k x.twin) (stored k (guards_hold x.guards (conditions_in x vs)) (cell_at cells (delay_by g.vertices v k x.twin)) (vector_at (inputs_in x vs) 0)) ≡ cells
+    by : (k : Kind) → (k ≡ Set → ⊥)
+        → with_cell cells (delay_by g.vertices v k x.twin)
+        (stored k (guards_hold x.guards (conditions_in x vs)) (cell_at cells (delay_by g.vertices v k x.twin)) (vector_at (inputs_in x vs) 0)) ≡ cells
     by (Sensor i) m = refl
     by (Actuator i) m = refl
     by (Function b) m = refl

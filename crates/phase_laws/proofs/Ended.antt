@@ -1,5 +1,38 @@
 -- Cells and rows of a run, so far and when all is done.
-use Rattle.std.proofs.Common.{◌≡◌, ℕ, zero, suc, ◌+◌, ◌*◌, ◌<◌, ◌==◌, Bool, true, false, cond, List, [], ◌∷◌, ◌++◌, map, drop, length, Some, refl, sym, ap, subst, inl, inr, arith, ◌∙◌, ℤ, add-zero, zero-add, add-one}
+use Rattle.std.proofs.Common.{
+  ◌≡◌,
+  ℕ,
+  zero,
+  suc,
+  ◌+◌,
+  ◌*◌,
+  ◌<◌,
+  ◌==◌,
+  Bool,
+  true,
+  false,
+  cond,
+  List,
+  [],
+  ◌∷◌,
+  ◌++◌,
+  map,
+  drop,
+  length,
+  Some,
+  refl,
+  sym,
+  ap,
+  subst,
+  inl,
+  inr,
+  arith,
+  ◌∙◌,
+  ℤ,
+  add-zero,
+  zero-add,
+  add-one,
+}
 use Rattle.std.specs.Prelude.{slice_get, slice_index_or, nat_lt}
 use Rattle.std.specs.List.{range_with_len}
 use Rattle.std.proofs.lemmas.Bool.{lt-ltb, le-ltb, and_parts, eqb-true}
@@ -85,7 +118,9 @@ module _ (j : JobData) (h : IsSupplied j) where
   all_done : (c : ℕ → ℕ) → ((s : ℕ) → s < length j.program.seqs → c s ≡ full j s) → (v : ℕ) → Stateful j h v → done_in j c v ≡ reactions j
   all_done c done v q =
       let here = h.formed.called v q.0 q.1 in
-      let full_is : c (caller j v) ≡ full j (caller j v) = done (caller j v) (stands_sequence j.program (caller j v) (calling j.program v).at (Call v (calling j.program v).ins (calling j.program v).outs) here.stands) in
+      let full_is : c (caller j v) ≡ full j (caller j v) =
+      done (caller j v) (stands_sequence j.program (caller j v) (calling j.program v).at
+      (Call v (calling j.program v).ins (calling j.program v).outs) here.stands) in
       ap (made j (caller j v) (last_load j v)) full_is ∙ all_made (caller j v) (last_load j v) (last_low j h v q)
 
   -- The cells, where the set half of each delay was computed n times.
@@ -104,7 +139,9 @@ module _ (j : JobData) (h : IsSupplied j) where
         by : (k : Kind) → (is_get k ≡ true → (t : ℕ) × (x.twin ≡ Some t) × (done t ≡ n)) → length after ≡ d + length (initial_cell k ++ initial_cells xs)
             → ((c : ℕ) → length after ≡ c + length (initial_cells xs) → cells_from j done xs c ≡ drop c after)
             → cond (is_get k) (cell_by j done d x.twin ∷ cells_from j done xs (suc d)) (cells_from j done xs d) ≡ drop d after
-        by (Get z) t f r = let w = t refl in (λ i. cell w.0 w.1 w.2 i ∷ (r (suc d) (let g = f in omega arith) ∙ ap (λ (m : ℕ). drop m after) (sym (add-one d))) i) ∙ sym (drop_more after d [] (let g = f in omega arith))
+        by (Get z) t f r = let w = t refl in
+            (λ i. cell w.0 w.1 w.2 i ∷ (r (suc d) (let g = f in omega arith) ∙ ap (λ (m : ℕ). drop m after) (sym (add-one d))) i)
+            ∙ sym (drop_more after d [] (let g = f in omega arith))
         by (Sensor i) t f r = r d f
         by (Actuator i) t f r = r d f
         by (Function b) t f r = r d f
@@ -190,8 +227,12 @@ module _ (j : JobData) (h : IsSupplied j) where
         by : (kind : Kind) → y.kind ≡ kind → actuators_from m (kind ∷ kinds_of ys) ≡ true
             → ((n : ℕ) → actuators_from n (kinds_of ys) ≡ true → (q : ℕ) × (a ≡ n + q) × (vector_at (rows_from j done ys (suc v) k) q ≡ entry (suc v + u) a x))
             → (q : ℕ) × (a ≡ m + q) × (vector_at (row_of j done v y k kind ++ rows_from j done ys (suc v) k) q ≡ entry (v + suc u) a x)
-        by (Actuator i) q f r = let n = first_number m i (kinds_of ys) f in let z = r (m + 1) n.1 in
-            (suc z.0, (let w = z.1 in omega arith), ap (λ (l : Values). vector_at (l ++ rows_from j done ys (suc v) k) (suc z.0)) (one_row v y i (are 0 v y refl (sym (add-zero v))) q v) ∙ moved z.0 z.2)
+        by (Actuator i) q f r = let n = first_number m i (kinds_of ys) f in let z = r (m + 1) n.1 in (
+          suc z.0,
+          (let w = z.1 in omega arith),
+          ap (λ (l : Values). vector_at (l ++ rows_from j done ys (suc v) k) (suc z.0))
+              (one_row v y i (are 0 v y refl (sym (add-zero v))) q v) ∙ moved z.0 z.2,
+        )
         by (Sensor i) q f r = let z = r m f in (z.0, z.1, moved z.0 z.2)
         by (Function b) q f r = let z = r m f in (z.0, z.1, moved z.0 z.2)
         by (Constant b) q f r = let z = r m f in (z.0, z.1, moved z.0 z.2)

@@ -149,7 +149,8 @@ module _ (p : Program) where
     of_loads v ins outs r a e = let b = in_block (loads_at p ins) (length ins) r a e in let q = loads_in (slice_get ins b.block) b.at a b.stands in
         subst (λ (c : Micro). From (Call v ins outs) r c) q.3 (inl (record { port = b.block; buffer = q.0; number = b.at; reads = q.1; inside = q.2; is = refl; first = refl; at = b.is }))
 
-    of_stores : (v : ℕ) (ins outs : List ℕ) (r i : ℕ) (a : Micro) → r ≡ length (blocks (loads_at p ins) (length ins)) + i → slice_get (blocks (stores_at p outs) (length outs)) i ≡ Some a → From (Call v ins outs) r a
+    of_stores : (v : ℕ) (ins outs : List ℕ) (r i : ℕ) (a : Micro) → r ≡ length (blocks (loads_at p ins) (length ins)) + i
+        → slice_get (blocks (stores_at p outs) (length outs)) i ≡ Some a → From (Call v ins outs) r a
     of_stores v ins outs r i a h e = let b = in_block (stores_at p outs) (length outs) i a e in let q = stores_in (slice_get outs b.block) b.at a b.stands in
         let w = b.is in
         subst (λ (c : Micro). From (Call v ins outs) r c) q.3 (inl (record { port = b.block; buffer = q.0; number = b.at; writes = q.1; inside = q.2; is = refl; first = refl; at = omega arith }))
@@ -171,16 +172,22 @@ module _ (p : Program) where
     of_send : (b o r : ℕ) (a : Micro) → slice_get (blocks (send_at p m t b) (len_of p b)) r ≡ Some a → From (Send b o) (suc r) a
     of_send b o r a e = by (two_of (λ j. load (element_of p b j) 0) (λ j. store (wire_of p m j) (access p m j t)) (len_of p b) r a e)
       where
-        by : ((j : ℕ) × (j < len_of p b) × (r ≡ 2 * j) × (load (element_of p b j) 0 ≡ a)) ⊎ ((j : ℕ) × (j < len_of p b) × (r ≡ 2 * j + 1) × (store (wire_of p m j) (access p m j t) ≡ a)) → From (Send b o) (suc r) a
-        by (inl q) = let h = q.2 in subst (λ (c : Micro). From (Send b o) (suc r) c) q.3 (inl (record { port = 0; buffer = b; number = q.0; reads = (refl, refl); inside = q.1; is = refl; first = refl; at = omega arith }))
-        by (inr q) = let h = q.2 in subst (λ (c : Micro). From (Send b o) (suc r) c) q.3 (inr (record { buffer = b; to = o; number = q.0; sends = refl; inside = q.1; is = refl; access_is = refl; at = omega arith }))
+        by : ((j : ℕ) × (j < len_of p b) × (r ≡ 2 * j) × (load (element_of p b j) 0 ≡ a))
+            ⊎ ((j : ℕ) × (j < len_of p b) × (r ≡ 2 * j + 1) × (store (wire_of p m j) (access p m j t) ≡ a)) → From (Send b o) (suc r) a
+        by (inl q) = let h = q.2 in subst (λ (c : Micro). From (Send b o) (suc r) c) q.3
+            (inl (record { port = 0; buffer = b; number = q.0; reads = (refl, refl); inside = q.1; is = refl; first = refl; at = omega arith }))
+        by (inr q) = let h = q.2 in subst (λ (c : Micro). From (Send b o) (suc r) c) q.3
+            (inr (record { buffer = b; to = o; number = q.0; sends = refl; inside = q.1; is = refl; access_is = refl; at = omega arith }))
 
     of_receive : (b o r : ℕ) (a : Micro) → slice_get (blocks (receive_at p m t b) (len_of p b)) r ≡ Some a → From (Recv b o) (suc r) a
     of_receive b o r a e = by (two_of (λ j. load (wire_of p m j) (access p m j t)) (λ j. store (element_of p b j) 0) (len_of p b) r a e)
       where
-        by : ((j : ℕ) × (j < len_of p b) × (r ≡ 2 * j) × (load (wire_of p m j) (access p m j t) ≡ a)) ⊎ ((j : ℕ) × (j < len_of p b) × (r ≡ 2 * j + 1) × (store (element_of p b j) 0 ≡ a)) → From (Recv b o) (suc r) a
-        by (inl q) = let h = q.2 in subst (λ (c : Micro). From (Recv b o) (suc r) c) q.3 (inr (record { buffer = b; from = o; number = q.0; receives = refl; inside = q.1; is = refl; access_is = refl; at = omega arith }))
-        by (inr q) = let h = q.2 in subst (λ (c : Micro). From (Recv b o) (suc r) c) q.3 (inl (record { port = 0; buffer = b; number = q.0; writes = (refl, refl); inside = q.1; is = refl; first = refl; at = omega arith }))
+        by : ((j : ℕ) × (j < len_of p b) × (r ≡ 2 * j) × (load (wire_of p m j) (access p m j t) ≡ a))
+            ⊎ ((j : ℕ) × (j < len_of p b) × (r ≡ 2 * j + 1) × (store (element_of p b j) 0 ≡ a)) → From (Recv b o) (suc r) a
+        by (inl q) = let h = q.2 in subst (λ (c : Micro). From (Recv b o) (suc r) c) q.3
+            (inr (record { buffer = b; from = o; number = q.0; receives = refl; inside = q.1; is = refl; access_is = refl; at = omega arith }))
+        by (inr q) = let h = q.2 in subst (λ (c : Micro). From (Recv b o) (suc r) c) q.3
+            (inl (record { port = 0; buffer = b; number = q.0; writes = (refl, refl); inside = q.1; is = refl; first = refl; at = omega arith }))
 
     -- what a wait, a middle part of two micro-steps an element, and an advance hold
     of_half : (x : Instr) (w z : Micro) (A : List Micro) (r : ℕ) (a : Micro) → From x 0 w → ((i : ℕ) → slice_get A i ≡ Some a → From x (suc i) a) → From x (length A + 1) z
@@ -242,21 +249,26 @@ module _ (p : Program) where
     store_stands (Send _ _) k b j e h = elim e [ ]
     store_stands (Sync _ _) k b j e h = elim e [ ]
     store_stands (Recv o q) k b j e h = subst (λ (z : ℕ). slice_get (micros_of p m t (Recv o q)) (suc (2 * j + 1)) ≡ Some (store (element_of p z j) 0)) e.0
-        (get-append_within (blocks (receive_at p m t o) (len_of p o)) (advance m (2 * t + 1) ∷ []) (2 * j + 1) (let l = two_length (λ i. load (wire_of p m i) (access p m i t)) (λ i. store (element_of p o i) 0) (len_of p o) in let z = ap (len_of p) e.0 in omega arith)
+        (get-append_within (blocks (receive_at p m t o) (len_of p o)) (advance m (2 * t + 1) ∷ []) (2 * j + 1)
+        (let l = two_length (λ i. load (wire_of p m i) (access p m i t)) (λ i. store (element_of p o i) 0) (len_of p o) in
+        let z = ap (len_of p) e.0 in omega arith)
         ∙ (get_two (λ i. load (wire_of p m i) (access p m i t)) (λ i. store (element_of p o i) 0) (len_of p o) j inside).1)
       where
         inside : j < len_of p o
         inside = let z = ap (len_of p) e.0 in omega arith
 
     pub wire_store_stands : (b o j : ℕ) → j < len_of p b → slice_get (micros_of p m t (Send b o)) (suc (2 * j + 1)) ≡ Some (store (wire_of p m j) (access p m j t))
-    wire_store_stands b o j h = get-append_within (blocks (send_at p m t b) (len_of p b)) (advance m (2 * t) ∷ []) (2 * j + 1) (let l = two_length (λ i. load (element_of p b i) 0) (λ i. store (wire_of p m i) (access p m i t)) (len_of p b) in omega arith)
+    wire_store_stands b o j h = get-append_within (blocks (send_at p m t b) (len_of p b)) (advance m (2 * t) ∷ []) (2 * j + 1)
+        (let l = two_length (λ i. load (element_of p b i) 0) (λ i. store (wire_of p m i) (access p m i t)) (len_of p b) in omega arith)
         ∙ (get_two (λ i. load (element_of p b i) 0) (λ i. store (wire_of p m i) (access p m i t)) (len_of p b) j h).1
 
     last : (A : List Micro) (z : Micro) (n : ℕ) → length A ≡ n → slice_get (A ++ z ∷ []) n ≡ Some z
     last A z n e = let y : n ≡ length A + 0 = omega arith in ap (λ (k : ℕ). slice_get (A ++ z ∷ []) k) y ∙ get-append_past A (z ∷ []) 0
 
     pub send_advances : (b o : ℕ) → slice_get (micros_of p m t (Send b o)) (suc (2 * len_of p b)) ≡ Some (advance m (2 * t))
-    send_advances b o = last (blocks (send_at p m t b) (len_of p b)) (advance m (2 * t)) (2 * len_of p b) (two_length (λ i. load (element_of p b i) 0) (λ i. store (wire_of p m i) (access p m i t)) (len_of p b))
+    send_advances b o = last (blocks (send_at p m t b) (len_of p b)) (advance m (2 * t)) (2 * len_of p b)
+        (two_length (λ i. load (element_of p b i) 0) (λ i. store (wire_of p m i) (access p m i t)) (len_of p b))
 
     pub receive_advances : (b o : ℕ) → slice_get (micros_of p m t (Recv b o)) (suc (2 * len_of p b)) ≡ Some (advance m (2 * t + 1))
-    receive_advances b o = last (blocks (receive_at p m t b) (len_of p b)) (advance m (2 * t + 1)) (2 * len_of p b) (two_length (λ i. load (wire_of p m i) (access p m i t)) (λ i. store (element_of p b i) 0) (len_of p b))
+    receive_advances b o = last (blocks (receive_at p m t b) (len_of p b)) (advance m (2 * t + 1)) (2 * len_of p b)
+        (two_length (λ i. load (wire_of p m i) (access p m i t)) (λ i. store (element_of p b i) 0) (len_of p b))

@@ -43,14 +43,16 @@ vector_back front v rest = same_lists (vector_in (front ++ (v ++ rest)) (length 
     long : length (vector_in (front ++ (v ++ rest)) (length front) (length v)) ≡ length v
     long = length-map-range_with_len (λ i. element_at (front ++ (v ++ rest)) (length front + i)) 0 (length v)
 
-    same : (k : ℕ) (d : ℤ) → k < length (vector_in (front ++ (v ++ rest)) (length front) (length v)) → slice_index_or (vector_in (front ++ (v ++ rest)) (length front) (length v)) k d ≡ slice_index_or v k d
+    same : (k : ℕ) (d : ℤ) → k < length (vector_in (front ++ (v ++ rest)) (length front) (length v))
+        → slice_index_or (vector_in (front ++ (v ++ rest)) (length front) (length v)) k d ≡ slice_index_or v k d
     same k d l = let q : k < length v = (let a = long in omega arith) in
         get_or-map-range_with_len (λ i. element_at (front ++ (v ++ rest)) (length front + i)) 0 (length v) k k d q (omega arith)
         ∙ get_or-append-add front (v ++ rest) k (pos 0) ∙ get_or_append_left v rest (pos 0) k q ∙ get_or_default v k (pos 0) d q
 
 back : (front : Vector) (vs : Values) → vectors_from (front ++ all_joined vs) (length front) (map length vs) ≡ vs
 back front [] = refl
-back front (v ∷ vs) = λ i. vector_back front v (all_joined vs) i ∷ ((λ k. vectors_from (sym (append_assoc front v (all_joined vs)) k) (sym (length-append front v) k) (map length vs)) ∙ back (front ++ v) vs) i
+back front (v ∷ vs) = λ i. vector_back front v (all_joined vs) i
+    ∷ ((λ k. vectors_from (sym (append_assoc front v (all_joined vs)) k) (sym (length-append front v) k) (map length vs)) ∙ back (front ++ v) vs) i
 
 -- and so are they all
 pub vectors_back : (vs : Values) (lens : List ℕ) → lens ≡ map length vs → vectors_from (all_joined vs) 0 lens ≡ vs

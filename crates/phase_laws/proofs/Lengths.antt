@@ -91,7 +91,8 @@ module _ (j : JobData) (h : IsSupplied j) where
   carried_lens (b ∷ bs) (x ∷ xs) c = λ i. sym (source_len_is x (len_of j.program b) c.2) i ∷ carried_lens bs xs c.3 i
 
   -- a guard's source has one element
-  guard_lens : (ds : List Guard) (xs : List Source) → list_all (is_guard j.graph.vertices) ds ≡ true → lens_of j.graph.vertices (map (λ d. d.source) ds ++ xs) ≡ replicate (length ds) 1 ++ lens_of j.graph.vertices xs
+  guard_lens : (ds : List Guard) (xs : List Source) → list_all (is_guard j.graph.vertices) ds ≡ true
+      → lens_of j.graph.vertices (map (λ d. d.source) ds ++ xs) ≡ replicate (length ds) 1 ++ lens_of j.graph.vertices xs
   guard_lens [] xs e = refl
   guard_lens (d ∷ ds) xs e = let q = and_parts (is_guard j.graph.vertices d) (list_all (is_guard j.graph.vertices) ds) e in
       let z = eqb-true (source_len j.graph.vertices d.source) 1 (and_parts (source_len j.graph.vertices d.source == 1) _ q.0).0 in
@@ -101,7 +102,8 @@ module _ (j : JobData) (h : IsSupplied j) where
   called_lens v x ins e c = carried_lens ins (map (λ d. d.source) x.guards ++ x.ins) c ∙ guard_lens x.guards x.ins guards
     where
       guards : list_all (is_guard j.graph.vertices) x.guards ≡ true
-      guards = let a = and_parts _ (has_twin j.graph.vertices v x.kind x.twin) (vertex_valid j.graph h.valid v x e) in let b = and_parts _ (fits j.graph.bodies x.kind (lens_of j.graph.vertices x.ins) x.outs) a.0 in
+      guards = let a = and_parts _ (has_twin j.graph.vertices v x.kind x.twin) (vertex_valid j.graph h.valid v x e) in
+          let b = and_parts _ (fits j.graph.bodies x.kind (lens_of j.graph.vertices x.ins) x.outs) a.0 in
           let c = and_parts _ (list_all _ (lens_of j.graph.vertices x.ins)) b.0 in (and_parts _ (list_all (is_guard j.graph.vertices) x.guards) c.0).1
 
   abbrev pub Give : ℕ → ℕ → List ℕ → List ℕ → Type 0

@@ -78,7 +78,9 @@ module _ (p : Program) (w : Places) (c : Conditions p w) {P : Type 0} (reactions
       }
 
   same_communication : (m t s a b : ℕ) (x y : Instr) → Communicates p m t s a x → Communicates p m t s b y → a ≡ b
-  same_communication m t s a b x y e f = ⊎_elim (λ q. q) (λ q. absurd (⊎_elim (λ l. let z = count_more is_communication (turn p s) a b x e.stands e.is_one l in let u = e.number in let v = f.number in omega arith)
+  same_communication m t s a b x y e f =
+      ⊎_elim (λ q. q) (λ q. absurd (⊎_elim
+      (λ l. let z = count_more is_communication (turn p s) a b x e.stands e.is_one l in let u = e.number in let v = f.number in omega arith)
       (λ l. let z = count_more is_communication (turn p s) b a y f.stands f.is_one l in let u = e.number in let v = f.number in omega arith) q)) (cases_order a b)
 
   -- who makes transfer t
@@ -112,19 +114,29 @@ module _ (p : Program) (w : Places) (c : Conditions p w) {P : Type 0} (reactions
     -- what a micro-step of the send or of the receive is, by the place in the instruction
     pub in_send : (r : ℕ) (d : Micro) → slice_get (micros_of p m t (Send (w.transfer m t).sent (operator p (w.transfer m t).receiver))) r ≡ Some d
         → slice_get (micros_at p (w.transfer m t).sender (w.transfer m t).send_at (Send (w.transfer m t).sent (operator p (w.transfer m t).receiver))) r ≡ Some d
-    in_send r d e = subst (λ (i : ℕ). slice_get (micros_of p i (communications p (w.transfer m t).sender (w.transfer m t).send_at) (Send (w.transfer m t).sent (operator p (w.transfer m t).receiver))) r ≡ Some d) (sym sender_at)
+    in_send r d e = subst (λ (i : ℕ). slice_get
+        (micros_of p i (communications p (w.transfer m t).sender (w.transfer m t).send_at)
+        (Send (w.transfer m t).sent (operator p (w.transfer m t).receiver))) r ≡ Some d) (sym sender_at)
         (subst (λ (i : ℕ). slice_get (micros_of p m i (Send (w.transfer m t).sent (operator p (w.transfer m t).receiver))) r ≡ Some d) (sym one.sends.number) e)
 
     pub in_receive : (r : ℕ) (d : Micro) → slice_get (micros_of p m t (Recv (w.transfer m t).received (operator p (w.transfer m t).sender))) r ≡ Some d
         → slice_get (micros_at p (w.transfer m t).receiver (w.transfer m t).receive_at (Recv (w.transfer m t).received (operator p (w.transfer m t).sender))) r ≡ Some d
-    in_receive r d e = subst (λ (i : ℕ). slice_get (micros_of p i (communications p (w.transfer m t).receiver (w.transfer m t).receive_at) (Recv (w.transfer m t).received (operator p (w.transfer m t).sender))) r ≡ Some d) (sym receiver_at)
+    in_receive r d e = subst (λ (i : ℕ). slice_get
+        (micros_of p i (communications p (w.transfer m t).receiver (w.transfer m t).receive_at)
+        (Recv (w.transfer m t).received (operator p (w.transfer m t).sender))) r ≡ Some d) (sym receiver_at)
         (subst (λ (i : ℕ). slice_get (micros_of p m i (Recv (w.transfer m t).received (operator p (w.transfer m t).sender))) r ≡ Some d) (sym one.receives.number) e)
 
-    pub send_advance : (slice_get (code p (w.transfer m t).sender).turn (sender_half m t).advances ≡ Some (advance m (2 * t))) × (suc (2 * len_of p (w.transfer m t).sent) < size p (w.transfer m t).sender (w.transfer m t).send_at)
-    send_advance = at_turn p (w.transfer m t).sender (w.transfer m t).send_at (suc (2 * len_of p (w.transfer m t).sent)) _ (advance m (2 * t)) one.sends.stands (in_send (suc (2 * len_of p (w.transfer m t).sent)) _ (send_advances p m t (w.transfer m t).sent (operator p (w.transfer m t).receiver)))
+    pub send_advance : (slice_get (code p (w.transfer m t).sender).turn (sender_half m t).advances ≡ Some (advance m (2 * t)))
+        × (suc (2 * len_of p (w.transfer m t).sent) < size p (w.transfer m t).sender (w.transfer m t).send_at)
+    send_advance = at_turn p (w.transfer m t).sender (w.transfer m t).send_at (suc (2 * len_of p (w.transfer m t).sent)) _
+        (advance m (2 * t)) one.sends.stands
+        (in_send (suc (2 * len_of p (w.transfer m t).sent)) _ (send_advances p m t (w.transfer m t).sent (operator p (w.transfer m t).receiver)))
 
-    pub receive_advance : (slice_get (code p (w.transfer m t).receiver).turn (receiver_half m t).advances ≡ Some (advance m (2 * t + 1))) × (suc (2 * len_of p (w.transfer m t).received) < size p (w.transfer m t).receiver (w.transfer m t).receive_at)
-    receive_advance = at_turn p (w.transfer m t).receiver (w.transfer m t).receive_at (suc (2 * len_of p (w.transfer m t).received)) _ (advance m (2 * t + 1)) one.receives.stands (in_receive (suc (2 * len_of p (w.transfer m t).received)) _ (receive_advances p m t (w.transfer m t).received (operator p (w.transfer m t).sender)))
+    pub receive_advance : (slice_get (code p (w.transfer m t).receiver).turn (receiver_half m t).advances ≡ Some (advance m (2 * t + 1)))
+        × (suc (2 * len_of p (w.transfer m t).received) < size p (w.transfer m t).receiver (w.transfer m t).receive_at)
+    receive_advance = at_turn p (w.transfer m t).receiver (w.transfer m t).receive_at (suc (2 * len_of p (w.transfer m t).received)) _
+        (advance m (2 * t + 1)) one.receives.stands
+        (in_receive (suc (2 * len_of p (w.transfer m t).received)) _ (receive_advances p m t (w.transfer m t).received (operator p (w.transfer m t).sender)))
 
   pub front_no_advance : (m i t l : ℕ) (d : Micro) → slice_get (code p t).prologue l ≡ Some d → advances_half m i d ≡ true → ⊥
   front_no_advance m i t l d e k = let f = front_is p w c reactions own t l d e in let z : advances_half m i (signal (2 * f.0)) ≡ true = ap (advances_half m i) f.5 ∙ k in cc
@@ -144,7 +156,8 @@ module _ (p : Program) (w : Places) (c : Conditions p w) {P : Type 0} (reactions
         found o b q y z n r (receives_it u v x) = let k = sym y ∙ x in absurd cc
         found o b q y z n r (waits_for_it x v) = let k = sym y ∙ x in absurd cc
 
-        by : (o : Origin p s l d) → (MediumAt p s ≡ m) × (o.at ≡ 2 * half_len p (MediumAt p s) (communications p s o.index) o.instr + 1) × IsHalf p (MediumAt p s) (communications p s o.index) o.instr (2 * t)
+        by : (o : Origin p s l d) → (MediumAt p s ≡ m) × (o.at ≡ 2 * half_len p (MediumAt p s) (communications p s o.index) o.instr + 1)
+            × IsHalf p (MediumAt p s) (communications p s o.index) o.instr (2 * t)
             → (s ≡ (w.transfer m t).sender) × (l ≡ (sender_half m t).advances)
         by o (z, r, sending b q y n) = let f : communications p s o.index ≡ t = omega arith in
             found o b q y z f r (who m t there below s o.index o.instr (moved m t s o.index o.instr z f (part s o.index o.instr o.stands (ap is_communication y))))
@@ -159,7 +172,8 @@ module _ (p : Program) (w : Places) (c : Conditions p w) {P : Type 0} (reactions
         found o b q y z n r (sends_it u v x) = let k = sym y ∙ x in absurd cc
         found o b q y z n r (waits_for_it x v) = let k = sym y ∙ x in absurd cc
 
-        by : (o : Origin p s l d) → (MediumAt p s ≡ m) × (o.at ≡ 2 * half_len p (MediumAt p s) (communications p s o.index) o.instr + 1) × IsHalf p (MediumAt p s) (communications p s o.index) o.instr (2 * t + 1)
+        by : (o : Origin p s l d) → (MediumAt p s ≡ m) × (o.at ≡ 2 * half_len p (MediumAt p s) (communications p s o.index) o.instr + 1)
+            × IsHalf p (MediumAt p s) (communications p s o.index) o.instr (2 * t + 1)
             → (s ≡ (w.transfer m t).receiver) × (l ≡ (receiver_half m t).advances)
         by o (z, r, receiving b q y n) = let f : communications p s o.index ≡ t = omega arith in
             found o b q y z f r (who m t there below s o.index o.instr (moved m t s o.index o.instr z f (part s o.index o.instr o.stands (ap is_communication y))))

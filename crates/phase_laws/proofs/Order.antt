@@ -44,7 +44,8 @@ place_below (t ∷ ts) s zero l = by (cases_eq t s) (λ k. place_below ts s zero
     by (inr e) r = let u = count_cons (names s) t ts in let v : one_if (names s) t ≡ 0 = rw (ne_eqb t s e) refl in let z = r (omega arith) in rw (ne_eqb t s e) (omega arith)
 place_below (t ∷ ts) s (suc a) l = by (cases_eq t s) (λ k. place_below ts s a k) (λ k. place_below ts s (suc a) k)
   where
-    by : (t ≡ s) ⊎ (t ≡ s → ⊥) → (a < count_by (names s) ts → place_in ts s a < length ts) → (suc a < count_by (names s) ts → place_in ts s (suc a) < length ts) → place_in (t ∷ ts) s (suc a) < length (t ∷ ts)
+    by : (t ≡ s) ⊎ (t ≡ s → ⊥) → (a < count_by (names s) ts → place_in ts s a < length ts)
+        → (suc a < count_by (names s) ts → place_in ts s (suc a) < length ts) → place_in (t ∷ ts) s (suc a) < length (t ∷ ts)
     by (inl e) r q = let u = count_cons (names s) t ts in let v : one_if (names s) t ≡ 1 = rw (eq-eqb t s e) refl in let z = r (omega arith) in rw (eq-eqb t s e) (omega arith)
     by (inr e) r q = let u = count_cons (names s) t ts in let v : one_if (names s) t ≡ 0 = rw (ne_eqb t s e) refl in let z = q (omega arith) in rw (ne_eqb t s e) (omega arith)
 
@@ -58,7 +59,8 @@ place_rises (t ∷ ts) s zero (suc b) h l = by (cases_eq t s) (λ k. place_rises
     by (inr e) r = let u = count_cons (names s) t ts in let v : one_if (names s) t ≡ 0 = rw (ne_eqb t s e) refl in let z = r (omega arith) in rw (ne_eqb t s e) (omega arith)
 place_rises (t ∷ ts) s (suc a) (suc b) h l = by (cases_eq t s) (λ k. place_rises ts s a b (omega arith) k) (λ k. place_rises ts s (suc a) (suc b) h k)
   where
-    by : (t ≡ s) ⊎ (t ≡ s → ⊥) → (b < count_by (names s) ts → place_in ts s a < place_in ts s b) → (suc b < count_by (names s) ts → place_in ts s (suc a) < place_in ts s (suc b)) → place_in (t ∷ ts) s (suc a) < place_in (t ∷ ts) s (suc b)
+    by : (t ≡ s) ⊎ (t ≡ s → ⊥) → (b < count_by (names s) ts → place_in ts s a < place_in ts s b)
+        → (suc b < count_by (names s) ts → place_in ts s (suc a) < place_in ts s (suc b)) → place_in (t ∷ ts) s (suc a) < place_in (t ∷ ts) s (suc b)
     by (inl e) r q = let u = count_cons (names s) t ts in let v : one_if (names s) t ≡ 1 = rw (eq-eqb t s e) refl in let z = r (omega arith) in rw (eq-eqb t s e) (omega arith)
     by (inr e) r q = let u = count_cons (names s) t ts in let v : one_if (names s) t ≡ 0 = rw (ne_eqb t s e) refl in let z = q (omega arith) in rw (ne_eqb t s e) (omega arith)
 
@@ -122,7 +124,8 @@ module _ (p : Program) (w : Places) (c : Conditions p w) {P : Type 0} (reactions
   known : (s l a r : ℕ) (x : Located s l) → l ≡ begins p s a + r → r < size p s a → x.index ≡ a
   known s l a r x e f = (sum_same_block (size p s) x.index a x.at r x.inner f (sym x.is ∙ e)).0
 
-  before_known : (s a r t b i l m : ℕ) → l < length (code p s).turn → m < length (code p t).turn → l ≡ begins p s a + r → r < size p s a → m ≡ begins p t b + i → i < size p t b → Before p c.order s a t b → spot p c.order s l < spot p c.order t m
+  before_known : (s a r t b i l m : ℕ) → l < length (code p s).turn → m < length (code p t).turn → l ≡ begins p s a + r → r < size p s a
+      → m ≡ begins p t b + i → i < size p t b → Before p c.order s a t b → spot p c.order s l < spot p c.order t m
   before_known s a r t b i l m k d e f e2 f2 z = let x = located s l k in let y = located t m d in let u = known s l a r x e f in let v = known t m b i y e2 f2 in
       before s l t m x y (let j = ap (place p c.order s) u in let k = ap (place p c.order t) v in omega arith)
 
@@ -153,7 +156,9 @@ module _ (p : Program) (w : Places) (c : Conditions p w) {P : Type 0} (reactions
           at = at_turn p (writer w q) (w.pair q).signal_full 0 (Pre1 q) (signal (2 * q + 1)) one.signal_full.stands refl
 
           l_below : l < length (code p s).turn
-          l_below = let f = blocks_length (block p s) (length (turn p s)) in let z = sum_inside (size p s) (length (turn p s)) r.index r.at (slice_get_within (turn p s) r.index r.instr r.stands) r.inner in let v = r.is in omega arith
+          l_below = let f = blocks_length (block p s) (length (turn p s)) in
+              let z = sum_inside (size p s) (length (turn p s)) r.index r.at
+              (slice_get_within (turn p s) r.index r.instr r.stands) r.inner in let v = r.is in omega arith
 
           here : spot p c.order (writer w q) (fills p w q) < spot p c.order s l
           here = let b = slice_get_within (code p (writer w q)).turn _ _ at.0 in

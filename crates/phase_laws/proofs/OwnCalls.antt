@@ -50,7 +50,8 @@ module _ (j : JobData) (h : IsSupplied j) (s n : ℕ) (m : Micro) (o : Here j.pr
   then = ⊎_elim
       (λ q. rw (lt-ltb (o.at + 1) (size j.program s o.index) q.0) (λ i. registers_in j (q.3 i) ((ap (slice_get (turn j.program s)) q.1 ∙ o.stands) i) (q.2 i)))
       (λ q. rw (le-ltb (o.at + 1) (size j.program s o.index) q.0)
-      (ap (registers_in j (reaction_at (code j.program s) (n + 1)) (slice_get (turn j.program s) (index_at j.program s (n + 1)))) q.1 ∙ zero_registers j (reaction_at (code j.program s) (n + 1)) (slice_get (turn j.program s) (index_at j.program s (n + 1))))) o.next
+      (ap (registers_in j (reaction_at (code j.program s) (n + 1)) (slice_get (turn j.program s) (index_at j.program s (n + 1)))) q.1
+      ∙ zero_registers j (reaction_at (code j.program s) (n + 1)) (slice_get (turn j.program s) (index_at j.program s (n + 1))))) o.next
 
   module _ (low : reaction_at (code j.program s) n < reactions j) (v : ℕ) (ins outs : List ℕ) (call : o.instr ≡ Call v ins outs) where
     stands : Stands j.program s o.index (Call v ins outs)
@@ -82,7 +83,8 @@ module _ (j : JobData) (h : IsSupplied j) (s n : ℕ) (m : Micro) (o : Here j.pr
     give = subst (λ (l : List ℕ). Give j h v 0 l vertex.0.outs) same_outs called.gives
 
     -- a get half reads its cell before its set half stores
-    cell_is : (z : List ℤ) → vertex.0.kind ≡ Get z → vector_at (own_after j s n).cells (delay_number j.graph.vertices v) ≡ cell_of j.graph (cells_after j.graph j.sensors j.opening (reaction_at (code j.program s) n)) v
+    cell_is : (z : List ℤ) → vertex.0.kind ≡ Get z → vector_at (own_after j s n).cells (delay_number j.graph.vertices v)
+        ≡ cell_of j.graph (cells_after j.graph j.sensors j.opening (reaction_at (code j.program s) n)) v
     cell_is z e = let t = set_half j.graph h.valid v vertex.0 vertex.1 z e in let c = called.twins z t.at e t.twin_is in
         cell_found j h s n m o v t.at vertex.0 vertex.1 (ap is_get e) t.twin_is (sym c.0 ∙ sym own_place.0)
         (let q = earlier j.program s o.index (calling j.program t.at).at o.at (elements_in j.program (calling j.program t.at).ins - 1) (let a = own_place.1 in let b = c.1 in omega arith) o.inner in
@@ -101,7 +103,8 @@ module _ (j : JobData) (h : IsSupplied j) (s n : ℕ) (m : Micro) (o : Here j.pr
     size_is = call_size j h s o.index v ins outs stands
 
     computes : (loaded : List ℤ) → loaded ≡ all_joined (map (λ b. buffer_value j b (reaction_at (code j.program s) n)) ins)
-        → (compute j.graph j.sensors v (reaction_at (code j.program s) n) loaded (own_after j s n)).registers ≡ all_joined (flat_outputs j.graph j.sensors j.opening v (reaction_at (code j.program s) n))
+        → (compute j.graph j.sensors v (reaction_at (code j.program s) n) loaded (own_after j s n)).registers
+        ≡ all_joined (flat_outputs j.graph j.sensors j.opening v (reaction_at (code j.program s) n))
     computes loaded e = compute_is j h K v vertex.0 low vertex.1 ins outs carry give loaded A e cell_is
 
     now_call : (own_after j s n).registers ≡ registers_in j (reaction_at (code j.program s) n) (Some (Call v ins outs)) o.at
@@ -121,29 +124,38 @@ module _ (j : JobData) (h : IsSupplied j) (s n : ℕ) (m : Micro) (o : Here j.pr
     finds_load i b c e l at = ap (slice_get (all_joined (map (λ b. buffer_value j b K) ins))) at ∙ loaded_at j h K v vertex.0 low vertex.1 ins outs carry give i b c e l
 
     pub call_load : (z : ℤ) → slice_get (all_joined (map (λ b. buffer_value j b (reaction_at (code j.program s) n)) ins)) o.at ≡ Some z
-        → own_after j s (n + 1) ≡ absorb_by j.graph j.sensors (on_load v (elements_in j.program ins) (elements_in j.program ins + elements_in j.program outs) o.at) (reaction_at (code j.program s) n) (own_after j s n) z
+        → own_after j s (n + 1) ≡ absorb_by j.graph j.sensors
+        (on_load v (elements_in j.program ins) (elements_in j.program ins + elements_in j.program outs) o.at)
+        (reaction_at (code j.program s) n) (own_after j s n) z
     call_load z e = by (cases_eq (o.at + 1) N)
       where
         inside : o.at < elements_in j.program ins
-        inside = let a = slice_get_within (all_joined (map (λ b. buffer_value j b (reaction_at (code j.program s) n)) ins)) o.at z e in let b = loads_are j h K v vertex.0 low vertex.1 ins outs carry give in omega arith
+        inside = let a = slice_get_within (all_joined (map (λ b. buffer_value j b (reaction_at (code j.program s) n)) ins)) o.at z e in
+            let b = loads_are j h K v vertex.0 low vertex.1 ins outs carry give in omega arith
 
         last : o.at + 1 ≡ elements_in j.program ins → own_after j s (n + 1)
-            ≡ kept (nat_lt (o.at + 1) (elements_in j.program ins + elements_in j.program outs)) (compute j.graph j.sensors v (reaction_at (code j.program s) n) (gathered (own_after j s n).registers o.at z) (own_after j s n))
+            ≡ kept (nat_lt (o.at + 1) (elements_in j.program ins + elements_in j.program outs))
+            (compute j.graph j.sensors v (reaction_at (code j.program s) n) (gathered (own_after j s n).registers o.at z) (own_after j s n))
         last q = let full = full_load j h K v vertex.0 low vertex.1 ins outs carry give o.at A.registers z q e now_call in
             same_own (own_after j s (n + 1)) _
             (then_computed (omega arith) ∙ ap (λ (r : List ℤ). cond (nat_lt (o.at + 1) M) r []) (sym (computes (gathered A.registers o.at z) full)))
-            (sym (ap (λ (x : Option Vertex). (compute_by j.graph j.sensors v K (gathered A.registers o.at z) A x).cells) vertex.1 ∙ computed_cells j h s n m o low v ins outs call vertex.0 vertex.1 q carry (gathered A.registers o.at z) full))
-            (sym (ap (λ (x : Option Vertex). (compute_by j.graph j.sensors v K (gathered A.registers o.at z) A x).rows) vertex.1 ∙ computed_rows j h s n m o low v ins outs call vertex.0 vertex.1 q carry (gathered A.registers o.at z) full))
+            (sym (ap (λ (x : Option Vertex). (compute_by j.graph j.sensors v K (gathered A.registers o.at z) A x).cells) vertex.1
+            ∙ computed_cells j h s n m o low v ins outs call vertex.0 vertex.1 q carry (gathered A.registers o.at z) full))
+            (sym (ap (λ (x : Option Vertex). (compute_by j.graph j.sensors v K (gathered A.registers o.at z) A x).rows) vertex.1
+            ∙ computed_rows j h s n m o low v ins outs call vertex.0 vertex.1 q carry (gathered A.registers o.at z) full))
 
         before : (o.at + 1 ≡ elements_in j.program ins → ⊥) → own_after j s (n + 1) ≡ with_registers (own_after j s n) (gathered (own_after j s n).registers o.at z)
-        before q = let w = inside in let l : o.at + 1 < elements_in j.program ins = omega arith in let k = kept_all j h s n m o (λ t a b c. q (c ∙ ap (λ (x : Instr). elements_in j.program (ins_in (Some x))) (sym b ∙ call))) in
+        before q = let w = inside in let l : o.at + 1 < elements_in j.program ins = omega arith in
+            let k = kept_all j h s n m o (λ t a b c. q (c ∙ ap (λ (x : Instr). elements_in j.program (ins_in (Some x))) (sym b ∙ call))) in
             same_own (own_after j s (n + 1)) _
             (then_call ∙ rw (lt-ltb (o.at + 1) (elements_in j.program ins + elements_in j.program outs) (omega arith))
             (more_loaded j h K v vertex.0 low vertex.1 ins outs carry give o.at l ∙ sym (gathers j h K v vertex.0 low vertex.1 ins outs carry give o.at A.registers z inside e now_call)))
             (sym k.0) (sym k.1)
 
         by : (o.at + 1 ≡ elements_in j.program ins) ⊎ (o.at + 1 ≡ elements_in j.program ins → ⊥)
-            → own_after j s (n + 1) ≡ absorb_by j.graph j.sensors (on_load v (elements_in j.program ins) (elements_in j.program ins + elements_in j.program outs) o.at) (reaction_at (code j.program s) n) (own_after j s n) z
+            → own_after j s (n + 1) ≡ absorb_by j.graph j.sensors
+            (on_load v (elements_in j.program ins) (elements_in j.program ins + elements_in j.program outs) o.at)
+            (reaction_at (code j.program s) n) (own_after j s n) z
         by (inl q) = rw (eq-eqb (o.at + 1) (elements_in j.program ins) q) (last q)
         by (inr q) = rw (ne_eqb (o.at + 1) (elements_in j.program ins) q) (before q)
 
@@ -173,10 +185,13 @@ module _ (j : JobData) (h : IsSupplied j) (s n : ℕ) (m : Micro) (o : Here j.pr
         first_emits : element_at (compute j.graph j.sensors v (reaction_at (code j.program s) n) [] (own_after j s n)).registers 0 ≡ element_at (buffer_value j b (reaction_at (code j.program s) n)) c
         first_emits = value _ (computes [] all_loaded) 0 (omega arith)
 
-        first_leaves : own_after j s (n + 1) ≡ kept (nat_lt (o.at + 1) (elements_in j.program ins + elements_in j.program outs)) (compute j.graph j.sensors v (reaction_at (code j.program s) n) [] (own_after j s n))
+        first_leaves : own_after j s (n + 1)
+            ≡ kept (nat_lt (o.at + 1) (elements_in j.program ins + elements_in j.program outs))
+            (compute j.graph j.sensors v (reaction_at (code j.program s) n) [] (own_after j s n))
         first_leaves = same_own (own_after j s (n + 1)) _
             (then_computed (omega arith) ∙ ap (λ (r : List ℤ). cond (nat_lt (o.at + 1) M) r []) (sym (computes [] all_loaded)))
-            (sym (ap (λ (x : Option Vertex). (compute_by j.graph j.sensors v K [] A x).cells) vertex.1 ∙ cells_other j.graph v vertex.0 (vectors_from [] 0 (lens_in j.graph vertex.0)) A.cells (λ q. unfed (inl q)) ∙ stays.0))
+            (sym (ap (λ (x : Option Vertex). (compute_by j.graph j.sensors v K [] A x).cells) vertex.1
+            ∙ cells_other j.graph v vertex.0 (vectors_from [] 0 (lens_in j.graph vertex.0)) A.cells (λ q. unfed (inl q)) ∙ stays.0))
             (sym (ap (λ (x : Option Vertex). (compute_by j.graph j.sensors v K [] A x).rows) vertex.1
             ∙ rows_other vertex.0.kind K (vector_at (inputs_in vertex.0 (vectors_from [] 0 (lens_in j.graph vertex.0))) 0) A.rows (λ a q. unfed (inr (a, q))) ∙ stays.1))
 
@@ -187,12 +202,20 @@ module _ (j : JobData) (h : IsSupplied j) (s n : ℕ) (m : Micro) (o : Here j.pr
         later_leaves : own_after j s (n + 1) ≡ kept (nat_lt (o.at + 1) (elements_in j.program ins + elements_in j.program outs)) (own_after j s n)
         later_leaves = same_own (own_after j s (n + 1)) _ (then_computed (omega arith) ∙ ap (λ (r : List ℤ). cond (nat_lt (o.at + 1) M) r []) (sym given_now)) (sym stays.0) (sym stays.1)
 
-      pub call_store : (emit_by j.graph j.sensors (on_store v (elements_in j.program ins) (elements_in j.program ins + elements_in j.program outs) o.at) (reaction_at (code j.program s) n) (own_after j s n) ≡ element_at (buffer_value j b (reaction_at (code j.program s) n)) c)
-          × (own_after j s (n + 1) ≡ after_by j.graph j.sensors (on_store v (elements_in j.program ins) (elements_in j.program ins + elements_in j.program outs) o.at) (reaction_at (code j.program s) n) (own_after j s n))
+      pub call_store : (emit_by j.graph j.sensors
+          (on_store v (elements_in j.program ins) (elements_in j.program ins + elements_in j.program outs) o.at)
+          (reaction_at (code j.program s) n) (own_after j s n) ≡ element_at (buffer_value j b (reaction_at (code j.program s) n)) c)
+          × (own_after j s (n + 1) ≡ after_by j.graph j.sensors
+          (on_store v (elements_in j.program ins) (elements_in j.program ins + elements_in j.program outs) o.at)
+          (reaction_at (code j.program s) n) (own_after j s n))
       call_store = by (cases_eq o.at 0)
         where
           by : (o.at ≡ 0) ⊎ (o.at ≡ 0 → ⊥)
-              → (emit_by j.graph j.sensors (on_store v (elements_in j.program ins) (elements_in j.program ins + elements_in j.program outs) o.at) (reaction_at (code j.program s) n) (own_after j s n) ≡ element_at (buffer_value j b (reaction_at (code j.program s) n)) c)
-              × (own_after j s (n + 1) ≡ after_by j.graph j.sensors (on_store v (elements_in j.program ins) (elements_in j.program ins + elements_in j.program outs) o.at) (reaction_at (code j.program s) n) (own_after j s n))
+              → (emit_by j.graph j.sensors (on_store v (elements_in j.program ins)
+              (elements_in j.program ins + elements_in j.program outs) o.at) (reaction_at (code j.program s) n) (own_after j s n)
+              ≡ element_at (buffer_value j b (reaction_at (code j.program s) n)) c)
+              × (own_after j s (n + 1) ≡ after_by j.graph j.sensors
+              (on_store v (elements_in j.program ins) (elements_in j.program ins + elements_in j.program outs) o.at)
+              (reaction_at (code j.program s) n) (own_after j s n))
           by (inl q) = (rw (eq-eqb o.at 0 q) (first_emits q), rw (eq-eqb o.at 0 q) (first_leaves q))
           by (inr q) = (rw (ne_eqb o.at 0 q) (value A.registers (given_now q) (o.at - N) refl), rw (ne_eqb o.at 0 q) (later_leaves q))

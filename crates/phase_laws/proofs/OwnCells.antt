@@ -35,7 +35,8 @@ module _ (j : JobData) where
         → z ≡ vector_at (cells_after j.graph j.sensors j.opening (done' t)) (d + delay_number xs u) → slice_set (cells_from j done xs d) (delay_number xs u) z ≡ cells_from j done' xs d
     cells_set [] d u t x h o z e = absurd (let a = h.0 in cc)
     cells_set (y ∷ ys) d zero t x h o z e = ap (λ (b : Bool). slice_set (cond b (cell_by j done d y.twin ∷ cells_from j done ys (suc d)) (cells_from j done ys d)) 0 z) get
-        ∙ (λ i. (e ∙ ap (vector_at (cells_after j.graph j.sensors j.opening (done' t))) (add-zero d) ∙ sym (ap (cell_by j done' d) twin)) i ∷ cells_same ys (suc d) (λ w r v q. o (suc w) r v q (λ c. absurd (omega arith))) i)
+        ∙ (λ i. (e ∙ ap (vector_at (cells_after j.graph j.sensors j.opening (done' t))) (add-zero d) ∙ sym (ap (cell_by j done' d) twin)) i
+        ∷ cells_same ys (suc d) (λ w r v q. o (suc w) r v q (λ c. absurd (omega arith))) i)
         ∙ sym (ap (λ (b : Bool). cond b (cell_by j done' d y.twin ∷ cells_from j done' ys (suc d)) (cells_from j done' ys d)) get)
       where
         same : y ≡ x
@@ -58,9 +59,12 @@ module _ (j : JobData) where
         by false k f r = r d f
 
   -- the cell of a get half
-  pub cells_at : (done : ℕ → ℕ) (xs : List Vertex) (d u : ℕ) (x : Vertex) → slice_get xs u ≡ Some x → is_get x.kind ≡ true → vector_at (cells_from j done xs d) (delay_number xs u) ≡ cell_by j done (d + delay_number xs u) x.twin
+  pub cells_at : (done : ℕ → ℕ) (xs : List Vertex) (d u : ℕ) (x : Vertex) → slice_get xs u ≡ Some x → is_get x.kind ≡ true
+      → vector_at (cells_from j done xs d) (delay_number xs u) ≡ cell_by j done (d + delay_number xs u) x.twin
   cells_at done [] d u x e k = absurd cc
-  cells_at done (y ∷ ys) d zero x e k = ap (λ (b : Bool). vector_at (cond b (cell_by j done d y.twin ∷ cells_from j done ys (suc d)) (cells_from j done ys d)) 0) get ∙ (λ i. cell_by j done (sym (add-zero d) i) (ap (λ (v : Vertex). v.twin) same i))
+  cells_at done (y ∷ ys) d zero x e k =
+      ap (λ (b : Bool). vector_at (cond b (cell_by j done d y.twin ∷ cells_from j done ys (suc d)) (cells_from j done ys d)) 0) get
+      ∙ (λ i. cell_by j done (sym (add-zero d) i) (ap (λ (v : Vertex). v.twin) same i))
     where
       same : y ≡ x
       same = same_Some y x e

@@ -23,22 +23,27 @@ use Rattle.syn_base.specs.Vectors.{Vector, Values, vector_at, zeros}
 numbered : (g : Graph) → is_flat g ≡ true → actuators_from 0 (kinds_of g.vertices) ≡ true
 numbered g h = (and_parts _ (actuators_from 0 (kinds_of g.vertices)) (and_parts _ (is_acyclic g.vertices) h).0).1
 
-actuator_one : (g : Graph) (x : Vertex) (a : ℕ) → x.kind ≡ Actuator a → fits g.bodies x.kind (lens_of g.vertices x.ins) x.outs ≡ true → lens_of g.vertices x.ins ≡ slice_index_or (lens_of g.vertices x.ins) 0 0 ∷ []
-actuator_one g x a k h = one_is (lens_of g.vertices x.ins) (and_parts (length (lens_of g.vertices x.ins) == 1) (length x.outs == 0) (subst (λ (q : Kind). fits g.bodies q (lens_of g.vertices x.ins) x.outs ≡ true) k h)).0
+actuator_one : (g : Graph) (x : Vertex) (a : ℕ) → x.kind ≡ Actuator a → fits g.bodies x.kind (lens_of g.vertices x.ins) x.outs ≡ true
+    → lens_of g.vertices x.ins ≡ slice_index_or (lens_of g.vertices x.ins) 0 0 ∷ []
+actuator_one g x a k h = one_is (lens_of g.vertices x.ins)
+    (and_parts (length (lens_of g.vertices x.ins) == 1) (length x.outs == 0)
+    (subst (λ (q : Kind). fits g.bodies q (lens_of g.vertices x.ins) x.outs ≡ true) k h)).0
 
 -- an actuator's number is its place among those that are numbered from m on
 first_number : (m a : ℕ) (kinds : List Kind) → actuators_from m (Actuator a ∷ kinds) ≡ true → (a ≡ m) × (actuators_from (m + 1) kinds ≡ true)
 first_number m a kinds h = let q = and_parts (a == m) (actuators_from (m + 1) kinds) h in (eqb-true a m q.0, q.1)
 
 module _ (look : Source → Vector) where
-  taken_at : (m u a : ℕ) (xs : List Vertex) (x : Vertex) → actuators_from m (kinds_of xs) ≡ true → slice_get xs u ≡ Some x → x.kind ≡ Actuator a → (q : ℕ) × (a ≡ m + q) × (vector_at (taken look xs) q ≡ vector_at (inputs look x) 0)
+  taken_at : (m u a : ℕ) (xs : List Vertex) (x : Vertex) → actuators_from m (kinds_of xs) ≡ true → slice_get xs u ≡ Some x → x.kind
+      ≡ Actuator a → (q : ℕ) × (a ≡ m + q) × (vector_at (taken look xs) q ≡ vector_at (inputs look x) 0)
   taken_at m u a [] x h e k = absurd cc
   taken_at m zero a (y ∷ ys) x h e k = let s = same_Some y x e in let kind : y.kind ≡ Actuator a = ap (λ (v : Vertex). v.kind) s ∙ k in
       let n = first_number m a (kinds_of ys) (ap (λ (q : Kind). actuators_from m (q ∷ kinds_of ys)) (sym kind) ∙ h) in
       (0, n.0 ∙ sym (add-zero m), (λ i. vector_at (taken_by look y (kind i) ++ taken look ys) 0) ∙ ap (λ (v : Vertex). vector_at (inputs look v) 0) s)
   taken_at m (suc u) a (y ∷ ys) x h e k = by y.kind h (λ n f. taken_at n u a ys x f e k)
     where
-      by : (kind : Kind) → actuators_from m (kind ∷ kinds_of ys) ≡ true → ((n : ℕ) → actuators_from n (kinds_of ys) ≡ true → (q : ℕ) × (a ≡ n + q) × (vector_at (taken look ys) q ≡ vector_at (inputs look x) 0))
+      by : (kind : Kind) → actuators_from m (kind ∷ kinds_of ys) ≡ true
+          → ((n : ℕ) → actuators_from n (kinds_of ys) ≡ true → (q : ℕ) × (a ≡ n + q) × (vector_at (taken look ys) q ≡ vector_at (inputs look x) 0))
           → (q : ℕ) × (a ≡ m + q) × (vector_at (taken_by look y kind ++ taken look ys) q ≡ vector_at (inputs look x) 0)
       by (Actuator i) f r = let n = first_number m i (kinds_of ys) f in let z = r (m + 1) n.1 in (suc z.0, (let w = z.1 in omega arith), z.2)
       by (Sensor i) f r = r m f
@@ -78,7 +83,8 @@ module _ (j : JobData) (done done' : ℕ → ℕ) (k : ℕ) where
 
   pub rows_same : (xs : List Vertex) (v : ℕ) → ((w n a : ℕ) (x : Vertex) → slice_get xs w ≡ Some x → n ≡ v + w → x.kind ≡ Actuator a → SameAt n) → rows_from j done xs v k ≡ rows_from j done' xs v k
   rows_same [] v h = refl
-  rows_same (x ∷ xs) v h = λ i. row_same v x x.kind (λ a e. h 0 v a x refl (sym (add-zero v)) e) i ++ rows_same xs (suc v) (λ w n a y e q. h (suc w) n a y e (let g : n ≡ v + suc w = omega (arith, q) in g)) i
+  rows_same (x ∷ xs) v h = λ i. row_same v x x.kind (λ a e. h 0 v a x refl (sym (add-zero v)) e) i
+      ++ rows_same xs (suc v) (λ w n a y e q. h (suc w) n a y e (let g : n ≡ v + suc w = omega (arith, q) in g)) i
 
   abbrev AllFit : List Vertex → Type 0
   AllFit xs = (w : ℕ) (x : Vertex) → slice_get xs w ≡ Some x → fits j.graph.bodies x.kind (lens_of j.graph.vertices x.ins) x.outs ≡ true
@@ -110,12 +116,14 @@ module _ (j : JobData) (done done' : ℕ → ℕ) (k : ℕ) where
       after = ap (λ (r : Values). r ++ rows_from j done' ys (suc v) k) (one_entry done' v a y kind (f 0 y refl))
 
       now : row_by j done' v a (slice_index_or (lens_of j.graph.vertices y.ins) 0 0) k ≡ flat_act j.graph j.sensors j.opening a k
-      now = ap (λ (b : Bool). cond b (flat_act j.graph j.sensors j.opening a k) (zeros (slice_index_or (lens_of j.graph.vertices y.ins) 0 0))) (ap (λ (w : ℕ). nat_lt k (done' w)) (sym (add-zero v)) ∙ t)
+      now = ap (λ (b : Bool). cond b (flat_act j.graph j.sensors j.opening a k)
+          (zeros (slice_index_or (lens_of j.graph.vertices y.ins) 0 0))) (ap (λ (w : ℕ). nat_lt k (done' w)) (sym (add-zero v)) ∙ t)
 
       rest : rows_from j done ys (suc v) k ≡ rows_from j done' ys (suc v) k
       rest = rows_same ys (suc v) (λ w n b z r q d. o (suc w) n b z r (let g : n ≡ v + suc w = omega (arith, q) in g) d (λ i. absurd (omega arith)))
   rows_set m v (suc u) a (y ∷ ys) x f h e c o t = by y.kind refl h
-      (λ n g. rows_set n (suc v) u a ys x (λ w z r. f (suc w) z r) g e c (λ w n b z r q d i. o (suc w) n b z r (let g : n ≡ v + suc w = omega (arith, q) in g) d (λ s. i (let g : w ≡ u = omega arith in g)))
+      (λ n g. rows_set n (suc v) u a ys x (λ w z r. f (suc w) z r) g e c
+      (λ w n b z r q d i. o (suc w) n b z r (let g : n ≡ v + suc w = omega (arith, q) in g) d (λ s. i (let g : w ≡ u = omega arith in g)))
       (ap (λ (w : ℕ). nat_lt k (done' w)) (let g : suc v + u ≡ v + suc u = omega arith in g) ∙ t))
       (row_same v y y.kind (λ b d. o 0 v b y refl (sym (add-zero v)) d (λ i. absurd (omega arith))))
     where
@@ -125,13 +133,15 @@ module _ (j : JobData) (done done' : ℕ → ℕ) (k : ℕ) where
       by : (kind : Kind) → y.kind ≡ kind → actuators_from m (kind ∷ kinds_of ys) ≡ true → ((n : ℕ) → actuators_from n (kinds_of ys) ≡ true
           → (q : ℕ) × (a ≡ n + q) × (slice_set (rows_from j done ys (suc v) k) q (flat_act j.graph j.sensors j.opening a k) ≡ rows_from j done' ys (suc v) k))
           → row_of j done v y k y.kind ≡ row_of j done' v y k y.kind
-          → (q : ℕ) × (a ≡ m + q) × (slice_set (row_of j done v y k kind ++ rows_from j done ys (suc v) k) q (flat_act j.graph j.sensors j.opening a k) ≡ row_of j done' v y k kind ++ rows_from j done' ys (suc v) k)
+          → (q : ℕ) × (a ≡ m + q) × (slice_set (row_of j done v y k kind ++ rows_from j done ys (suc v) k) q
+          (flat_act j.graph j.sensors j.opening a k) ≡ row_of j done' v y k kind ++ rows_from j done' ys (suc v) k)
       by (Actuator i) s g r same = let n = first_number m i (kinds_of ys) g in let z = r (m + 1) n.1 in let len = slice_index_or (lens_of j.graph.vertices y.ins) 0 0 in
           let one = λ (d : ℕ → ℕ). sym (ap (row_of j d v y k) s) ∙ one_entry d v i y s (f 0 y refl) in (
             suc z.0,
             (let w = z.1 in omega arith),
             ap (λ (l : Values). slice_set (l ++ rows_from j done ys (suc v) k) (suc z.0) Z) (one done)
-                ∙ (λ t. (sym (one done) ∙ sym (ap (row_of j done v y k) s) ∙ same ∙ ap (row_of j done' v y k) s ∙ one done') t ++ z.2 t) ∙ ap (λ (l : Values). l ++ rows_from j done' ys (suc v) k) (sym (one done')),
+                ∙ (λ t. (sym (one done) ∙ sym (ap (row_of j done v y k) s) ∙ same ∙ ap (row_of j done' v y k) s ∙ one done') t ++ z.2 t)
+                ∙ ap (λ (l : Values). l ++ rows_from j done' ys (suc v) k) (sym (one done')),
           )
       by (Sensor i) s g r same = r m g
       by (Function b) s g r same = r m g
@@ -160,7 +170,9 @@ module _ (j : JobData) (done done' : ℕ → ℕ) where
   row_at d k l e = get_or-map-range_with_len (λ k. rows_from j d j.graph.vertices 0 k) 0 (reactions j) k k e l (zero-add k)
 
   -- where the rows of one reaction alone change
-  pub rows_by_set : (k : ℕ) → k < reactions j → ((i : ℕ) → (i ≡ k → ⊥) → rows_from j done j.graph.vertices 0 i ≡ rows_from j done' j.graph.vertices 0 i) → (row : Values) → row ≡ rows_from j done' j.graph.vertices 0 k
+  pub rows_by_set : (k : ℕ) → k < reactions j
+      → ((i : ℕ) → (i ≡ k → ⊥) → rows_from j done j.graph.vertices 0 i ≡ rows_from j done' j.graph.vertices 0 i) → (row : Values) → row
+      ≡ rows_from j done' j.graph.vertices 0 k
       → slice_set (rows_by j done) k row ≡ rows_by j done'
   rows_by_set k l o row e = same_lists (slice_set (rows_by j done) k row) (rows_by j done') (length-set (rows_by j done) k row ∙ rows_long done ∙ sym (rows_long done'))
       (λ i d m. by i d (let z = length-set (rows_by j done) k row in let y = rows_long done in omega arith) (cases_eq i k))
@@ -200,4 +212,6 @@ module _ (j : JobData) (done : ℕ → ℕ) (none : (v : ℕ) → done v ≡ 0) 
 
   pub rows_none : rows_by j done ≡ zero_rows j
   rows_none = same_lists (rows_by j done) (zero_rows j) (rows_long j done done done ∙ sym (length-replicate (reactions j) (map zeros (actuator_lens j.graph j.graph.vertices))))
-      (λ i d m. let l : i < reactions j = (let y = rows_long j done done done in omega arith) in row_at j done done done i l d ∙ rows_none_from 0 i j.graph.vertices ∙ sym (get_or-replicate (reactions j) i (map zeros (actuator_lens j.graph j.graph.vertices)) d l))
+      (λ i d m. let l : i < reactions j = (let y = rows_long j done done done in omega arith) in
+      row_at j done done done i l d ∙ rows_none_from 0 i j.graph.vertices
+      ∙ sym (get_or-replicate (reactions j) i (map zeros (actuator_lens j.graph j.graph.vertices)) d l))

@@ -51,12 +51,14 @@ module _ (j : JobData) (h : IsSupplied j) (s n : ℕ) (m : Micro) (o : Here j.pr
   -- there its call stands
   pend : (t : ℕ) → Stateful j h t → Passed t → (o.instr ≡ Call t (calling j.program t).ins (calling j.program t).outs) × (o.at + 1 ≡ elements_in j.program (calling j.program t).ins)
   pend t q e = (
-    same_Some o.instr _ (sym o.stands ∙ ap (slice_get (turn j.program s)) (sym b.0) ∙ ap (λ (v : ℕ). slice_get (turn j.program v) (calling j.program t).at) (sym e.0) ∙ (h.formed.called t q.0 q.1).stands),
+    same_Some o.instr _ (sym o.stands ∙ ap (slice_get (turn j.program s)) (sym b.0)
+        ∙ ap (λ (v : ℕ). slice_get (turn j.program v) (calling j.program t).at) (sym e.0) ∙ (h.formed.called t q.0 q.1).stands),
     let y = b.1 in let z = fed j h t q in omega arith,
   )
     where
       b : ((calling j.program t).at ≡ o.index) × (elements_in j.program (calling j.program t).ins - 1 ≡ o.at)
-      b = sum_same_block (size j.program s) (calling j.program t).at o.index (elements_in j.program (calling j.program t).ins - 1) o.at (let z = last_inner j h t q in let y = ap (λ (v : ℕ). size j.program v (calling j.program t).at) e.0 in omega arith) o.inner
+      b = sum_same_block (size j.program s) (calling j.program t).at o.index (elements_in j.program (calling j.program t).ins - 1) o.at
+          (let z = last_inner j h t q in let y = ap (λ (v : ℕ). size j.program v (calling j.program t).at) e.0 in omega arith) o.inner
           (let y = ap (λ (v : ℕ). begins j.program v (calling j.program t).at) e.0 in let z = o.is in let x = e.1 in omega arith)
 
   done_at : (c t : ℕ) → (calling j.program t).sequence ≡ s → done_by j s c t ≡ made j s (last_load j t) c
@@ -66,18 +68,22 @@ module _ (j : JobData) (h : IsSupplied j) (s n : ℕ) (m : Micro) (o : Here j.pr
   done_kept t q x = by (cases_eq (calling j.program t).sequence s)
     where
       by : ((calling j.program t).sequence ≡ s) ⊎ ((calling j.program t).sequence ≡ s → ⊥) → done_by j s n t ≡ done_by j s (n + 1) t
-      by (inl e) = done_at n t e ∙ sym (made_else j.program s n (last_load j t) o.late o.low (let z = last_low j h t q in let y = ap (λ (v : ℕ). length (code j.program v).turn) e in omega arith) (λ l. x (e, l))) ∙ sym (done_at (n + 1) t e)
+      by (inl e) = done_at n t e ∙ sym
+          (made_else j.program s n (last_load j t) o.late o.low
+          (let z = last_low j h t q in let y = ap (λ (v : ℕ). length (code j.program v).turn) e in omega arith) (λ l. x (e, l))) ∙ sym (done_at (n + 1) t e)
       by (inr e) = rw (ne_eqb (calling j.program t).sequence s e) refl
 
   done_passed : (t : ℕ) → Passed t → (Now t ≡ reaction_at (code j.program s) n) × (Then t ≡ reaction_at (code j.program s) n + 1)
   done_passed t q = let z = made_here j.program s n (last_load j t) o.late o.low q.1 in (done_at n t q.0 ∙ z.0, done_at (n + 1) t q.0 ∙ z.1)
 
   -- before its set half stores, a get half finds the cell of the reaction
-  pub cell_found : (v t : ℕ) (x : Vertex) → slice_get j.graph.vertices v ≡ Some x → is_get x.kind ≡ true → x.twin ≡ Some t → (calling j.program t).sequence ≡ s → place_at (code j.program s) n < last_load j t
+  pub cell_found : (v t : ℕ) (x : Vertex) → slice_get j.graph.vertices v ≡ Some x → is_get x.kind ≡ true → x.twin ≡ Some t
+      → (calling j.program t).sequence ≡ s → place_at (code j.program s) n < last_load j t
       → vector_at (cells_by j (done_by j s n)) (delay_number j.graph.vertices v) ≡ cell_of j.graph (cells_after j.graph j.sensors j.opening (reaction_at (code j.program s) n)) v
   cell_found v t x e k w q l = cells_at j (done_by j s n) j.graph.vertices 0 v x e k
       ∙ (λ i. cell_by j (done_by j s n) (zero-add (delay_number j.graph.vertices v) i) (w i))
-      ∙ ap (λ (c : ℕ). vector_at (cells_after j.graph j.sensors j.opening c) (delay_number j.graph.vertices v)) (done_at n t q ∙ rw (le-ltb (last_load j t) (place_at (code j.program s) n) (omega arith)) (omega arith))
+      ∙ ap (λ (c : ℕ). vector_at (cells_after j.graph j.sensors j.opening c) (delay_number j.graph.vertices v))
+      (done_at n t q ∙ rw (le-ltb (last_load j t) (place_at (code j.program s) n) (omega arith)) (omega arith))
 
   twin_stateful : (u t : ℕ) (x : Vertex) → HasTwin j.graph.vertices u x t → (y : Vertex) × (slice_get j.graph.vertices t ≡ Some y) × (y.kind ≡ Set) × (y.twin ≡ Some u)
   twin_stateful u t x e = let g = get_is x.kind e.1 in let q = set_half j.graph h.valid u x e.0 g.0 g.1 in
@@ -105,7 +111,8 @@ module _ (j : JobData) (h : IsSupplied j) (s n : ℕ) (m : Micro) (o : Here j.pr
   )
 
   -- the last load of operation v
-  module _ (low : reaction_at (code j.program s) n < reactions j) (v : ℕ) (ins outs : List ℕ) (call : o.instr ≡ Call v ins outs) (x : Vertex) (is : slice_get j.graph.vertices v ≡ Some x) (last : o.at + 1 ≡ elements_in j.program ins)
+  module _ (low : reaction_at (code j.program s) n < reactions j) (v : ℕ) (ins outs : List ℕ) (call : o.instr ≡ Call v ins outs)
+      (x : Vertex) (is : slice_get j.graph.vertices v ≡ Some x) (last : o.at + 1 ≡ elements_in j.program ins)
       (carry : Carry j h ins (map (λ d. d.source) x.guards ++ x.ins)) (loaded : List ℤ) (all : loaded ≡ all_joined (map (λ b. buffer_value j b (reaction_at (code j.program s) n)) ins)) where
     abbrev K : ℕ
     K = reaction_at (code j.program s) n
@@ -122,10 +129,16 @@ module _ (j : JobData) (h : IsSupplied j) (s n : ℕ) (m : Micro) (o : Here j.pr
 
     own_ins : ins ≡ (calling j.program v).ins
     own_ins = (same_call v v ins outs (calling j.program v).ins (calling j.program v).outs
-        (sym call ∙ same_Some o.instr _ (sym o.stands ∙ ap (λ (w : ℕ). slice_get (turn j.program w) o.index) own_call.0 ∙ ap (slice_get (turn j.program (calling j.program v).sequence)) own_call.1 ∙ (h.formed.called v x is).stands))).1
+        (sym call ∙ same_Some o.instr _
+        (sym o.stands ∙ ap (λ (w : ℕ). slice_get (turn j.program w) o.index) own_call.0
+        ∙ ap (slice_get (turn j.program (calling j.program v).sequence)) own_call.1 ∙ (h.formed.called v x is).stands))).1
 
     passed : Passed v
-    passed = (sym own_call.0, let z = ap (elements_in j.program) own_ins in let a = o.is in let b = ap (λ (w : ℕ). begins j.program w o.index) own_call.0 in let c = ap (begins j.program (calling j.program v).sequence) own_call.1 in omega arith)
+    passed = (
+      sym own_call.0,
+      let z = ap (elements_in j.program) own_ins in let a = o.is in
+          let b = ap (λ (w : ℕ). begins j.program w o.index) own_call.0 in let c = ap (begins j.program (calling j.program v).sequence) own_call.1 in omega arith,
+    )
 
     only_this : (t : ℕ) → Stateful j h t → Passed t → t ≡ v
     only_this t q e = (same_call t v (calling j.program t).ins (calling j.program t).outs ins outs (sym (pend t q e).0 ∙ call)).0
@@ -140,15 +153,18 @@ module _ (j : JobData) (h : IsSupplied j) (s n : ℕ) (m : Micro) (o : Here j.pr
         delay : delay_of j.graph v x ≡ Some (delay_number j.graph.vertices (get_half j.graph h.valid v x is k).at)
         delay = λ i. delay_by j.graph.vertices v (k i) (g.twin_is i)
 
-        cell : vector_at (own_after j s n).cells (delay_number j.graph.vertices (get_half j.graph h.valid v x is k).at) ≡ cell_of j.graph (cells_after j.graph j.sensors j.opening (reaction_at (code j.program s) n)) (get_half j.graph h.valid v x is k).at
+        cell : vector_at (own_after j s n).cells (delay_number j.graph.vertices (get_half j.graph h.valid v x is k).at)
+            ≡ cell_of j.graph (cells_after j.graph j.sensors j.opening (reaction_at (code j.program s) n)) (get_half j.graph h.valid v x is k).at
         cell = cells_at j (done_by j s n) j.graph.vertices 0 g.at g.half g.stands (ap is_get g.kind)
             ∙ (λ i. cell_by j (done_by j s n) (zero-add (delay_number j.graph.vertices g.at) i) (g.back i))
             ∙ ap (λ (c : ℕ). vector_at (cells_after j.graph j.sensors j.opening c) (delay_number j.graph.vertices g.at)) (done_passed v passed).0
 
         z : Vector
-        z = kept x (vector_at (own_after j s n).cells (delay_number j.graph.vertices (get_half j.graph h.valid v x is k).at)) (conditions_in x (vectors_from loaded 0 (lens_in j.graph x))) (inputs_in x (vectors_from loaded 0 (lens_in j.graph x)))
+        z = kept x (vector_at (own_after j s n).cells (delay_number j.graph.vertices (get_half j.graph h.valid v x is k).at))
+            (conditions_in x (vectors_from loaded 0 (lens_in j.graph x))) (inputs_in x (vectors_from loaded 0 (lens_in j.graph x)))
 
-        stored : kept x (vector_at (own_after j s n).cells (delay_number j.graph.vertices (get_half j.graph h.valid v x is k).at)) (conditions_in x (vectors_from loaded 0 (lens_in j.graph x))) (inputs_in x (vectors_from loaded 0 (lens_in j.graph x)))
+        stored : kept x (vector_at (own_after j s n).cells (delay_number j.graph.vertices (get_half j.graph h.valid v x is k).at))
+            (conditions_in x (vectors_from loaded 0 (lens_in j.graph x))) (inputs_in x (vectors_from loaded 0 (lens_in j.graph x)))
             ≡ vector_at (cells_after j.graph j.sensors j.opening (done_by j s (n + 1) v)) (0 + delay_number j.graph.vertices (get_half j.graph h.valid v x is k).at)
         stored = kept_is j h K v x low is ins carry loaded all g.at g.half g.values g.stands g.kind g.back (vector_at (own_after j s n).cells (delay_number j.graph.vertices g.at)) cell
             ∙ (λ i. vector_at (cells_after j.graph j.sensors j.opening (sym ((done_passed v passed).1 ∙ add-one K) i)) (sym (zero-add (delay_number j.graph.vertices g.at)) i))
@@ -159,12 +175,15 @@ module _ (j : JobData) (h : IsSupplied j) (s n : ℕ) (m : Micro) (o : Here j.pr
 
     other_cells : (x.kind ≡ Set → ⊥) → cells_left j.graph v x (vectors_from loaded 0 (lens_in j.graph x)) (own_after j s n).cells ≡ (own_after j s (n + 1)).cells
     other_cells k = cells_other j.graph v x V (own_after j s n).cells k
-        ∙ cells_kept (λ u t y e q. let c = only_this t (stateful_set u t y e) q in let d = twin_stateful u t y e in k (ap (λ (i : Vertex). i.kind) (same_Some x d.0 (sym is ∙ ap (slice_get j.graph.vertices) (sym c) ∙ d.1)) ∙ d.2))
+        ∙ cells_kept (λ u t y e q. let c = only_this t (stateful_set u t y e) q in let d = twin_stateful u t y e in
+        k (ap (λ (i : Vertex). i.kind) (same_Some x d.0 (sym is ∙ ap (slice_get j.graph.vertices) (sym c) ∙ d.1)) ∙ d.2))
 
     pub computed_cells : cells_left j.graph v x (vectors_from loaded 0 (lens_in j.graph x)) (own_after j s n).cells ≡ (own_after j s (n + 1)).cells
     computed_cells = ⊎_elim set_cells other_cells (set_or x.kind)
 
-    actuator_rows : (a : ℕ) → x.kind ≡ Actuator a → rows_left j.graph x (reaction_at (code j.program s) n) (vectors_from loaded 0 (lens_in j.graph x)) (own_after j s n).rows ≡ (own_after j s (n + 1)).rows
+    actuator_rows : (a : ℕ) → x.kind ≡ Actuator a
+        → rows_left j.graph x (reaction_at (code j.program s) n) (vectors_from loaded 0 (lens_in j.graph x)) (own_after j s n).rows
+        ≡ (own_after j s (n + 1)).rows
     actuator_rows a k = rows_are j h K v x low is ins carry loaded all (own_after j s n).rows
         ∙ (λ i. rows_with (k i) K (sym (act_is j h.valid K v a x is k) i) (own_after j s n).rows)
         ∙ rows_by_set j (done_by j s n) (done_by j s (n + 1)) K low others (slice_set (slice_index_or (own_after j s n).rows K []) a (flat_act j.graph j.sensors j.opening a K))
@@ -185,13 +204,16 @@ module _ (j : JobData) (h : IsSupplied j) (s n : ℕ) (m : Micro) (o : Here j.pr
                 le-ltb i (done_by j s n v) (omega arith) ∙ sym (le-ltb i (done_by j s (n + 1) v) (omega arith))
 
         others : (i : ℕ) → (i ≡ reaction_at (code j.program s) n → ⊥) → rows_from j (done_by j s n) j.graph.vertices 0 i ≡ rows_from j (done_by j s (n + 1)) j.graph.vertices 0 i
-        others i d = rows_same j (done_by j s n) (done_by j s (n + 1)) i j.graph.vertices 0 (λ w t b y e q c. let z : t ≡ w = q ∙ zero-add w in at t b y (ap (slice_get j.graph.vertices) z ∙ e) c (cases_eq t v))
+        others i d = rows_same j (done_by j s n) (done_by j s (n + 1)) i j.graph.vertices 0
+            (λ w t b y e q c. let z : t ≡ w = q ∙ zero-add w in at t b y (ap (slice_get j.graph.vertices) z ∙ e) c (cases_eq t v))
           where
             at : (t b : ℕ) (y : Vertex) → slice_get j.graph.vertices t ≡ Some y → y.kind ≡ Actuator b → (t ≡ v) ⊎ (t ≡ v → ⊥) → SameAt j (done_by j s n) (done_by j s (n + 1)) i t
             at t b y e c (inl q) = subst (λ (w : ℕ). SameAt j (done_by j s n) (done_by j s (n + 1)) i w) (sym q) (other_test i d)
             at t b y e c (inr q) = same_test t i (done_kept t (y, e, inr (b, c)) (λ p. q (only_this t (y, e, inr (b, c)) p)))
 
-    other_rows : ((a : ℕ) → x.kind ≡ Actuator a → ⊥) → rows_left j.graph x (reaction_at (code j.program s) n) (vectors_from loaded 0 (lens_in j.graph x)) (own_after j s n).rows ≡ (own_after j s (n + 1)).rows
+    other_rows : ((a : ℕ) → x.kind ≡ Actuator a → ⊥)
+        → rows_left j.graph x (reaction_at (code j.program s) n) (vectors_from loaded 0 (lens_in j.graph x)) (own_after j s n).rows
+        ≡ (own_after j s (n + 1)).rows
     other_rows k = rows_other x.kind K (vector_at (inputs_in x V) 0) (own_after j s n).rows k
         ∙ rows_kept (λ t a y e c q. let w = only_this t (y, e, inr (a, c)) q in k a (ap (λ (i : Vertex). i.kind) (same_Some x y (sym is ∙ ap (slice_get j.graph.vertices) (sym w) ∙ e)) ∙ c))
 

@@ -56,12 +56,22 @@ module _ (p : Program) where
       by true = inl refl
       by false = inr refl
 
-  pub asks_at : (q s a z : ℕ) (x : Instr) → Stands p s a x → micros_at p s a x ≡ takes (pair_depth p q) z → (slice_get (code p s).turn (begins p s a) ≡ Some (taken z)) ⊎ (slice_get (code p s).turn (begins p s a) ≡ Some (see z))
-  asks_at q s a z x st e = ⊎_elim (λ h. inl (at_first p s a x (taken z) st (ap (λ (l : List Micro). slice_get l 0) e ∙ h))) (λ h. inr (at_first p s a x (see z) st (ap (λ (l : List Micro). slice_get l 0) e ∙ h))) (asks_first q z)
+  pub asks_at : (q s a z : ℕ) (x : Instr) → Stands p s a x → micros_at p s a x ≡ takes (pair_depth p q) z
+      → (slice_get (code p s).turn (begins p s a) ≡ Some (taken z)) ⊎ (slice_get (code p s).turn (begins p s a) ≡ Some (see z))
+  asks_at q s a z x st e = ⊎_elim (λ h. inl (at_first p s a x (taken z) st (ap (λ (l : List Micro). slice_get l 0) e ∙ h)))
+      (λ h. inr (at_first p s a x (see z) st (ap (λ (l : List Micro). slice_get l 0) e ∙ h))) (asks_first q z)
 
   take_from : (x t a r : ℕ) (y : Instr) (d : Micro) → is_take x d ≡ true → FromAt p t a y r d → (q : ℕ) × (r ≡ take_place q) × Takes y x q
-  take_from x t a r y (taken z) e f = (f.0, f.1 ∙ sym (ap (λ (b : Bool). cond b 0 1) (eq-eqb (pair_depth p f.0) 1 f.2)), ⊎_elim (λ u. inl (u.0, sym (eqb-true z x e) ∙ u.1)) (λ u. inr (u.0, sym (eqb-true z x e) ∙ u.1)) f.3)
-  take_from x t a r y (sub z) e f = (f.0, f.1 ∙ sym (ap (λ (b : Bool). cond b 0 1) (ne_eqb (pair_depth p f.0) 1 f.2)), ⊎_elim (λ u. inl (u.0, sym (eqb-true z x e) ∙ u.1)) (λ u. inr (u.0, sym (eqb-true z x e) ∙ u.1)) f.3)
+  take_from x t a r y (taken z) e f = (
+    f.0,
+    f.1 ∙ sym (ap (λ (b : Bool). cond b 0 1) (eq-eqb (pair_depth p f.0) 1 f.2)),
+    ⊎_elim (λ u. inl (u.0, sym (eqb-true z x e) ∙ u.1)) (λ u. inr (u.0, sym (eqb-true z x e) ∙ u.1)) f.3,
+  )
+  take_from x t a r y (sub z) e f = (
+    f.0,
+    f.1 ∙ sym (ap (λ (b : Bool). cond b 0 1) (ne_eqb (pair_depth p f.0) 1 f.2)),
+    ⊎_elim (λ u. inl (u.0, sym (eqb-true z x e) ∙ u.1)) (λ u. inr (u.0, sym (eqb-true z x e) ∙ u.1)) f.3,
+  )
   take_from x t a r y (see z) e f = absurd cc
   take_from x t a r y (signal z) e f = absurd cc
   take_from x t a r y (await m i b) e f = absurd cc
@@ -86,7 +96,8 @@ module _ (p : Program) where
   abbrev pub ComesFrom : (Micro → Bool) → Instr → ℕ → Type 0
   ComesFrom test x k = (t b r : ℕ) (y : Instr) (d : Micro) → test d ≡ true → FromAt p t b y r d → (r ≡ k) × (y ≡ x)
 
-  pub only_at : (test : Micro → Bool) (s a : ℕ) (x : Instr) (k : ℕ) → IsOnly p s a x → ComesFrom test x k → (t l : ℕ) (d : Micro) → slice_get (code p t).turn l ≡ Some d → test d ≡ true → (t ≡ s) × (l ≡ begins p s a + k)
+  pub only_at : (test : Micro → Bool) (s a : ℕ) (x : Instr) (k : ℕ) → IsOnly p s a x → ComesFrom test x k → (t l : ℕ) (d : Micro)
+      → slice_get (code p t).turn l ≡ Some d → test d ≡ true → (t ≡ s) × (l ≡ begins p s a + k)
   only_at test s a x k o f t l d e h = let r = origin p t l d e in let z = f t r.index r.at r.instr d h r.from in
       let q = o.only t r.index (subst (λ (y : Instr). Stands p t r.index y) z.1 r.stands) in
       (q.0, same_place t s r.index a r.at k l r.is q.0 q.1 z.0)
@@ -260,6 +271,7 @@ module _ (p : Program) (w : Places) (c : Conditions p w) {P : Type 0} (reactions
       full_is = full_is;
       empty_by = signaller_empty q;
       full_by = signaller_full q;
-      in_writer = let a = one.before_write in let b = one.after_write in let z = earlier p (writer w q) (w.pair q).take_empty (w.pair q).signal_full (take_place p q) 0 (omega arith) empty_within in omega arith;
+      in_writer = let a = one.before_write in let b = one.after_write in
+          let z = earlier p (writer w q) (w.pair q).take_empty (w.pair q).signal_full (take_place p q) 0 (omega arith) empty_within in omega arith;
       in_reader = let z = earlier p (w.pair q).reader (w.pair q).take_full (w.pair q).signal_empty (take_place p q) 0 in_reader full_within in omega arith;
     }

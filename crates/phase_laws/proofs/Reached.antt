@@ -31,7 +31,8 @@ pub own_parts_agree : OwnPartsAgree
 own_parts_agree j f c d s c_many d_many e = record {
   registers = registers (cases_lt s (length j.program.seqs));
   cells = λ v k x is n here. (told_agrees j f c c_many).cells v k x is n ∙ ap (λ (o : Own). slice_index_or o.cells k []) (own_same v here) ∙ sym ((told_agrees j f d d_many).cells v k x is n);
-  rows = λ v a k x is q here. (told_agrees j f c c_many).rows v a k x is q ∙ ap (λ (o : Own). slice_index_or (slice_index_or o.rows k []) a []) (own_same v here) ∙ sym ((told_agrees j f d d_many).rows v a k x is q);
+  rows = λ v a k x is q here. (told_agrees j f c c_many).rows v a k x is q
+      ∙ ap (λ (o : Own). slice_index_or (slice_index_or o.rows k []) a []) (own_same v here) ∙ sym ((told_agrees j f d d_many).rows v a k x is q);
 }
   where
     own_at : (t : ℕ) → t ≡ s → own_after j t (slice_index_or c t 0) ≡ own_after j t (slice_index_or d t 0)
@@ -69,7 +70,8 @@ module _ (j : JobData) (h : IsSupplied j) where
     agrees = told_agrees j formed counts many
 
     -- what the theory finds is what the core finds
-    found : (s : ℕ) → s < length j.program.seqs → (m : MicroStep) (u : Micro) → Matches j.program j.media s m u → laws_of_theory.Finds (system j) (stored_value j) (own_after j) c s u → Finds j counts s m
+    found : (s : ℕ) → s < length j.program.seqs → (m : MicroStep) (u : Micro) → Matches j.program j.media s m u
+        → laws_of_theory.Finds (system j) (stored_value j) (own_after j) c s u → Finds j counts s m
     found s there (Lower x) u k f = subst (λ (n : ℕ). 1 ≤ n) (sym (agrees.semaphores x k.0)) (subst (λ (v : Micro). laws_of_theory.Finds (system j) (stored_value j) (own_after j) c s v) k.1 f)
     found s there (Load x then) u k f = record {
       element = k.1;

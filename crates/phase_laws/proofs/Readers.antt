@@ -103,7 +103,8 @@ module _ (p : Program) (order : List ℕ) (carried : ℕ → Source) (g : Graph)
       here = ap (λ (l : List Instr). slice_get l (writing p (reader p q).buffer).at) (sym (turn_is q e)) ∙ ap (λ (s : ℕ). slice_get (turn p s) (writing p (reader p q).buffer).at) same ∙ one.stands
 
   -- a reading sequence that does not write the buffer has a pair
-  has_pair : (b s a k : ℕ) (x : Instr) → b < length p.buffers → (s ≡ (writing p b).writer → ⊥) → Stands p s a x → ReadsAt x k b → (q : ℕ) × (q < length p.pairs) × ((reader p q).buffer ≡ b) × ((reader p q).sequence ≡ s)
+  has_pair : (b s a k : ℕ) (x : Instr) → b < length p.buffers → (s ≡ (writing p b).writer → ⊥) → Stands p s a x → ReadsAt x k b → (q : ℕ)
+      × (q < length p.pairs) × ((reader p q).buffer ≡ b) × ((reader p q).sequence ≡ s)
   has_pair b s a k x l n st rd = by (slice_get_some p.seqs s (stands_sequence p s a x st))
     where
       by : (y : SeqCode) × (slice_get p.seqs s ≡ Some y) → (q : ℕ) × (q < length p.pairs) × ((reader p q).buffer ≡ b) × ((reader p q).sequence ≡ s)

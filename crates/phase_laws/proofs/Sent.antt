@@ -73,7 +73,8 @@ found_in (q ∷ qs) m t (suc s) b e f u = by (cond (is_on m q.seq.medium) (sent_
   where
     by : (o : Option ℕ) → cond (is_on m q.seq.medium) (sent_in q.turn t) None ≡ o → sent_by qs m t ≡ Some b → sent_by (q ∷ qs) m t ≡ Some b
     by None g r = ap (λ (o : Option ℕ). first_of o (sent_by qs m t)) g ∙ r
-    by (Some c) g r = let z = chosen (is_on m q.seq.medium) (sent_in q.turn t) c g in ap (λ (o : Option ℕ). first_of o (sent_by qs m t)) g ∙ ap (λ (k : ℕ). Some k) (u 0 c (on_is m q.seq.medium z.0) z.1)
+    by (Some c) g r = let z = chosen (is_on m q.seq.medium) (sent_in q.turn t) c g in
+        ap (λ (o : Option ℕ). first_of o (sent_by qs m t)) g ∙ ap (λ (k : ℕ). Some k) (u 0 c (on_is m q.seq.medium z.0) z.1)
 
 abbrev buffer_of : Instr → ℕ
 buffer_of (Send b o) = b
@@ -82,7 +83,8 @@ buffer_of _ = 0
 module _ (p : Program) (w : Places) (c : Conditions p w) {P : Type 0} (reactions : ℕ) (own : Parts P) where
   pub found : (m t : ℕ) → m < c.media → t < transfers p m → sent p m t ≡ Some (w.transfer m t).sent
   found m t a b = found_in p.seqs m t (w.transfer m t).sender (w.transfer m t).sent (c.holds.transferred m t a b).sends.on
-      (sent_at (turn p (w.transfer m t).sender) (w.transfer m t).send_at (w.transfer m t).sent (operator p (w.transfer m t).receiver) t (c.holds.transferred m t a b).sends.stands (c.holds.transferred m t a b).sends.number) only
+      (sent_at (turn p (w.transfer m t).sender) (w.transfer m t).send_at (w.transfer m t).sent (operator p (w.transfer m t).receiver) t
+      (c.holds.transferred m t a b).sends.stands (c.holds.transferred m t a b).sends.number) only
     where
       by : (r d n q : ℕ) → Who p w c reactions own m t r n (Send d q) → d ≡ (w.transfer m t).sent
       by r d n q (sends_it u v x) = ap buffer_of x

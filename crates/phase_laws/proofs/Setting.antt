@@ -40,7 +40,8 @@ pub record AreGuarded (p : Program) (w : Places) : Type 0 where
   pub depth : (q : ℕ) → q < length p.pairs → pair_depth p q ≡ depth_of p (w.pair q).buffer
   pub other : (q : ℕ) → q < length p.pairs → (w.pair q).reader ≢ (w.writing (w.pair q).buffer).writer
   pub some_read : (q : ℕ) → q < length p.pairs → (a : ℕ) × (k : ℕ) × (x : Instr) × Stands p (w.pair q).reader a x × ReadsAt x k (w.pair q).buffer
-  pub paired : (b s a k : ℕ) (x : Instr) → b < length p.buffers → s ≢ (w.writing b).writer → Stands p s a x → ReadsAt x k b → (q : ℕ) × (q < length p.pairs) × ((w.pair q).buffer ≡ b) × ((w.pair q).reader ≡ s)
+  pub paired : (b s a k : ℕ) (x : Instr) → b < length p.buffers → s ≢ (w.writing b).writer → Stands p s a x → ReadsAt x k b → (q : ℕ)
+      × (q < length p.pairs) × ((w.pair q).buffer ≡ b) × ((w.pair q).reader ≡ s)
   pub fits : (q : ℕ) → q < length p.pairs → (w.pair q).front + pair_depth p q ≤ length (prologue p (w.pair q).reader)
   pub opens : (q l : ℕ) → q < length p.pairs → (w.pair q).front ≤ l → l < (w.pair q).front + pair_depth p q → slice_get (prologue p (w.pair q).reader) l ≡ Some (Pre0 q)
   pub opened : (s l : ℕ) (x : Instr) → slice_get (prologue p s) l ≡ Some x

@@ -31,7 +31,8 @@ use Rattle.phase_laws.proofs.Joined.{len_at_is}
 use Rattle.phase_laws.proofs.Lengths.{called_lens}
 
 -- a valid operation with one input reads at least one element
-one_input : (g : Graph) → is_flat g ≡ true → (v : ℕ) (x : Vertex) → slice_get g.vertices v ≡ Some x → (length (lens_of g.vertices x.ins) == 1) ≡ true → (n : ℕ) × (0 < n) × (lens_of g.vertices x.ins ≡ n ∷ [])
+one_input : (g : Graph) → is_flat g ≡ true → (v : ℕ) (x : Vertex) → slice_get g.vertices v ≡ Some x
+    → (length (lens_of g.vertices x.ins) == 1) ≡ true → (n : ℕ) × (0 < n) × (lens_of g.vertices x.ins ≡ n ∷ [])
 one_input g valid v x e one = (slice_index_or (lens_of g.vertices x.ins) 0 0, first (lens_of g.vertices x.ins) (one_is (lens_of g.vertices x.ins) one) long, one_is (lens_of g.vertices x.ins) one)
   where
     long : list_all (nat_le 1) (lens_of g.vertices x.ins) ≡ true
@@ -65,9 +66,12 @@ module _ (j : JobData) (h : IsSupplied j) where
       let lens : map (len_of j.program) (calling j.program t).ins ≡ replicate (length s.0.guards) 1 ++ n.0 ∷ []
       = called_lens j h t s.0 (calling j.program t).ins s.1 (h.formed.called t s.0 s.1).takes ∙ ap (λ (l : List ℕ). replicate (length s.0.guards) 1 ++ l) n.2 in
       let at : len_at j.program (calling j.program t).ins (length s.0.guards) ≡ n.0
-      = len_at_is j.program (calling j.program t).ins (length s.0.guards) ∙ ap (λ (l : List ℕ). slice_index_or l (length s.0.guards) 0) lens ∙ get_or_at (replicate (length s.0.guards) 1) n.0 [] 0 (length s.0.guards) (length-replicate (length s.0.guards) 1) in
+      = len_at_is j.program (calling j.program t).ins (length s.0.guards)
+      ∙ ap (λ (l : List ℕ). slice_index_or l (length s.0.guards) 0) lens
+      ∙ get_or_at (replicate (length s.0.guards) 1) n.0 [] 0 (length s.0.guards) (length-replicate (length s.0.guards) 1) in
       let many : length (calling j.program t).ins ≡ length s.0.guards + 1
-      = sym (length-map (calling j.program t).ins (len_of j.program)) ∙ ap (λ (l : List ℕ). length l) lens ∙ length-append (replicate (length s.0.guards) 1) (n.0 ∷ []) ∙ ap (λ (m : ℕ). m + 1) (length-replicate (length s.0.guards) 1) in
+      = sym (length-map (calling j.program t).ins (len_of j.program)) ∙ ap (λ (l : List ℕ). length l) lens
+      ∙ length-append (replicate (length s.0.guards) 1) (n.0 ∷ []) ∙ ap (λ (m : ℕ). m + 1) (length-replicate (length s.0.guards) 1) in
       let z = member_below (len_at j.program (calling j.program t).ins) (length (calling j.program t).ins) (length s.0.guards) (omega arith) in let p = n.1 in omega arith
 
   -- a call has a micro-step for each element
@@ -76,9 +80,12 @@ module _ (j : JobData) (h : IsSupplied j) where
       let x = length-append (blocks (loads_at j.program ins) (length ins)) (blocks (stores_at j.program outs) (length outs)) in omega arith)
 
   pub last_inner : (t : ℕ) → Stateful t → elements_in j.program (calling j.program t).ins - 1 < size j.program (calling j.program t).sequence (calling j.program t).at
-  last_inner t q = let z = call_size (calling j.program t).sequence (calling j.program t).at t (calling j.program t).ins (calling j.program t).outs (h.formed.called t q.0 q.1).stands in let y = fed t q in omega arith
+  last_inner t q = let z = call_size (calling j.program t).sequence (calling j.program t).at t (calling j.program t).ins
+      (calling j.program t).outs (h.formed.called t q.0 q.1).stands in let y = fed t q in omega arith
 
   pub last_low : (t : ℕ) → Stateful t → last_load j t < length (code j.program (calling j.program t).sequence).turn
-  last_low t q = let z = sum_inside (size j.program (calling j.program t).sequence) (length (turn j.program (calling j.program t).sequence)) (calling j.program t).at (elements_in j.program (calling j.program t).ins - 1)
-      (slice_get_within (turn j.program (calling j.program t).sequence) (calling j.program t).at (Call t (calling j.program t).ins (calling j.program t).outs) (h.formed.called t q.0 q.1).stands) (last_inner t q) in
+  last_low t q = let z = sum_inside (size j.program (calling j.program t).sequence)
+      (length (turn j.program (calling j.program t).sequence)) (calling j.program t).at (elements_in j.program (calling j.program t).ins - 1)
+      (slice_get_within (turn j.program (calling j.program t).sequence) (calling j.program t).at
+      (Call t (calling j.program t).ins (calling j.program t).outs) (h.formed.called t q.0 q.1).stands) (last_inner t q) in
       let y = blocks_length (block j.program (calling j.program t).sequence) (length (turn j.program (calling j.program t).sequence)) in omega arith

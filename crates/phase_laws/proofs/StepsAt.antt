@@ -21,7 +21,28 @@ use Rattle.executive_program.specs.declared.steps.MicroStep.TheVariants.{Take, S
 use Rattle.executive_program.specs.Blocks.{blocks}
 use Rattle.executive_program.specs.Instructions.{is_communication, turn, turn_of, prologue, prologue_of, medium, medium_in, number_or, len_of, pair_depth, communications, len_by}
 use Rattle.executive_program.specs.MicroSteps.{code, size, begins, block_in, takes, micros_of, micros_in, loads_of, stores_of, loads_at, stores_at, load_at, store_at, send_at, receive_at}
-use Rattle.executive_program.specs.Steps.{steps, steps_by, steps_of, steps_in, steps_at, steps_in_list, call_steps, take_steps, on_load, on_store, load_step, store_step, load_steps, store_steps, input_steps, output_steps, send_step, receive_step, len_at, elements_in}
+use Rattle.executive_program.specs.Steps.{
+  steps,
+  steps_by,
+  steps_of,
+  steps_in,
+  steps_at,
+  steps_in_list,
+  call_steps,
+  take_steps,
+  on_load,
+  on_store,
+  load_step,
+  store_step,
+  load_steps,
+  store_steps,
+  input_steps,
+  output_steps,
+  send_step,
+  receive_step,
+  len_at,
+  elements_in,
+}
 use Rattle.phase_laws.proofs.Blocks.{blocks_length, blocks_at, get-append_past, get-append_within, sum_const, sum_inside}
 use Rattle.phase_laws.proofs.Standing.{Here}
 
@@ -112,7 +133,8 @@ module _ (p : Program) where
 
     -- load j of input k
     pub input_step : (k b j : ℕ) → slice_get ins k ≡ Some b → j < len_of p b
-        → slice_get (call_steps p v ins outs) (sum_below (len_at p ins) k + j) ≡ Some (Load (Buffer b j) (on_load v (elements_in p ins) (elements_in p ins + elements_in p outs) (sum_below (len_at p ins) k + j)))
+        → slice_get (call_steps p v ins outs) (sum_below (len_at p ins) k + j)
+        ≡ Some (Load (Buffer b j) (on_load v (elements_in p ins) (elements_in p ins + elements_in p outs) (sum_below (len_at p ins) k + j)))
     input_step k b j e l = get-append_within Ins Outs (sum_below (len_at p ins) k + j) inner
         ∙ ap (λ (n : ℕ). slice_get Ins (n + j)) (sym start) ∙ blocks_at (input_steps p v N M ins) (length ins) k j (slice_get_within ins k b e) within
         ∙ ap (λ (o : Option ℕ). slice_get (load_steps p v N M (sum_below (len_at p ins) k) o) j) e
@@ -124,7 +146,8 @@ module _ (p : Program) where
         within : j < length (input_steps p v (elements_in p ins) (elements_in p ins + elements_in p outs) ins k)
         within = let a = ins_length k in let b = ap (len_by p) e in omega arith
 
-        one : slice_get (blocks (load_step v N M b (sum_below (len_at p ins) k)) (len_of p b)) j ≡ Some (Load (Buffer b j) (on_load v (elements_in p ins) (elements_in p ins + elements_in p outs) (sum_below (len_at p ins) k + j)))
+        one : slice_get (blocks (load_step v N M b (sum_below (len_at p ins) k)) (len_of p b)) j
+            ≡ Some (Load (Buffer b j) (on_load v (elements_in p ins) (elements_in p ins + elements_in p outs) (sum_below (len_at p ins) k + j)))
         one = at_single (λ i. Load (Buffer b i) (on_load v N M (sum_below (len_at p ins) k + i))) (len_of p b) j l
 
         inner : sum_below (len_at p ins) k + j < length (blocks (input_steps p v (elements_in p ins) (elements_in p ins + elements_in p outs) ins) (length ins))
@@ -140,7 +163,9 @@ module _ (p : Program) where
         ∙ ap (λ (o : Option ℕ). slice_get (store_steps p v N M (N + sum_below (len_at p outs) k) o) j) e
         ∙ at_single (λ i. Store (Buffer b i) (on_store v N M (N + sum_below (len_at p outs) k + i))) (len_of p b) j l
       where
-        place : elements_in p ins + sum_below (len_at p outs) k + j ≡ length (blocks (input_steps p v (elements_in p ins) (elements_in p ins + elements_in p outs) ins) (length ins)) + (sum_below (len_at p outs) k + j)
+        place : elements_in p ins + sum_below (len_at p outs) k + j
+            ≡ length (blocks (input_steps p v (elements_in p ins) (elements_in p ins + elements_in p outs) ins) (length ins)) +
+            (sum_below (len_at p outs) k + j)
         place = let a = all_ins in omega arith
 
         start : sum_below (λ i. length (output_steps p v (elements_in p ins) (elements_in p ins + elements_in p outs) outs i)) k ≡ sum_below (len_at p outs) k
@@ -173,7 +198,8 @@ module _ (p : Program) where
   same_size m n t (Suc1 q) = same_takes (pair_depth p q) (2 * q + 1)
   same_size m n t (Pre0 q) = refl
   same_size m n t (Pre1 q) = refl
-  same_size m n t (Call v ins outs) = let a = call_length v ins outs in let b = loads_count ins in let c = stores_count outs in let d = length-append (blocks (loads_at p ins) (length ins)) (blocks (stores_at p outs) (length outs)) in omega arith
+  same_size m n t (Call v ins outs) = let a = call_length v ins outs in let b = loads_count ins in let c = stores_count outs in
+      let d = length-append (blocks (loads_at p ins) (length ins)) (blocks (stores_at p outs) (length outs)) in omega arith
   same_size m n t (Send b q) = let e = same_blocks (send_step m b) (send_at p m t b) (len_of p b) (λ _. refl) in
       let f = length-append (blocks (send_step m b) (len_of p b)) (Advance m ∷ []) in let g = length-append (blocks (send_at p m t b) (len_of p b)) (advance m (2 * t) ∷ []) in omega arith
   same_size m n t (Recv b q) = let e = same_blocks (receive_step m b) (receive_at p m t b) (len_of p b) (λ _. refl) in
@@ -212,7 +238,8 @@ module _ (p : Program) where
     same_place n = λ i. (n - same_prologue i) % same_turn i
 
     -- the micro-step of the core at which the sequence stands
-    pub step_is : (n : ℕ) (c : Micro) (o : Here p s n c) → step_at (steps p s) n ≡ slice_get (steps_of p (number_or 0 (medium p s)) (count_by is_communication (turn p s)) (communications p s o.index) o.instr) o.at
+    pub step_is : (n : ℕ) (c : Micro) (o : Here p s n c) → step_at (steps p s) n
+        ≡ slice_get (steps_of p (number_or 0 (medium p s)) (count_by is_communication (turn p s)) (communications p s o.index) o.instr) o.at
     step_is n c o = late ∙ ap (slice_get (steps p s).turn) (same_place n ∙ o.is) ∙ ap (λ (l : List MicroStep). slice_get l (begins p s o.index + o.at)) (turn_by (slice_get p.seqs s))
         ∙ ap (λ (k : ℕ). slice_get (steps_in_list p (number_or 0 (medium p s)) (turn p s)) (k + o.at)) (sym (same_begins o.index))
         ∙ blocks_at (steps_at p (number_or 0 (medium p s)) (turn p s)) (length (turn p s)) o.index o.at (slice_get_within (turn p s) o.index o.instr o.stands) inner

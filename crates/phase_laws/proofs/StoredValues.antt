@@ -24,15 +24,19 @@ use Rattle.phase_laws.proofs.Programs.{parts_of, conditions_of}
 
 -- element n of buffer b
 stored_buffer : (j : JobData) (b n t : ℕ) → n < len_of j.program b → stored_value j (element_of j.program b n) t ≡ element_at (buffer_value j b t) n
-stored_buffer j b n t l = let e = block_at_is (len_of j.program) (length j.program.buffers) b n (len_inside j.program b n l) l in rw (lt-ltb (element_of j.program b n) (buffer_elements j.program) (element_low j.program b n l))
-    (ap (λ (c : ℕ). element_at (buffer_value j c t) (element_of j.program b n - sum_below (len_of j.program) c)) e ∙ ap (element_at (buffer_value j b t)) (let z : element_of j.program b n - sum_below (len_of j.program) b ≡ n = omega arith in z))
+stored_buffer j b n t l = let e = block_at_is (len_of j.program) (length j.program.buffers) b n (len_inside j.program b n l) l in
+    rw (lt-ltb (element_of j.program b n) (buffer_elements j.program) (element_low j.program b n l))
+    (ap (λ (c : ℕ). element_at (buffer_value j c t) (element_of j.program b n - sum_below (len_of j.program) c)) e
+    ∙ ap (element_at (buffer_value j b t)) (let z : element_of j.program b n - sum_below (len_of j.program) b ≡ n = omega arith in z))
 
 -- in a reaction
 pub buffer_round : (j : JobData) (s n b i : ℕ) → i < len_of j.program b
     → stored_value j (element_of j.program b i) (round_number (system j) s n (element_of j.program b i) 0) ≡ element_at (buffer_value j b (reaction_at (code j.program s) n)) i
 buffer_round j s n b i l = let q : period_at j.program j.media (element_of j.program b i) ≡ 1 = rw (lt-ltb (element_of j.program b i) (buffer_elements j.program) (element_low j.program b i l)) refl in
     ap (λ (c : ℕ). stored_value j (element_of j.program b i) (reaction_at (code j.program s) n * c + 0)) q
-    ∙ ap (stored_value j (element_of j.program b i)) (let y = mul-one (reaction_at (code j.program s) n) in let z : reaction_at (code j.program s) n * 1 + 0 ≡ reaction_at (code j.program s) n = omega arith in z)
+    ∙ ap (stored_value j (element_of j.program b i))
+    (let y = mul-one (reaction_at (code j.program s) n) in
+    let z : reaction_at (code j.program s) n * 1 + 0 ≡ reaction_at (code j.program s) n = omega arith in z)
     ∙ stored_buffer j b i (reaction_at (code j.program s) n) l
 
 module _ (j : JobData) (h : IsSupplied j) where
@@ -58,16 +62,22 @@ module _ (j : JobData) (h : IsSupplied j) where
     stored_wire : (r : ℕ) → stored_value j (wire_of j.program m i) r ≡ wire_value j m i (access j.program m i (transfers j.program m)) r
     stored_wire r = ap (λ (d : Bool). cond d (element_at (buffer_value j (buffer_at j.program j.media (wire_of j.program m i)) r) (number_at j.program j.media (wire_of j.program m i)))
         (wire_value j (wire_at j.program j.media (wire_of j.program m i)) (number_at j.program j.media (wire_of j.program m i)) (period_at j.program j.media (wire_of j.program m i)) r)) high
-        ∙ (λ q. wire_value j (wire_at_is j.program (places j.program) C (reactions j) (parts_of j) m i a long q) (number_at_is j.program (places j.program) C (reactions j) (parts_of j) m i a long q) (period q) r)
+        ∙ (λ q. wire_value j (wire_at_is j.program (places j.program) C (reactions j) (parts_of j) m i a long q)
+        (number_at_is j.program (places j.program) C (reactions j) (parts_of j) m i a long q) (period q) r)
 
     -- element i of the wire of m in transfer t of a reaction
-    wire_is : (k : ℕ) → stored_value j (wire_of j.program m i) (k * access j.program m i (transfers j.program m) + access j.program m i t) ≡ element_at (buffer_value j (transfer j.program m t).sent k) i
+    wire_is : (k : ℕ) → stored_value j (wire_of j.program m i) (k * access j.program m i (transfers j.program m) + access j.program m i t)
+        ≡ element_at (buffer_value j (transfer j.program m t).sent k) i
     wire_is k = stored_wire (k * access j.program m i (transfers j.program m) + access j.program m i t)
-        ∙ ap (λ (q : ℕ). element_at (sent_value j (sent j.program m (block_at (uses j.program m i) (transfers j.program m) q)) ((k * access j.program m i (transfers j.program m) + access j.program m i t) / access j.program m i (transfers j.program m))) i)
+        ∙ ap (λ (q : ℕ). element_at (sent_value j (sent j.program m (block_at (uses j.program m i) (transfers j.program m) q))
+        ((k * access j.program m i (transfers j.program m) + access j.program m i t) / access j.program m i (transfers j.program m))) i)
         (mod-mul-add k (access j.program m i (transfers j.program m)) (access j.program m i t) u.1)
-        ∙ ap (λ (q : ℕ). element_at (sent_value j (sent j.program m (user j.program m i (access j.program m i t))) q) i) (div-mul-add k (access j.program m i (transfers j.program m)) (access j.program m i t) u.1)
+        ∙ ap (λ (q : ℕ). element_at (sent_value j (sent j.program m (user j.program m i (access j.program m i t))) q) i)
+        (div-mul-add k (access j.program m i (transfers j.program m)) (access j.program m i t) u.1)
         ∙ ap (λ (q : ℕ). element_at (sent_value j (sent j.program m q) k) i) u.0
         ∙ ap (λ (o : Option ℕ). element_at (sent_value j o k) i) (found j.program (places j.program) C (reactions j) (parts_of j) m t a b)
 
-    pub wire_round : (s n : ℕ) → stored_value j (wire_of j.program m i) (round_number (system j) s n (wire_of j.program m i) (access j.program m i t)) ≡ element_at (buffer_value j (transfer j.program m t).sent (reaction_at (code j.program s) n)) i
+    pub wire_round : (s n : ℕ) → stored_value j (wire_of j.program m i)
+        (round_number (system j) s n (wire_of j.program m i) (access j.program m i t))
+        ≡ element_at (buffer_value j (transfer j.program m t).sent (reaction_at (code j.program s) n)) i
     wire_round s n = ap (λ (c : ℕ). stored_value j (wire_of j.program m i) (reaction_at (code j.program s) n * c + access j.program m i t)) period ∙ wire_is (reaction_at (code j.program s) n)

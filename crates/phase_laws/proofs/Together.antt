@@ -21,7 +21,8 @@ supplied j f s = record { seqs = f.seqs; order = f.formed.0; formed = f.formed.1
 
 pub have_laws : (j : JobData) → IsSupplied j → HasLaws j
 have_laws j h = let d = are_disciplined j h.seqs h.order h.formed in
-    laws_follow j (record { seqs = h.seqs; formed = (h.order, h.formed); valid = h.valid; opened = h.opened }) (discipline j.program h.order) (record { synchronized = d.0; ordered = d.1; values = compute_their_values j h })
+    laws_follow j (record { seqs = h.seqs; formed = (h.order, h.formed); valid = h.valid; opened = h.opened })
+    (discipline j.program h.order) (record { synchronized = d.0; ordered = d.1; values = compute_their_values j h })
 
 pub jobs_are_supplied : JobsAreSupplied
 jobs_are_supplied j job valid = supplied j (jobs_are_formed j job valid) (λ k h. job.1.1.1 k h ∙ job.1.0.sensed)

@@ -72,5 +72,6 @@ windows_make j h s count fits = record {
   supplied = window_supplied j h s count fits;
   limit = λ e. fewer_meet_none j.program j.graph (reactions (window_job j s count)) (reactions j) (let n = few j h s count fits in omega arith) e;
   acts = window_acts j h s count fits;
-  cells = ap (cells_after j.graph (window s count j.sensors) (cells_after j.graph j.sensors j.opening s)) (few j h s count fits) ∙ cells_there j.graph j.sensors j.opening s count fits count (omega arith);
+  cells = ap (cells_after j.graph (window s count j.sensors) (cells_after j.graph j.sensors j.opening s)) (few j h s count fits)
+      ∙ cells_there j.graph j.sensors j.opening s count fits count (omega arith);
 }

@@ -34,7 +34,8 @@ use Rattle.phase_laws.proofs.Sent.{found}
 module _ (p : Program) where
   stores_access_from : (y i t a r : ℕ) (x : Instr) (d : Micro) → stores_access y i d ≡ true → FromAt p t a x r d
       → StoresBuffer p x r y i ⊎ StoresWire p (MediumAt p t) (communications p t a) x r y i
-  stores_access_from y i t a r x (store z j) e f = let q = and_parts (eqb z y) (eqb j i) e in subst (λ (k : ℕ). StoresBuffer p x r k i ⊎ StoresWire p (MediumAt p t) (communications p t a) x r k i) (eqb-true z y q.0)
+  stores_access_from y i t a r x (store z j) e f = let q = and_parts (eqb z y) (eqb j i) e in
+      subst (λ (k : ℕ). StoresBuffer p x r k i ⊎ StoresWire p (MediumAt p t) (communications p t a) x r k i) (eqb-true z y q.0)
       (subst (λ (k : ℕ). StoresBuffer p x r z k ⊎ StoresWire p (MediumAt p t) (communications p t a) x r z k) (eqb-true j i q.1) f)
   stores_access_from y i t a r x (taken z) e f = absurd cc
   stores_access_from y i t a r x (see z) e f = absurd cc
@@ -115,7 +116,8 @@ module _ (p : Program) (w : Places) (c : Conditions p w) {P : Type 0} (reactions
   -- a transfer is no longer than the wire
   pub wire_holds : (m t : ℕ) → m < c.media → t < transfers p m → transfer_len p m t ≤ wire_len p m
   wire_holds m t a b = let one = (c.holds.transferred m t a b).sends in let e = len_is m t a b in
-      let z = within_wire p p.seqs (w.transfer m t).sender m (len_of p (w.transfer m t).sent) one.on (sent_within p (turn p (w.transfer m t).sender) (w.transfer m t).send_at (w.transfer m t).sent _ one.stands) in omega arith
+      let z = within_wire p p.seqs (w.transfer m t).sender m (len_of p (w.transfer m t).sent) one.on
+      (sent_within p (turn p (w.transfer m t).sender) (w.transfer m t).send_at (w.transfer m t).sent _ one.stands) in omega arith
 
   -- The instruction sends, or it receives: what transfer it is part of.
   pub record Sending (s a b : ℕ) : Type 0 where
@@ -187,7 +189,9 @@ module _ (p : Program) (w : Places) (c : Conditions p w) {P : Type 0} (reactions
             record {
               within = omega arith;
               same = rw (half_even p w c reactions own (MediumAt p s) (communications p s o.index)) k.sequence;
-              early = rw (half_even p w c reactions own (MediumAt p s) (communications p s o.index)) (let e1 = ap (λ (t : ℕ). begins p t o.index) k.sequence in let e2 = ap (λ (t : ℕ). begins p (w.transfer (MediumAt p s) (communications p s o.index)).sender t) k.at in omega arith);
+              early = rw (half_even p w c reactions own (MediumAt p s) (communications p s o.index))
+                  (let e1 = ap (λ (t : ℕ). begins p t o.index) k.sequence in
+                  let e2 = ap (λ (t : ℕ). begins p (w.transfer (MediumAt p s) (communications p s o.index)).sender t) k.at in omega arith);
             },
           ))
       by o n r (receiving b q y z) = let k = receiving_is s o.index b q (subst (λ (x : Instr). Stands p s o.index x) y o.stands) in let u = k.below in let v = at o r in
@@ -196,14 +200,17 @@ module _ (p : Program) (w : Places) (c : Conditions p w) {P : Type 0} (reactions
             record {
               within = omega arith;
               same = rw (half_odd p w c reactions own (MediumAt p s) (communications p s o.index)) k.sequence;
-              early = rw (half_odd p w c reactions own (MediumAt p s) (communications p s o.index)) (let e1 = ap (λ (t : ℕ). begins p t o.index) k.sequence in let e2 = ap (λ (t : ℕ). begins p (w.transfer (MediumAt p s) (communications p s o.index)).receiver t) k.at in omega arith);
+              early = rw (half_odd p w c reactions own (MediumAt p s) (communications p s o.index))
+                  (let e1 = ap (λ (t : ℕ). begins p t o.index) k.sequence in
+                  let e2 = ap (λ (t : ℕ). begins p (w.transfer (MediumAt p s) (communications p s o.index)).receiver t) k.at in omega arith);
             },
           ))
 
   pub sync_wait : (s l m i : ℕ) → slice_get (code p s).turn l ≡ Some (await m i false) → IsMedium W S H m × (0 < i) × (i ≤ W.halves m)
   sync_wait s l m i e = let o = origin p s l (await m i false) e in by o o.from.0 o.from.2
     where
-      by : (o : Origin p s l (await m i false)) → m ≡ MediumAt p s → (b : ℕ) × (q : ℕ) × (o.instr ≡ Sync b q) × (i ≡ 2 * communications p s o.index + 2) → IsMedium W S H m × (0 < i) × (i ≤ 2 * transfers p m)
+      by : (o : Origin p s l (await m i false)) → m ≡ MediumAt p s → (b : ℕ) × (q : ℕ) × (o.instr ≡ Sync b q)
+          × (i ≡ 2 * communications p s o.index + 2) → IsMedium W S H m × (0 < i) × (i ≤ 2 * transfers p m)
       by o n (b, q, y, z) = let k = the_part s o.index o.instr o.stands (ap is_communication y) in let u = k.below in
           subst (λ (x : ℕ). IsMedium W S H x × (0 < i) × (i ≤ 2 * transfers p x)) (sym n)
           (medium_is p w c reactions own (MediumAt p s) k.there (omega arith), omega arith, omega arith)
@@ -218,7 +225,8 @@ module _ (p : Program) (w : Places) (c : Conditions p w) {P : Type 0} (reactions
 
     pub number_at_is : number_at p c.media (wire_of p m j) ≡ j
     number_at_is = let e = ap (sum_below (wire_len p)) wire_at_is in
-        ap (λ (b : Bool). cond b (wire_of p m j - sum_below (len_of p) (buffer_at p c.media (wire_of p m j))) (wire_of p m j - buffer_elements p - sum_below (wire_len p) (wire_at p c.media (wire_of p m j)))) high ∙ (omega arith)
+        ap (λ (b : Bool). cond b (wire_of p m j - sum_below (len_of p) (buffer_at p c.media (wire_of p m j)))
+        (wire_of p m j - buffer_elements p - sum_below (wire_len p) (wire_at p c.media (wire_of p m j)))) high ∙ (omega arith)
 
     depth_is : W.depth (wire_of p m j) ≡ 1
     depth_is = ap (λ (b : Bool). cond b (depth_of p (buffer_at p c.media (wire_of p m j))) 1) high
@@ -240,17 +248,20 @@ module _ (p : Program) (w : Places) (c : Conditions p w) {P : Type 0} (reactions
     same_transfer s a n i a1 a2 a3 e f = (
       sym b.0,
       sym b.1,
-      sym (ap (user p m j) f ∙ ap (λ (k : ℕ). user p k j (access p (MediumAt p s) n (communications p s a))) b.0 ∙ ap (λ (k : ℕ). user p (MediumAt p s) k (access p (MediumAt p s) n (communications p s a))) b.1 ∙ of.0),
+      sym (ap (user p m j) f ∙ ap (λ (k : ℕ). user p k j (access p (MediumAt p s) n (communications p s a))) b.0
+          ∙ ap (λ (k : ℕ). user p (MediumAt p s) k (access p (MediumAt p s) n (communications p s a))) b.1 ∙ of.0),
       let z = of.1 in let y = ap (λ (k : ℕ). access p k j (transfers p k)) b.0 in let x = ap (λ (k : ℕ). access p (MediumAt p s) k (transfers p (MediumAt p s))) b.1 in omega arith,
     )
       where
         b : (m ≡ MediumAt p s) × (j ≡ n)
         b = sum_same_block (wire_len p) m (MediumAt p s) j n long (let z = wire_holds (MediumAt p s) (communications p s a) a1 a2 in omega arith) (omega arith)
 
-        of : (user p (MediumAt p s) n (access p (MediumAt p s) n (communications p s a)) ≡ communications p s a) × (access p (MediumAt p s) n (communications p s a) < access p (MediumAt p s) n (transfers p (MediumAt p s)))
+        of : (user p (MediumAt p s) n (access p (MediumAt p s) n (communications p s a)) ≡ communications p s a)
+            × (access p (MediumAt p s) n (communications p s a) < access p (MediumAt p s) n (transfers p (MediumAt p s)))
         of = user_of p (MediumAt p s) n (communications p s a) a2 a3
 
-    only_store : (i s l a r b o n : ℕ) → Stands p s a (Send b o) → l ≡ begins p s a + r → r ≡ 2 * n + 2 → n < len_of p b → wire_of p m j ≡ wire_of p (MediumAt p s) n → i ≡ access p (MediumAt p s) n (communications p s a)
+    only_store : (i s l a r b o n : ℕ) → Stands p s a (Send b o) → l ≡ begins p s a + r → r ≡ 2 * n + 2 → n < len_of p b → wire_of p m j
+        ≡ wire_of p (MediumAt p s) n → i ≡ access p (MediumAt p s) n (communications p s a)
         → (s ≡ (w.transfer m (user p m j i)).sender) × (l ≡ place_of i) × (i < access p m j (transfers p m))
     only_store i s l a r b o n st e f x y z = let k = sending_is s a b o st in let u = k.len in let q = same_transfer s a n i k.medium_there k.below (omega arith) y z in
         let sq : s ≡ (w.transfer m (user p m j i)).sender = k.sequence ∙ ap (λ (v : ℕ). (w.transfer v (communications p s a)).sender) q.0 ∙ ap (λ (v : ℕ). (w.transfer m v).sender) q.2 in
@@ -277,12 +288,17 @@ module _ (p : Program) (w : Places) (c : Conditions p w) {P : Type 0} (reactions
       wire_len_is = let u = user_is p m j i low in let z = len_is m t there u.below in let y = u.uses_it in omega arith
 
       store_here : slice_get (code p (w.transfer m (user p m j i)).sender).turn (place_of i) ≡ Some (store (wire_of p m j) i)
-      store_here = let u = user_is p m j i low in (at_turn p (w.transfer m t).sender (w.transfer m t).send_at (suc (2 * j + 1)) _ (store (wire_of p m j) i) (c.holds.transferred m t there u.below).sends.stands
-          (in_send p w c reactions own m t there u.below (suc (2 * j + 1)) (store (wire_of p m j) i) (wire_store_stands p m t (w.transfer m t).sent (operator p (w.transfer m t).receiver) j wire_len_is ∙ ap (λ (k : ℕ). Some (store (wire_of p m j) k)) u.number))).0
+      store_here = let u = user_is p m j i low in
+          (at_turn p (w.transfer m t).sender (w.transfer m t).send_at (suc (2 * j + 1)) _ (store (wire_of p m j) i)
+          (c.holds.transferred m t there u.below).sends.stands
+          (in_send p w c reactions own m t there u.below (suc (2 * j + 1)) (store (wire_of p m j) i)
+          (wire_store_stands p m t (w.transfer m t).sent (operator p (w.transfer m t).receiver) j wire_len_is
+          ∙ ap (λ (k : ℕ). Some (store (wire_of p m j) k)) u.number))).0
 
       access_owned : IsOwned W (stores_access (wire_of p m j) i) (writer_of W H m half_of place_of i)
       access_owned = let u = user_is p m j i low in subst (λ (x : Half). IsOwned W (stores_access (wire_of p m j) i) (late x.sequence (place_of i))) (sym (half_even p w c reactions own m t))
-          (owned_late p c.media reactions own (stores_access (wire_of p m j) i) (w.transfer m t).sender (place_of i) (store (wire_of p m j) i) store_here (and_from _ _ (eq-eqb (wire_of p m j) (wire_of p m j) refl) (eq-eqb i i refl))
+          (owned_late p c.media reactions own (stores_access (wire_of p m j) i) (w.transfer m t).sender (place_of i)
+          (store (wire_of p m j) i) store_here (and_from _ _ (eq-eqb (wire_of p m j) (wire_of p m j) refl) (eq-eqb i i refl))
           (stands_sequence p _ _ _ (c.holds.transferred m t there u.below).sends.stands) (λ s l d e k. let q = only_access i s l d e k in (q.0, q.1)) (front_no_access i))
 
     abbrev Stored : Micro → Type 0
@@ -354,7 +370,8 @@ module _ (p : Program) (w : Places) (c : Conditions p w) {P : Type 0} (reactions
       long : f.number < wire_len p (MediumAt p s)
       long = let z = wire_holds (MediumAt p s) (communications p s a) k.medium_there k.below in let u = k.len in let v = f.inside in omega arith
 
-      q : (s ≡ (w.transfer (MediumAt p s) (user p (MediumAt p s) f.number i)).sender) × (l ≡ place_of (MediumAt p s) f.number k.medium_there long i) × (i < access p (MediumAt p s) f.number (transfers p (MediumAt p s)))
+      q : (s ≡ (w.transfer (MediumAt p s) (user p (MediumAt p s) f.number i)).sender)
+          × (l ≡ place_of (MediumAt p s) f.number k.medium_there long i) × (i < access p (MediumAt p s) f.number (transfers p (MediumAt p s)))
       q = only_store (MediumAt p s) f.number k.medium_there long i s l a r f.buffer f.to f.number st' at f.at f.inside refl f.access_is
 
   pub from_wire : (s a r l y i : ℕ) (x : Instr) → Stands p s a x → LoadsWire p (MediumAt p s) (communications p s a) x r y i → l ≡ begins p s a + r → V.IsFromWire W S H s l y i

@@ -47,7 +47,9 @@ module _ (j : JobData) where
     where
       by : (s < length j.program.seqs) ⊎ (length j.program.seqs ≤ s) → count (opening j) s ≤ full j s
       by (inl l) = let e : count (opening j) s ≡ 0 = get_or-replicate (length j.program.seqs) s 0 0 l in omega arith
-      by (inr l) = let e : count (opening j) s ≡ 0 = get_or_past (replicate (length j.program.seqs) 0) s 0 (subst (λ (k : ℕ). k ≤ s) (sym (length-replicate (length j.program.seqs) 0)) l) in omega arith
+      by (inr l) = let e : count (opening j) s
+          ≡ 0 = get_or_past (replicate (length j.program.seqs) 0) s 0
+          (subst (λ (k : ℕ). k ≤ s) (sym (length-replicate (length j.program.seqs) 0)) l) in omega arith
 
   pub all_within : (list : List ℕ) (s : ℕ) → count (run j list) s ≤ full j s
   all_within list s = (run_within list (opening j) (length-replicate (length j.program.seqs) 0, none_made)).1 s

@@ -22,7 +22,7 @@ module _ (j : JobData) where
   abbrev pub all_acts : List Values
   all_acts = map (flat_act_row j.graph j.sensors j.opening) (range_with_len 0 (reactions j))
 
-  -- by sequence
+  -- How many micro-steps each sequence makes in all, by the number of the sequence.
   abbrev pub full_counts : List ℕ
   full_counts = map (full j) (range_with_len 0 (length j.program.seqs))
 

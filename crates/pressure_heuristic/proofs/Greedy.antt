@@ -27,7 +27,8 @@ module _ (t : Task) (before : List Act) (v : ℕ) where
       → IsLeastStand t before v (filter (may_stand t before v) (range_with_len i (n - i))) (Some (lower_stand (record { operator = i; pressure = p }) best))
   stand_yes n i k p best e l may is h =
       subst (λ (xs : List ℕ). IsLeastStand t before v xs (Some (lower_stand (record { operator = i; pressure = p }) best)))
-      (sym (ap (filter (may_stand t before v)) (range_step n i k e l) ∙ (λ j. cond (may j) (i ∷ filter (may_stand t before v) (range_with_len k (n - k))) (filter (may_stand t before v) (range_with_len k (n - k))))))
+      (sym (ap (filter (may_stand t before v)) (range_step n i k e l)
+      ∙ (λ j. cond (may j) (i ∷ filter (may_stand t before v) (range_with_len k (n - k))) (filter (may_stand t before v) (range_with_len k (n - k))))))
       (by best h)
     where
       by : (best : Option Stand) → IsLeastStand t before v (filter (may_stand t before v) (range_with_len k (n - k))) best
@@ -36,7 +37,9 @@ module _ (t : Task) (before : List Act) (v : ℕ) where
       by (Some s) h = two (nat_lt s.pressure p) refl
         where
           two : (b : Bool) → nat_lt s.pressure p ≡ b
-              → (Some (lower (pressure t before v) i (first_least (pressure t before v) (filter (may_stand t before v) (range_with_len k (n - k))))) ≡ Some (cond b s (record { operator = i; pressure = p })).operator)
+              → (Some (lower (pressure t before v) i
+              (first_least (pressure t before v) (filter (may_stand t before v) (range_with_len k (n - k)))))
+              ≡ Some (cond b s (record { operator = i; pressure = p })).operator)
               × ((cond b s (record { operator = i; pressure = p })).pressure ≡ pressure t before v (cond b s (record { operator = i; pressure = p })).operator)
           two true q =
               let r : nat_lt (pressure t before v s.operator) (pressure t before v i) ≡ true = (λ j. nat_lt (sym h.1 j) (sym is j)) ∙ q in
@@ -49,7 +52,8 @@ module _ (t : Task) (before : List Act) (v : ℕ) where
       → IsLeastStand t before v (filter (may_stand t before v) (range_with_len k (n - k))) best → IsLeastStand t before v (filter (may_stand t before v) (range_with_len i (n - i))) best
   stand_no n i k best e l may h =
       subst (λ (xs : List ℕ). IsLeastStand t before v xs best)
-      (sym (ap (filter (may_stand t before v)) (range_step n i k e l) ∙ (λ j. cond (may j) (i ∷ filter (may_stand t before v) (range_with_len k (n - k))) (filter (may_stand t before v) (range_with_len k (n - k)))))) h
+      (sym (ap (filter (may_stand t before v)) (range_step n i k e l)
+      ∙ (λ j. cond (may j) (i ∷ filter (may_stand t before v) (range_with_len k (n - k))) (filter (may_stand t before v) (range_with_len k (n - k)))))) h
 
   pub stand_is : (s : Option Stand) → IsLeastStand t before v (filter (may_stand t before v) (operators t)) s → (operator_of_stand s ≡ best_operator t before v) × (pressure_of s ≡ urgency t before v)
   stand_is None h = (sym h, ap (urgency_on t before v) (sym h))
@@ -190,7 +194,8 @@ module _ (t : Task) (before : List Act) where
       by false = is
 
   -- the first of greatest least pressure, once all had their turn
-  pub leads_last : (vs : List ℕ) (best : Option Choice) → IsBest t before best → first_greatest (urgency t before) (with_best best []) ≡ first_greatest (urgency t before) vs → IsGreatestChoice t before vs best
+  pub leads_last : (vs : List ℕ) (best : Option Choice) → IsBest t before best → first_greatest (urgency t before) (with_best best [])
+      ≡ first_greatest (urgency t before) vs → IsGreatestChoice t before vs best
   leads_last vs None is e = sym e
   leads_last vs (Some c) is e = (sym e, is)
 
@@ -204,7 +209,8 @@ module _ (t : Task) (before : List Act) where
       by None o = is ∙ ap (λ (q : Option ℕ). with_some q None (λ p. Some (decision t before c.op p))) (sym o)
       by (Some s) o = (
         is ∙ ap (λ (q : Option ℕ). with_some q None (λ p. Some (decision t before c.op p))) (sym o),
-        both_true (greatest_passes (urgency t before) (is_candidate t before) (operations t) c.op h.0) (least_passes (pressure t before c.op) (may_stand t before c.op) (operators t) s.operator (sym o)),
+        both_true (greatest_passes (urgency t before) (is_candidate t before) (operations t) c.op h.0)
+            (least_passes (pressure t before c.op) (may_stand t before c.op) (operators t) s.operator (sym o)),
       )
 
 -- what stands among those that pass passes

@@ -38,14 +38,22 @@ module _ (vertices : List Vertex) (table : Table) where
       let value = λ (s : ℕ). least_in table s + before s in
       let z : 0 + i ≡ i = omega arith in
       n ∙ by (list_any (nat_eq v) (depends_on x))
-      ∙ sym (ap (λ (l : List ℕ). greatest (map (λ s. least_in table s + before s) (filter (λ s. list_any (nat_eq v) (needs_of vertices s)) l))) (range_last 0 i ∙ ap (λ (k : ℕ). range_with_len 0 i ++ k ∷ []) z)
+      ∙ sym (ap (λ (l : List ℕ). greatest
+      (map (λ s. least_in table s + before s) (filter (λ s. list_any (nat_eq v) (needs_of vertices s)) l)))
+      (range_last 0 i ∙ ap (λ (k : ℕ). range_with_len 0 i ++ k ∷ []) z)
       ∙ ap (λ (l : List ℕ). greatest (map (λ s. least_in table s + before s) l)) (filter-append (λ s. list_any (nat_eq v) (needs_of vertices s)) (range_with_len 0 i) (i ∷ []))
-      ∙ ap greatest (map-append (λ s. least_in table s + before s) (filter (λ s. list_any (nat_eq v) (needs_of vertices s)) (range_with_len 0 i)) (filter (λ s. list_any (nat_eq v) (needs_of vertices s)) (i ∷ [])))
-      ∙ greatest-append (map (λ s. least_in table s + before s) (filter (λ s. list_any (nat_eq v) (needs_of vertices s)) (range_with_len 0 i))) (map (λ s. least_in table s + before s) (filter (λ s. list_any (nat_eq v) (needs_of vertices s)) (i ∷ [])))
-      ∙ ap (λ (r : Option Vertex). max (so_far vertices table before i v) (greatest (map (λ s. least_in table s + before s) (cond (list_any (nat_eq v) (with_vertex r [] depends_on)) (i ∷ []) [])))) is)
+      ∙ ap greatest (map-append (λ s. least_in table s + before s)
+      (filter (λ s. list_any (nat_eq v) (needs_of vertices s)) (range_with_len 0 i)) (filter (λ s. list_any (nat_eq v) (needs_of vertices s)) (i ∷ [])))
+      ∙ greatest-append (map (λ s. least_in table s + before s)
+      (filter (λ s. list_any (nat_eq v) (needs_of vertices s)) (range_with_len 0 i)))
+      (map (λ s. least_in table s + before s) (filter (λ s. list_any (nat_eq v) (needs_of vertices s)) (i ∷ [])))
+      ∙ ap (λ (r : Option Vertex). max (so_far vertices table before i v)
+      (greatest (map (λ s. least_in table s + before s) (cond (list_any (nat_eq v) (with_vertex r [] depends_on)) (i ∷ []) [])))) is)
     where
       by : (b : Bool) → cond b (max old date) old ≡ max (so_far vertices table before i v) (greatest (map (λ s. least_in table s + before s) (cond b (i ∷ []) [])))
-      by true = (λ j. max (o j) (d j)) ∙ (let e : max (so_far vertices table before i v) (least_in table i + before i) ≡ max (so_far vertices table before i v) (max (least_in table i + before i) 0) = omega arith in e)
+      by true = (λ j. max (o j) (d j))
+          ∙ (let e : max (so_far vertices table before i v) (least_in table i + before i)
+          ≡ max (so_far vertices table before i v) (max (least_in table i + before i) 0) = omega arith in e)
       by false = o ∙ (let e : so_far vertices table before i v ≡ max (so_far vertices table before i v) 0 = omega arith in e)
 
   -- what was before counts below this number alone
@@ -53,7 +61,8 @@ module _ (vertices : List Vertex) (table : Table) where
   so_far_same f g n v h = ap greatest (by 0 n (λ i l. (let e : 0 + i ≡ i = omega arith in ap f e ∙ h i l ∙ ap g (sym e))))
     where
       by : (a m : ℕ) → ((i : ℕ) → i < m → f (a + i) ≡ g (a + i))
-          → map (λ s. least_in table s + f s) (filter (λ s. list_any (nat_eq v) (needs_of vertices s)) (range_with_len a m)) ≡ map (λ s. least_in table s + g s) (filter (λ s. list_any (nat_eq v) (needs_of vertices s)) (range_with_len a m))
+          → map (λ s. least_in table s + f s) (filter (λ s. list_any (nat_eq v) (needs_of vertices s)) (range_with_len a m))
+          ≡ map (λ s. least_in table s + g s) (filter (λ s. list_any (nat_eq v) (needs_of vertices s)) (range_with_len a m))
       by a zero h = refl
       by a (suc m) h =
           let z : a ≡ a + 0 = omega arith in
@@ -61,14 +70,20 @@ module _ (vertices : List Vertex) (table : Table) where
           one (list_any (nat_eq v) (needs_of vertices a)) first (by (a + 1) m (λ i l. (let e : a + 1 + i ≡ a + suc i = omega arith in ap f e ∙ h (suc i) (omega arith) ∙ ap g (sym e))))
         where
           one : (b : Bool) → f a ≡ g a
-              → map (λ s. least_in table s + f s) (filter (λ s. list_any (nat_eq v) (needs_of vertices s)) (range_with_len (a + 1) m)) ≡ map (λ s. least_in table s + g s) (filter (λ s. list_any (nat_eq v) (needs_of vertices s)) (range_with_len (a + 1) m))
-              → map (λ s. least_in table s + f s) (cond b (a ∷ filter (λ s. list_any (nat_eq v) (needs_of vertices s)) (range_with_len (a + 1) m)) (filter (λ s. list_any (nat_eq v) (needs_of vertices s)) (range_with_len (a + 1) m)))
-              ≡ map (λ s. least_in table s + g s) (cond b (a ∷ filter (λ s. list_any (nat_eq v) (needs_of vertices s)) (range_with_len (a + 1) m)) (filter (λ s. list_any (nat_eq v) (needs_of vertices s)) (range_with_len (a + 1) m)))
+              → map (λ s. least_in table s + f s) (filter (λ s. list_any (nat_eq v) (needs_of vertices s)) (range_with_len (a + 1) m))
+              ≡ map (λ s. least_in table s + g s) (filter (λ s. list_any (nat_eq v) (needs_of vertices s)) (range_with_len (a + 1) m))
+              → map (λ s. least_in table s + f s)
+              (cond b (a ∷ filter (λ s. list_any (nat_eq v) (needs_of vertices s)) (range_with_len (a + 1) m))
+              (filter (λ s. list_any (nat_eq v) (needs_of vertices s)) (range_with_len (a + 1) m)))
+              ≡ map (λ s. least_in table s + g s)
+              (cond b (a ∷ filter (λ s. list_any (nat_eq v) (needs_of vertices s)) (range_with_len (a + 1) m))
+              (filter (λ s. list_any (nat_eq v) (needs_of vertices s)) (range_with_len (a + 1) m)))
           one true e rest = λ i. (least_in table a + e i) ∷ rest i
           one false e rest = rest
 
   -- once a round changes nothing, none does
-  pub settled : (k : ℕ) → ((v : ℕ) → v < length vertices → tails_in vertices table k v ≡ tails_in vertices table (suc k) v) → (m : ℕ) (v : ℕ) → v < length vertices → tails_in vertices table (m + k) v ≡ tails_in vertices table k v
+  pub settled : (k : ℕ) → ((v : ℕ) → v < length vertices → tails_in vertices table k v ≡ tails_in vertices table (suc k) v)
+      → (m : ℕ) (v : ℕ) → v < length vertices → tails_in vertices table (m + k) v ≡ tails_in vertices table k v
   settled k h zero v l = ap (λ (n : ℕ). tails_in vertices table n v) (let e : 0 + k ≡ k = omega arith in e)
   settled k h (suc m) v l =
       ap (λ (n : ℕ). tails_in vertices table n v) (let e : suc m + k ≡ suc (m + k) = omega arith in e)
@@ -86,13 +101,15 @@ least_entry f a (suc m) (x ∷ xs) l h =
     let z : a ≡ a + 0 = omega arith in
     λ i. lesser ((ap f z ∙ h 0) i) (least_entry f (a + 1) m xs (omega arith) (λ i. (let e : a + 1 + i ≡ a + suc i = omega arith in ap f e ∙ h (suc i))) i)
 
-pub tails_same : (t : Task) (table : Table) → ((v o : ℕ) → t.ticks v o ≡ entry_in table v o) → ((v : ℕ) → length (row_in table v) ≤ length t.archi.operators) → (n v : ℕ) → tails_in t.graph.vertices table n v ≡ tail_within t n v
+pub tails_same : (t : Task) (table : Table) → ((v o : ℕ) → t.ticks v o ≡ entry_in table v o)
+    → ((v : ℕ) → length (row_in table v) ≤ length t.archi.operators) → (n v : ℕ) → tails_in t.graph.vertices table n v ≡ tail_within t n v
 tails_same t table ticks rows zero v = refl
 tails_same t table ticks rows (suc n) v = ap greatest (by (dependents t v) (λ s. tails_same t table ticks rows n s))
   where
     least_same : (s : ℕ) → least_in table s ≡ least t s
     least_same s = ap ticks_in (sym (least_entry (t.ticks s) 0 (length t.archi.operators) (row_in table s) (rows s) (λ i. (let e : 0 + i ≡ i = omega arith in ap (t.ticks s) e ∙ ticks s i))))
 
-    by : (ss : List ℕ) → ((s : ℕ) → tails_in t.graph.vertices table n s ≡ tail_within t n s) → map (λ s. least_in table s + tails_in t.graph.vertices table n s) ss ≡ map (λ s. least t s + tail_within t n s) ss
+    by : (ss : List ℕ) → ((s : ℕ) → tails_in t.graph.vertices table n s ≡ tail_within t n s)
+        → map (λ s. least_in table s + tails_in t.graph.vertices table n s) ss ≡ map (λ s. least t s + tail_within t n s) ss
     by [] h = refl
     by (s ∷ ss) h = λ i. (least_same s i + h s i) ∷ by ss h i

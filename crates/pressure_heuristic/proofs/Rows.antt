@@ -10,7 +10,33 @@ use Rattle.schedule.specs.declared.decision.Schedule.{Schedule}
 use Rattle.schedule.specs.Acts.{Act, acts_of}
 use Rattle.schedule.specs.Tight.{is_tight}
 use Rattle.schedule.specs.Valid.{is_valid}
-use Rattle.schedule.proofs.Examples.{source, medium, archi, entry, carried, placed, schedule, plain_graph, plain_archi, plain_schedule, bus_graph, bus_archi, bus_schedule, bus_ticks, relay_archi, relay_schedule, multi_graph, multi_archi, multi_schedule, multi_ticks, operation, speed_graph, speed_archi, speed_ticks, speed_schedule}
+use Rattle.schedule.proofs.Examples.{
+  source,
+  medium,
+  archi,
+  entry,
+  carried,
+  placed,
+  schedule,
+  plain_graph,
+  plain_archi,
+  plain_schedule,
+  bus_graph,
+  bus_archi,
+  bus_schedule,
+  bus_ticks,
+  relay_archi,
+  relay_schedule,
+  multi_graph,
+  multi_archi,
+  multi_schedule,
+  multi_ticks,
+  operation,
+  speed_graph,
+  speed_archi,
+  speed_ticks,
+  speed_schedule,
+}
 use Rattle.comm_routing.specs.Task.{Task}
 use Rattle.comm_routing.specs.Placing.{arrival}
 use Rattle.pressure_heuristic.specs.Pressure.{candidates, tail, pressure_run}
@@ -58,7 +84,8 @@ bus_begun = acts_of (placed 0 0 0 1 [] ∷ placed 1 0 1 11 [] ∷ [])
 bus_arrivals : (candidates bus_task bus_begun ≡ 2 ∷ 3 ∷ []) × (arrival bus_task bus_begun 2 0 ≡ 1) × (arrival bus_task bus_begun 2 1 ≡ 3) × (arrival bus_task bus_begun 3 0 ≡ 11)
 bus_arrivals = (refl, refl, refl, refl)
 
-relay_run : pressure_run (task plain_graph relay_archi (([] ∷ (over 0 1 ∷ []) ∷ (over 0 1 ∷ over 1 2 ∷ []) ∷ []) ∷ []) (entry ((Some 1 ∷ None ∷ None ∷ []) ∷ (None ∷ None ∷ Some 1 ∷ []) ∷ []))) ≡ relay_schedule
+relay_run : pressure_run (task plain_graph relay_archi (([] ∷ (over 0 1 ∷ []) ∷ (over 0 1 ∷ over 1 2 ∷ []) ∷ []) ∷ [])
+    (entry ((Some 1 ∷ None ∷ None ∷ []) ∷ (None ∷ None ∷ Some 1 ∷ []) ∷ []))) ≡ relay_schedule
 relay_run = refl
 
 relay_tight : is_tight plain_graph relay_schedule ≡ true

@@ -29,14 +29,17 @@ stopped t zero ds e = refl
 stopped t (suc m) ds e = ap (λ (o : Option Decision). with_some o ds (λ d. run_after t m (ds ++ d ∷ []))) e
 
 -- where no choice is left, or no step, the run is what was decided
-pub run_ends : (t u : Task) (m ops : ℕ) (ds : List Decision) (s : Schedule) → t ≡ u → ops ≡ length u.graph.vertices → run_after t m ds ≡ run_after t ops [] → run_after t m ds ≡ ds → s.decisions ≡ ds → s ≡ pressure_run u
+pub run_ends : (t u : Task) (m ops : ℕ) (ds : List Decision) (s : Schedule) → t ≡ u → ops ≡ length u.graph.vertices → run_after t m ds
+    ≡ run_after t ops [] → run_after t m ds ≡ ds → s.decisions ≡ ds → s ≡ pressure_run u
 run_ends t u m ops ds s same count left done is =
     (λ i. record { decisions = (is ∙ sym done ∙ left ∙ (λ j. run_after (same j) (count j) [])) i })
 
-pub ends_without : (t u : Task) (m ops : ℕ) (ds : List Decision) (s : Schedule) → t ≡ u → ops ≡ length u.graph.vertices → run_after t m ds ≡ run_after t ops [] → next t (acts_of ds) ≡ None → s.decisions ≡ ds → s ≡ pressure_run u
+pub ends_without : (t u : Task) (m ops : ℕ) (ds : List Decision) (s : Schedule) → t ≡ u → ops ≡ length u.graph.vertices → run_after t m ds
+    ≡ run_after t ops [] → next t (acts_of ds) ≡ None → s.decisions ≡ ds → s ≡ pressure_run u
 ends_without t u m ops ds s same count left none is = run_ends t u m ops ds s same count left (stopped t m ds none) is
 
-pub ends_after : (t u : Task) (m ops : ℕ) (ds : List Decision) (s : Schedule) → t ≡ u → ops ≡ length u.graph.vertices → run_after t m ds ≡ run_after t ops [] → m ≡ 0 → s.decisions ≡ ds → s ≡ pressure_run u
+pub ends_after : (t u : Task) (m ops : ℕ) (ds : List Decision) (s : Schedule) → t ≡ u → ops ≡ length u.graph.vertices → run_after t m ds
+    ≡ run_after t ops [] → m ≡ 0 → s.decisions ≡ ds → s ≡ pressure_run u
 ends_after t u m ops ds s same count left zero_left is = run_ends t u m ops ds s same count left (ap (λ (n : ℕ). run_after t n ds) zero_left) is
 
 pub run_step : (t : Task) (m k : ℕ) (ds : List Decision) (d : Decision) → m ≡ suc k → next t (acts_of ds) ≡ Some d → run_after t m ds ≡ run_after t k (ds ++ d ∷ [])
@@ -58,7 +61,9 @@ row_short (x ∷ rs) operators zero h = let e = (h 0 x (omega arith)).each in om
 row_short (x ∷ rs) operators (suc v) h = row_short rs operators v (λ k d l. h (suc k) d (omega arith))
 
 -- the tails guide a draft that begins
-pub guide_of : (g : Graph) (a : Architecture) (r : RouteTable) (table : Table) (d : Drafted) → d ≡ record { graph = g; archi = a; routes = r; durations = table; decisions = [] } → length table.rows ≡ length g.vertices → table.operators ≡ length a.operators
+pub guide_of : (g : Graph) (a : Architecture) (r : RouteTable) (table : Table) (d : Drafted) → d
+    ≡ record { graph = g; archi = a; routes = r; durations = table; decisions = [] } → length table.rows ≡ length g.vertices
+    → table.operators ≡ length a.operators
     → All (IsRow table.operators) table.rows → (vs : List Vertex) → vs ≡ g.vertices → (tails : List ℕ) → length tails ≡ length vs → ((v : ℕ) → slice_index_or tails v 0 ≤ 2048000000000)
     → ((v : ℕ) → v < length vs → slice_index_or tails v 0 ≡ tails_in vs table (length vs) v) → IsGuide d table tails
 guide_of g a r table d is rows columns all vs same tails size low are =
@@ -67,7 +72,8 @@ guide_of g a r table d is rows columns all vs same tails size low are =
       tails_are = λ v l.
           let n = ap length same in
           are v (omega arith) ∙ (λ i. tails_in (same i) table (length (same i)) v)
-          ∙ tails_same (task_of (record { graph = g; archi = a; routes = r; durations = table; decisions = [] })) table (λ w o. refl) (λ w. (let s = row_short table.rows table.operators w all in omega arith)) (length g.vertices) v;
+          ∙ tails_same (task_of (record { graph = g; archi = a; routes = r; durations = table; decisions = [] })) table (λ w o. refl)
+          (λ w. (let s = row_short table.rows table.operators w all in omega arith)) (length g.vertices) v;
       size = size ∙ ap length same;
       low = low;
       columns = columns;
@@ -75,7 +81,9 @@ guide_of g a r table d is rows columns all vs same tails size low are =
     })
 
 -- an answer that is the run is valid
-pub valid_run : (g : Graph) (a : Architecture) (r : RouteTable) (table : Table) (d : Drafted) → d ≡ record { graph = g; archi = a; routes = r; durations = table; decisions = [] } → IsSite (record { graph = g; archi = a; routes = r; durations = table; decisions = [] })
+pub valid_run : (g : Graph) (a : Architecture) (r : RouteTable) (table : Table) (d : Drafted) → d
+    ≡ record { graph = g; archi = a; routes = r; durations = table; decisions = [] }
+    → IsSite (record { graph = g; archi = a; routes = r; durations = table; decisions = [] })
     → (answer : Result Schedule OutOfMemory) → IfOk answer (λ s. s ≡ pressure_run (task_of d)) → IfOk answer (λ s. IsTrue (is_valid g a (entry_in table) s))
 valid_run g a r table d is site (Ok s) h =
     let t = task_of (record { graph = g; archi = a; routes = r; durations = table; decisions = [] }) in
@@ -96,7 +104,9 @@ past_zero [] v l = refl
 past_zero (x ∷ xs) zero l = absurd (omega arith)
 past_zero (x ∷ xs) (suc v) l = past_zero xs v (omega arith)
 
-pub dates_low : (old new : List ℕ) (needs : List ℕ) (date bound : ℕ) → length new ≡ length old → ((v : ℕ) → v < length old → slice_index_or new v 0 ≡ raised needs v date (slice_index_or old v 0)) → ((v : ℕ) → slice_index_or old v 0 ≤ bound) → date ≤ bound
+pub dates_low : (old new : List ℕ) (needs : List ℕ) (date bound : ℕ) → length new ≡ length old
+    → ((v : ℕ) → v < length old → slice_index_or new v 0 ≡ raised needs v date (slice_index_or old v 0))
+    → ((v : ℕ) → slice_index_or old v 0 ≤ bound) → date ≤ bound
     → (v : ℕ) → slice_index_or new v 0 ≤ bound
 dates_low old new needs date bound size is low d v = elim (cases_lt v (length old)) [
   | inl l ↦ (let e = is v l in let r = raised_low needs v date (slice_index_or old v 0) bound d (low v) in omega arith)

@@ -17,7 +17,8 @@ same_where f g test a zero same = refl
 same_where f g test a (suc n) same = by (test a) refl (same_where f g test (a + 1) n (λ s l h. same s (omega arith) h))
   where
     by : (b : Bool) → test a ≡ b → map f (filter test (range_with_len (a + 1) n)) ≡ map g (filter test (range_with_len (a + 1) n))
-        → map f (cond b (a ∷ filter test (range_with_len (a + 1) n)) (filter test (range_with_len (a + 1) n))) ≡ map g (cond b (a ∷ filter test (range_with_len (a + 1) n)) (filter test (range_with_len (a + 1) n)))
+        → map f (cond b (a ∷ filter test (range_with_len (a + 1) n)) (filter test (range_with_len (a + 1) n)))
+        ≡ map g (cond b (a ∷ filter test (range_with_len (a + 1) n)) (filter test (range_with_len (a + 1) n)))
     by true h later = λ i. same a (omega arith) h i ∷ later i
     by false h later = later
 

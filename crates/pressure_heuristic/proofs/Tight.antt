@@ -1,5 +1,38 @@
 -- The pressure run is tight.
-use Rattle.std.proofs.Common.{◌≡◌, ℕ, zero, suc, ◌+◌, ◌≤◌, Bool, true, false, cond, ◌&&◌, ◌||◌, not, nat_eq, List, [], ◌∷◌, ◌++◌, map, length, Option, Some, None, Ok, Err, refl, sym, ap, subst, arith, ◌∙◌, eq-eqb}
+use Rattle.std.proofs.Common.{
+  ◌≡◌,
+  ℕ,
+  zero,
+  suc,
+  ◌+◌,
+  ◌≤◌,
+  Bool,
+  true,
+  false,
+  cond,
+  ◌&&◌,
+  ◌||◌,
+  not,
+  nat_eq,
+  List,
+  [],
+  ◌∷◌,
+  ◌++◌,
+  map,
+  length,
+  Option,
+  Some,
+  None,
+  Ok,
+  Err,
+  refl,
+  sym,
+  ap,
+  subst,
+  arith,
+  ◌∙◌,
+  eq-eqb,
+}
 use Rattle.std.specs.Prelude.{IfOk, IsTrue, Result, slice_get, nat_lt, is_some, max}
 use Rattle.std.specs.List.{list_all, list_any, filter}
 use Rattle.std.specs.Cmp.Derive.{both_true}
@@ -24,7 +57,26 @@ use Rattle.schedule.proofs.Tight.{tight-append}
 use Rattle.comm_routing.specs.Task.{Task}
 use Rattle.comm_routing.specs.Given.{IsTask}
 use Rattle.comm_routing.specs.Draft.{Drafted, IsSite, task_of}
-use Rattle.comm_routing.specs.Placing.{last_end, is_placed, operator_of, makes, holds, held_from, sources, halves, half_end, transfer, along, fetched, fetched_all, transfers, arrival, start, decision, may_stand}
+use Rattle.comm_routing.specs.Placing.{
+  last_end,
+  is_placed,
+  operator_of,
+  makes,
+  holds,
+  held_from,
+  sources,
+  halves,
+  half_end,
+  transfer,
+  along,
+  fetched,
+  fetched_all,
+  transfers,
+  arrival,
+  start,
+  decision,
+  may_stand,
+}
 use Rattle.comm_routing.proofs.Done.{any_more, end_carried}
 use Rattle.comm_routing.proofs.Right.{good, right, with_decision}
 use Rattle.pressure_heuristic.specs.Pressure.{with_some, next, run_after, pressure_run}
@@ -57,7 +109,8 @@ latest_either f g [] = refl
 latest_either f g (x ∷ xs) = by (f x) (g x) (latest_either f g xs)
   where
     by : (a b : Bool) → latest (filter (λ y. f y || g y) xs) ≡ max (latest (filter f xs)) (latest (filter g xs))
-        → latest (cond (a || b) (x ∷ filter (λ y. f y || g y) xs) (filter (λ y. f y || g y) xs)) ≡ max (latest (cond a (x ∷ filter f xs) (filter f xs))) (latest (cond b (x ∷ filter g xs) (filter g xs)))
+        → latest (cond (a || b) (x ∷ filter (λ y. f y || g y) xs) (filter (λ y. f y || g y) xs))
+        ≡ max (latest (cond a (x ∷ filter f xs) (filter f xs))) (latest (cond b (x ∷ filter g xs) (filter g xs)))
     by true true e = omega arith
     by true false e = omega arith
     by false true e = omega arith
@@ -75,7 +128,12 @@ module _ (t : Task) where
   one_more acts x s e l =
       let line = s.lined x in
       let begun : start_of x ≡ max (last_end_or 0 (filter (same_line x) acts)) (latest (filter (reads_from t.graph.vertices x) acts)) = omega arith in
-      record { tight = tight-append t.graph.vertices [] acts (x ∷ []) ∙ both_true s.tight (both_true (eq-eqb (start_of x) (max (last_end_or 0 (filter (same_line x) acts)) (latest (filter (reads_from t.graph.vertices x) acts))) begun) refl); lined = λ z. still z }
+      record {
+        tight = tight-append t.graph.vertices [] acts (x ∷ [])
+            ∙ both_true s.tight (both_true (eq-eqb (start_of x)
+            (max (last_end_or 0 (filter (same_line x) acts)) (latest (filter (reads_from t.graph.vertices x) acts))) begun) refl);
+        lined = λ z. still z;
+      }
     where
       by : (z : Act) (b : Bool) → same_line z x ≡ b
           → last_end_or 0 (filter (same_line z) acts ++ cond b (x ∷ []) []) ≡ latest (filter (same_line z) acts ++ cond b (x ∷ []) [])
@@ -101,7 +159,8 @@ module _ (t : Task) where
   along_tightly acts x from (h ∷ hops) s =
       by (holds t acts (copy h.to x)) (along_tightly acts x h.to hops s) (along_tightly (acts ++ carry (transfer t acts x from h) ∷ []) x h.to hops (carried_tightly acts x from h s))
     where
-      by : (b : Bool) → IsSmooth (acts ++ map carry (along t acts x h.to hops)) → IsSmooth ((acts ++ carry (transfer t acts x from h) ∷ []) ++ map carry (along t (acts ++ carry (transfer t acts x from h) ∷ []) x h.to hops))
+      by : (b : Bool) → IsSmooth (acts ++ map carry (along t acts x h.to hops))
+          → IsSmooth ((acts ++ carry (transfer t acts x from h) ∷ []) ++ map carry (along t (acts ++ carry (transfer t acts x from h) ∷ []) x h.to hops))
           → IsSmooth (acts ++ map carry (cond b (along t acts x h.to hops) (transfer t acts x from h ∷ along t (acts ++ carry (transfer t acts x from h) ∷ []) x h.to hops)))
       by true there over = there
       by false there over = subst IsSmooth (append_assoc acts (carry (transfer t acts x from h) ∷ []) (map carry (along t (acts ++ carry (transfer t acts x from h) ∷ []) x h.to hops))) over
@@ -119,7 +178,8 @@ module _ (t : Task) where
   all_tightly acts p (x ∷ xs) s =
       let cs = fetched t acts p x in
       let ds = fetched_all t (acts ++ map carry cs) p xs in
-      let joined : acts ++ map carry (cs ++ ds) ≡ (acts ++ map carry cs) ++ map carry ds = ap (λ (l : List Act). acts ++ l) (map-append carry cs ds) ∙ sym (append_assoc acts (map carry cs) (map carry ds)) in
+      let joined : acts ++ map carry (cs ++ ds) ≡ (acts ++ map carry cs)
+      ++ map carry ds = ap (λ (l : List Act). acts ++ l) (map-append carry cs ds) ∙ sym (append_assoc acts (map carry cs) (map carry ds)) in
       subst IsSmooth (sym joined) (all_tightly (acts ++ map carry cs) p xs (fetched_tightly acts p x s))
 
   -- what a run reads is made when the last of its sources is held
@@ -133,7 +193,9 @@ module _ (t : Task) where
   once_after : (before acts : List Act) (u : ℕ) → are_right t.graph t.archi t.ticks before acts ≡ true → is_placed before u ≡ true → last_end (runs u) acts ≡ 0
   once_after before [] u g h = refl
   once_after before (carry c ∷ acts) u g h =
-      once_after (before ++ carry c ∷ []) acts u (and_parts (right t before (carry c)) (are_right t.graph t.archi t.ticks (before ++ carry c ∷ []) acts) g).1 (any_more (runs u) before (carry c ∷ []) h)
+      once_after (before ++ carry c ∷ []) acts u
+      (and_parts (right t before (carry c)) (are_right t.graph t.archi t.ticks (before ++ carry c ∷ []) acts) g).1
+      (any_more (runs u) before (carry c ∷ []) h)
   once_after before (run d ∷ acts) u g h = by (nat_eq d.op u) refl (once_after (before ++ run d ∷ []) acts u both.1 (any_more (runs u) before (run d ∷ []) h))
     where
       both : (right t before (run d) ≡ true) × (are_right t.graph t.archi t.ticks (before ++ run d ∷ []) acts ≡ true)
@@ -183,7 +245,8 @@ module _ (t : Task) where
           omega arith
 
   -- a get half on the operator has ended by the operator's last end
-  halves_end : (acts : List Act) (p : ℕ) (us : List ℕ) → good t acts ≡ true → list_all (λ u. nat_eq (operator_of acts u) p) us ≡ true → greatest (map (λ u. last_end (runs u) acts) us) ≤ last_end (is_on p) acts
+  halves_end : (acts : List Act) (p : ℕ) (us : List ℕ) → good t acts ≡ true → list_all (λ u. nat_eq (operator_of acts u) p) us ≡ true
+      → greatest (map (λ u. last_end (runs u) acts) us) ≤ last_end (is_on p) acts
   halves_end acts p [] g h = omega arith
   halves_end acts p (u ∷ us) g h =
       let both = and_parts (nat_eq (operator_of acts u) p) (list_all (λ u. nat_eq (operator_of acts u) p) us) h in
@@ -223,7 +286,9 @@ pub runs_are_tight : RunsAreTight
 runs_are_tight t given = (runs_tightly t given (length t.graph.vertices) [] refl (record { tight = refl; lined = λ z. refl })).tight
 
 -- what is answered is tight, since it is the run
-pub tight_run : (g : Graph) (a : Architecture) (r : RouteTable) (table : Table) (d : Drafted) → d ≡ record { graph = g; archi = a; routes = r; durations = table; decisions = [] } → IsSite (record { graph = g; archi = a; routes = r; durations = table; decisions = [] })
+pub tight_run : (g : Graph) (a : Architecture) (r : RouteTable) (table : Table) (d : Drafted) → d
+    ≡ record { graph = g; archi = a; routes = r; durations = table; decisions = [] }
+    → IsSite (record { graph = g; archi = a; routes = r; durations = table; decisions = [] })
     → (answer : Result Schedule OutOfMemory) → IfOk answer (λ s. s ≡ pressure_run (task_of d)) → IfOk answer (λ s. IsTrue (is_tight g s))
 tight_run g a r table d is site (Ok s) h =
     let t = task_of (record { graph = g; archi = a; routes = r; durations = table; decisions = [] }) in

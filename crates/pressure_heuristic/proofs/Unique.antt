@@ -46,17 +46,26 @@ hops_same (h ∷ a) (g ∷ b) m o =
 
 same_route : (a b : List Hop) → is_less a b ≡ false → is_less b a ≡ false → a ≡ b
 same_route a b h k =
-    let p = or_parts (nat_lt (length a) (length b)) ((length a == length b) && (comes_before (media_of a) (media_of b) || (are_equal (media_of a) (media_of b) && comes_before (operators_of a) (operators_of b)))) h in
-    let q = or_parts (nat_lt (length b) (length a)) ((length b == length a) && (comes_before (media_of b) (media_of a) || (are_equal (media_of b) (media_of a) && comes_before (operators_of b) (operators_of a)))) k in
+    let p = or_parts (nat_lt (length a) (length b))
+    ((length a == length b) && (comes_before (media_of a) (media_of b)
+    || (are_equal (media_of a) (media_of b) && comes_before (operators_of a) (operators_of b)))) h in
+    let q = or_parts (nat_lt (length b) (length a))
+    ((length b == length a) && (comes_before (media_of b) (media_of a)
+    || (are_equal (media_of b) (media_of a) && comes_before (operators_of b) (operators_of a)))) k in
     let l = ltb-false (length a) (length b) p.0 in
     let m = ltb-false (length b) (length a) q.0 in
     let same : length a ≡ length b = omega arith in
     let u = or_parts (comes_before (media_of a) (media_of b)) (are_equal (media_of a) (media_of b) && comes_before (operators_of a) (operators_of b))
-    (after_and (length a == length b) (comes_before (media_of a) (media_of b) || (are_equal (media_of a) (media_of b) && comes_before (operators_of a) (operators_of b))) (eq-eqb (length a) (length b) same) p.1) in
+    (after_and (length a == length b)
+    (comes_before (media_of a) (media_of b) || (are_equal (media_of a) (media_of b) && comes_before (operators_of a) (operators_of b)))
+    (eq-eqb (length a) (length b) same) p.1) in
     let v = or_parts (comes_before (media_of b) (media_of a)) (are_equal (media_of b) (media_of a) && comes_before (operators_of b) (operators_of a))
-    (after_and (length b == length a) (comes_before (media_of b) (media_of a) || (are_equal (media_of b) (media_of a) && comes_before (operators_of b) (operators_of a))) (eq-eqb (length b) (length a) (sym same)) q.1) in
+    (after_and (length b == length a)
+    (comes_before (media_of b) (media_of a) || (are_equal (media_of b) (media_of a) && comes_before (operators_of b) (operators_of a)))
+    (eq-eqb (length b) (length a) (sym same)) q.1) in
     let media = neither (media_of a) (media_of b) u.0 v.0 in
-    let ops = neither (operators_of a) (operators_of b) (after_and (are_equal (media_of a) (media_of b)) (comes_before (operators_of a) (operators_of b)) (equal_self (media_of a) (media_of b) media) u.1)
+    let ops = neither (operators_of a) (operators_of b)
+    (after_and (are_equal (media_of a) (media_of b)) (comes_before (operators_of a) (operators_of b)) (equal_self (media_of a) (media_of b) media) u.1)
     (after_and (are_equal (media_of b) (media_of a)) (comes_before (operators_of b) (operators_of a)) (equal_self (media_of b) (media_of a) (sym media)) v.1) in
     hops_same a b media ops
 
@@ -93,7 +102,8 @@ one_table a r s x y =
     let rows = lists_same r.routes s.routes (x.there ∙ (λ i. ops i * ops i) ∙ sym y.there) (λ i l. each ops i (place_in_rows r.operators r.operators i (let e = x.there in omega arith))) in
     λ i. record { operators = ops i; routes = rows i }
   where
-    each : r.operators ≡ s.operators → (i : ℕ) → (from : ℕ) × (to : ℕ) × (from < r.operators) × (to < r.operators) × (i ≡ from * r.operators + to) → slice_index_or r.routes i [] ≡ slice_index_or s.routes i []
+    each : r.operators ≡ s.operators → (i : ℕ) → (from : ℕ) × (to : ℕ) × (from < r.operators) × (to < r.operators)
+        × (i ≡ from * r.operators + to) → slice_index_or r.routes i [] ≡ slice_index_or s.routes i []
     each ops i p =
         let f = p.2 in
         let t = p.3 in

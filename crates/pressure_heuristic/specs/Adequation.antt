@@ -8,7 +8,7 @@ use Rattle.schedule.specs.declared.decision.Schedule.{Schedule}
 use Rattle.pressure_heuristic.specs.Pressure.{pressure_run}
 use Rattle.pressure_heuristic.specs.Tasks.{task}
 
--- it is the pressure run over the least routes of the architecture
+-- The schedule is the pressure run over the least routes of the architecture.
 abbrev pub IsPressureRun : Graph → Architecture → Table → Schedule → Type 0
 IsPressureRun g a d s = (r : RouteTable) × IsTableOf a r × (s ≡ pressure_run (task g a r d))
 

@@ -74,7 +74,7 @@ module _ (t : Task) where
       with_some (first_greatest (urgency before) (candidates before)) None
       (λ v. with_some (best_operator before v) None (λ p. Some (decision t before v p)))
 
-  -- these decisions, and at most this many more, each chosen after those before it
+  -- The decisions ds, and at most n more, each chosen after those before it.
   abbrev pub run_after : ℕ → List Decision → List Decision
   run_after zero ds = ds
   run_after (suc n) ds = with_some (next (acts_of ds)) ds (λ d. run_after n (ds ++ d ∷ []))

@@ -31,7 +31,8 @@ only_one b port here (Pre1 q) = refl
 only_one b port here (Send c q) = refl
 only_one b port here (Sync q r) = refl
 
-pub once_is : (p : Program) (b writer at port : ℕ) → list_all (λ (m : Mark). nat_eq m.sequence writer && nat_eq m.at at && nat_eq m.port port) (marks_of p Written b) ≡ is_written_once p b writer at port
+pub once_is : (p : Program) (b writer at port : ℕ)
+    → list_all (λ (m : Mark). nat_eq m.sequence writer && nat_eq m.at at && nat_eq m.port port) (marks_of p Written b) ≡ is_written_once p b writer at port
 once_is p b writer at port = all_marks (λ s a k. nat_eq s writer && nat_eq a at && nat_eq k port) b p Written ∙ ap (every p) (λ i s a x. only_one b port (nat_eq s writer && nat_eq a at) x i)
 
 module _ (p : Program) (b : ℕ) where
@@ -54,7 +55,8 @@ module _ (p : Program) (b : ℕ) where
       implying (test x) (on_it s) (λ t.
       ap (is_operator (slice_get p.buffers b)) (operator_is s q i)
       ∙ implied (touches b x) (is_operator (slice_get p.buffers b) q.seq.operator)
-      (all_here (λ x. implies (touches b x) (is_operator (slice_get p.buffers b) q.seq.operator)) q.turn (all_here (λ (q : SeqCode). list_all (λ x. implies (touches b x) (is_operator (slice_get p.buffers b) q.seq.operator)) q.turn) p.seqs h s q i) a x e)
+      (all_here (λ x. implies (touches b x) (is_operator (slice_get p.buffers b) q.seq.operator)) q.turn
+      (all_here (λ (q : SeqCode). list_all (λ x. implies (touches b x) (is_operator (slice_get p.buffers b) q.seq.operator)) q.turn) p.seqs h s q i) a x e)
       (f x t))))
 
   near_both : touched_near (writes b) ≡ true → touched_near (reads b) ≡ true → is_near p b ≡ true
@@ -67,10 +69,12 @@ module _ (p : Program) (b : ℕ) where
         | inr h ↦ implied (reads b x) (on_it s) (at_of (reads b) r s q i a x e) h
       ])))
     where
-      at_of : (test : Instr → Bool) → touched_near test ≡ true → (s : ℕ) (q : SeqCode) → slice_get p.seqs s ≡ Some q → (a : ℕ) (x : Instr) → slice_get q.turn a ≡ Some x → implies (test x) (on_it s) ≡ true
+      at_of : (test : Instr → Bool) → touched_near test ≡ true → (s : ℕ) (q : SeqCode) → slice_get p.seqs s ≡ Some q → (a : ℕ) (x : Instr)
+          → slice_get q.turn a ≡ Some x → implies (test x) (on_it s) ≡ true
       at_of test h s q i a x e = from_zero (λ a x. implies (test x) (on_it s)) q.turn (from_zero (λ s (q : SeqCode). all_at (λ a x. implies (test x) (on_it s)) 0 q.turn) p.seqs h s q i) a x e
 
-  pub near_is : (list_all (λ (m : Mark). is_operator (slice_get p.buffers b) (operator p m.sequence)) (marks_of p Written b) && list_all (λ (m : Mark). is_operator (slice_get p.buffers b) (operator p m.sequence)) (marks_of p Read b)) ≡ is_near p b
+  pub near_is : (list_all (λ (m : Mark). is_operator (slice_get p.buffers b) (operator p m.sequence)) (marks_of p Written b)
+      && list_all (λ (m : Mark). is_operator (slice_get p.buffers b) (operator p m.sequence)) (marks_of p Read b)) ≡ is_near p b
   near_is =
       (λ i. stands_are (λ s a. on_it s) b p Written i && stands_are (λ s a. on_it s) b p Read i)
       ∙ same_tests (touched_near (writes b) && touched_near (reads b)) (is_near p b)
@@ -106,7 +110,8 @@ module _ (p : Program) (b : ℕ) where
   no_write s =
       stands_are (λ t a. not (nat_eq t s)) b p Written
       ∙ same_tests (every p (λ t a x. implies (writes b x) (not (nat_eq t s)))) (list_all (λ x. not (writes b x)) (turn p s))
-      (λ h. all_there (λ x. not (writes b x)) (turn p s) (λ a x e. none_there x (implies (writes b x) (not (nat_eq s s))) refl (every_of p (λ t a x. implies (writes b x) (not (nat_eq t s))) h s a x e)))
+      (λ h. all_there (λ x. not (writes b x)) (turn p s)
+      (λ a x e. none_there x (implies (writes b x) (not (nat_eq s s))) refl (every_of p (λ t a x. implies (writes b x) (not (nat_eq t s))) h s a x e)))
       (λ h. of_every p (λ t a x. implies (writes b x) (not (nat_eq t s))) (λ t a x e. implying (writes b x) (not (nat_eq t s)) (λ w. other (nat_eq t s) (λ k.
       clash (writes b x) w (all_here (λ x. not (writes b x)) (turn p s) h a x (subst (λ (u : ℕ). Stands p u a x) (eqb-true t s k) e))))))
     where
@@ -131,7 +136,10 @@ module _ (p : Program) (b : ℕ) where
       ∙ ap (every p) (λ i s a x. implies (reads b x) (written_in s i))
       ∙ same_tests (every p (λ s a x. implies (reads b x) (list_any (writes b) (turn p s)))) (list_all (λ q. not (waits_for b q)) p.seqs)
       (λ h. all_there (λ q. not (waits_for b q)) p.seqs (λ s q i. waits_not q (λ a x e r.
-      ap (λ (xs : List Instr). list_any (writes b) xs) (sym (ap turn_of i)) ∙ implied (reads b x) (list_any (writes b) (turn p s)) (every_of p (λ s a x. implies (reads b x) (list_any (writes b) (turn p s))) h s a x (ap (λ (xs : List Instr). slice_get xs a) (ap turn_of i) ∙ e)) r)))
+      ap (λ (xs : List Instr). list_any (writes b) xs) (sym (ap turn_of i))
+      ∙ implied (reads b x) (list_any (writes b) (turn p s))
+      (every_of p (λ s a x. implies (reads b x) (list_any (writes b) (turn p s))) h s a x
+      (ap (λ (xs : List Instr). slice_get xs a) (ap turn_of i) ∙ e)) r)))
       (λ h. to_zero (λ s (q : SeqCode). all_at (λ a x. implies (reads b x) (list_any (writes b) (turn p s))) 0 q.turn) p.seqs (λ s q i.
       to_zero (λ a x. implies (reads b x) (list_any (writes b) (turn p s))) q.turn (λ a x e. implying (reads b x) (list_any (writes b) (turn p s)) (λ r.
       ap (λ (xs : List Instr). list_any (writes b) xs) (ap turn_of i) ∙ waits_none q a x e r (all_here (λ q. not (waits_for b q)) p.seqs h s q i)))))

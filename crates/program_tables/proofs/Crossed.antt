@@ -29,37 +29,52 @@ module _ (m : ℕ) (g : ℕ → Bool) (h : SeqCode → Bool) where
     where
       later : (n : ℕ) → first_where (s + 1 + length qs) g (filter (of_medium m) (communicators_from (s + 1) qs)) ≡ s + 1 + n
           → first_where (s + length (q ∷ qs)) g (filter (of_medium m) (communicators_from (s + 1) qs)) ≡ s + (1 + n)
-      later n e = ap (λ (k : ℕ). first_where k g (filter (of_medium m) (communicators_from (s + 1) qs))) (let z : s + length (q ∷ qs) ≡ s + 1 + length qs = omega arith in z) ∙ e ∙ (let z : s + 1 + n ≡ s + (1 + n) = omega arith in z)
+      later n e = ap (λ (k : ℕ). first_where k g (filter (of_medium m) (communicators_from (s + 1) qs)))
+          (let z : s + length (q ∷ qs) ≡ s + 1 + length qs = omega arith in z) ∙ e ∙ (let z : s + 1 + n ≡ s + (1 + n) = omega arith in z)
 
-      by : (o : Option ℕ) → g (s + 0) ≡ h q → first_where (s + 1 + length qs) g (filter (of_medium m) (communicators_from (s + 1) qs)) ≡ s + 1 + position_or_len (λ (q : SeqCode). is_on m q.seq.medium && h q) qs
+      by : (o : Option ℕ) → g (s + 0) ≡ h q → first_where (s + 1 + length qs) g (filter (of_medium m) (communicators_from (s + 1) qs))
+          ≡ s + 1 + position_or_len (λ (q : SeqCode). is_on m q.seq.medium && h q) qs
           → first_where (s + length (q ∷ qs)) g (filter (of_medium m) (joining s o (communicators_from (s + 1) qs)))
           ≡ s + cond (not (is_on m o && h q)) (1 + position_or_len (λ (q : SeqCode). is_on m q.seq.medium && h q) qs) 0
       by None here rest = later (position_or_len (λ (q : SeqCode). is_on m q.seq.medium && h q) qs) rest
       by (Some n) here rest = on (nat_eq n m)
         where
-          two : (u t : Bool) → u ≡ t → cond u s (first_where (s + length (q ∷ qs)) g (filter (of_medium m) (communicators_from (s + 1) qs))) ≡ s + cond (not t) (1 + position_or_len (λ (q : SeqCode). is_on m q.seq.medium && h q) qs) 0
+          two : (u t : Bool) → u ≡ t → cond u s
+              (first_where (s + length (q ∷ qs)) g (filter (of_medium m) (communicators_from (s + 1) qs)))
+              ≡ s + cond (not t) (1 + position_or_len (λ (q : SeqCode). is_on m q.seq.medium && h q) qs) 0
           two true true e = let z : s ≡ s + 0 = omega arith in z
           two false false e = later (position_or_len (λ (q : SeqCode). is_on m q.seq.medium && h q) qs) rest
           two true false e = absurd cc
           two false true e = absurd cc
 
-          on : (b : Bool) → first_where (s + length (q ∷ qs)) g (cond b (record { number = n; sequence = s; at = 0; port = 0 } ∷ filter (of_medium m) (communicators_from (s + 1) qs)) (filter (of_medium m) (communicators_from (s + 1) qs)))
+          on : (b : Bool) → first_where (s + length (q ∷ qs)) g
+              (cond b (record { number = n; sequence = s; at = 0; port = 0 } ∷ filter (of_medium m) (communicators_from (s + 1) qs))
+              (filter (of_medium m) (communicators_from (s + 1) qs)))
               ≡ s + cond (not (b && h q)) (1 + position_or_len (λ (q : SeqCode). is_on m q.seq.medium && h q) qs) 0
           on true = two (g s) (h q) (ap g (let z : s ≡ s + 0 = omega arith in z) ∙ here)
           on false = later (position_or_len (λ (q : SeqCode). is_on m q.seq.medium && h q) qs) rest
 
   pub all_from : (a b : ℕ → Bool) (w : ℕ → SeqCode → Bool) (v : ℕ → Bool) (s : ℕ) (qs : List SeqCode) → ((i : ℕ) (q : SeqCode) → slice_get qs i ≡ Some q → v (s + i) ≡ w (s + i) q)
-      → list_all (λ (x : Mark). implies (a x.sequence && b x.sequence) (v x.sequence)) (filter (of_medium m) (communicators_from s qs)) ≡ all_at (λ s (q : SeqCode). implies (is_on m q.seq.medium && a s && b s) (w s q)) s qs
+      → list_all (λ (x : Mark). implies (a x.sequence && b x.sequence) (v x.sequence)) (filter (of_medium m) (communicators_from s qs))
+      ≡ all_at (λ s (q : SeqCode). implies (is_on m q.seq.medium && a s && b s) (w s q)) s qs
   all_from a b w v s [] f = refl
-  all_from a b w v s (q ∷ qs) f = by q.seq.medium (subst (λ (k : ℕ). v k ≡ w k q) (let z : s + 0 ≡ s = omega arith in z) (f 0 q refl)) (all_from a b w v (s + 1) qs (λ i x e. subst (λ (k : ℕ). v k ≡ w k x) (let z : s + suc i ≡ s + 1 + i = omega arith in z) (f (suc i) x e)))
+  all_from a b w v s (q ∷ qs) f =
+      by q.seq.medium (subst (λ (k : ℕ). v k ≡ w k q) (let z : s + 0 ≡ s = omega arith in z) (f 0 q refl))
+      (all_from a b w v (s + 1) qs (λ i x e. subst (λ (k : ℕ). v k ≡ w k x) (let z : s + suc i ≡ s + 1 + i = omega arith in z) (f (suc i) x e)))
     where
       by : (o : Option ℕ) → v s ≡ w s q
-          → list_all (λ (x : Mark). implies (a x.sequence && b x.sequence) (v x.sequence)) (filter (of_medium m) (communicators_from (s + 1) qs)) ≡ all_at (λ s (q : SeqCode). implies (is_on m q.seq.medium && a s && b s) (w s q)) (s + 1) qs
-          → list_all (λ (x : Mark). implies (a x.sequence && b x.sequence) (v x.sequence)) (filter (of_medium m) (joining s o (communicators_from (s + 1) qs))) ≡ (implies (is_on m o && a s && b s) (w s q) && all_at (λ s (q : SeqCode). implies (is_on m q.seq.medium && a s && b s) (w s q)) (s + 1) qs)
+          → list_all (λ (x : Mark). implies (a x.sequence && b x.sequence) (v x.sequence))
+          (filter (of_medium m) (communicators_from (s + 1) qs))
+          ≡ all_at (λ s (q : SeqCode). implies (is_on m q.seq.medium && a s && b s) (w s q)) (s + 1) qs
+          → list_all (λ (x : Mark). implies (a x.sequence && b x.sequence) (v x.sequence))
+          (filter (of_medium m) (joining s o (communicators_from (s + 1) qs)))
+          ≡ (implies (is_on m o && a s && b s) (w s q) && all_at (λ s (q : SeqCode). implies (is_on m q.seq.medium && a s && b s) (w s q)) (s + 1) qs)
       by None here rest = rest
       by (Some n) here rest = on (nat_eq n m)
         where
-          on : (c : Bool) → list_all (λ (x : Mark). implies (a x.sequence && b x.sequence) (v x.sequence)) (cond c (record { number = n; sequence = s; at = 0; port = 0 } ∷ filter (of_medium m) (communicators_from (s + 1) qs)) (filter (of_medium m) (communicators_from (s + 1) qs)))
+          on : (c : Bool) → list_all (λ (x : Mark). implies (a x.sequence && b x.sequence) (v x.sequence))
+              (cond c (record { number = n; sequence = s; at = 0; port = 0 } ∷ filter (of_medium m) (communicators_from (s + 1) qs))
+              (filter (of_medium m) (communicators_from (s + 1) qs)))
               ≡ (implies (c && a s && b s) (w s q) && all_at (λ s (q : SeqCode). implies (is_on m q.seq.medium && a s && b s) (w s q)) (s + 1) qs)
           on true = λ i. implies (a s && b s) (here i) && rest i
           on false = rest
@@ -74,14 +89,17 @@ module _ (p : Program) (m t : ℕ) where
   pub sender_is : first_where (length p.seqs) (sends_in p t) (communicators_of p m) ≡ sequence_where p (sends_at p m t)
   sender_is =
       ap (λ (n : ℕ). first_where n (sends_in p t) (communicators_of p m)) (sym (zero_more (length p.seqs)))
-      ∙ first_from m (sends_in p t) (λ (q : SeqCode). is_send (slice_get q.turn (communication_at q.turn t))) 0 p.seqs (λ i q e. ap (sends_in p t) (zero_more i) ∙ ap (λ (xs : List Instr). is_send (slice_get xs (communication_at xs t))) (turn_is i q e))
+      ∙ first_from m (sends_in p t) (λ (q : SeqCode). is_send (slice_get q.turn (communication_at q.turn t))) 0 p.seqs
+      (λ i q e. ap (sends_in p t) (zero_more i) ∙ ap (λ (xs : List Instr). is_send (slice_get xs (communication_at xs t))) (turn_is i q e))
       ∙ zero_more (position_or_len (sends_at p m t) p.seqs)
 
   pub receiver_is : first_where (length p.seqs) (receives_in p t) (communicators_of p m) ≡ sequence_where p (receives_at p m t)
   receiver_is =
       ap (λ (n : ℕ). first_where n (receives_in p t) (communicators_of p m)) (sym (zero_more (length p.seqs)))
-      ∙ first_from m (receives_in p t) (λ (q : SeqCode). is_receive (slice_get q.turn (communication_at q.turn t))) 0 p.seqs (λ i q e. ap (receives_in p t) (zero_more i) ∙ ap (λ (xs : List Instr). is_receive (slice_get xs (communication_at xs t))) (turn_is i q e))
+      ∙ first_from m (receives_in p t) (λ (q : SeqCode). is_receive (slice_get q.turn (communication_at q.turn t))) 0 p.seqs
+      (λ i q e. ap (receives_in p t) (zero_more i) ∙ ap (λ (xs : List Instr). is_receive (slice_get xs (communication_at xs t))) (turn_is i q e))
       ∙ zero_more (position_or_len (receives_at p m t) p.seqs)
 
   pub crossing_is : (ms : List Mark) → ms ≡ communicators_of p m → crossing_by p t (first_where (length p.seqs) (sends_in p t) ms) (first_where (length p.seqs) (receives_in p t) ms) ≡ crossing p m t
-  crossing_is ms e = (λ i. crossing_by p t (first_where (length p.seqs) (sends_in p t) (e i)) (first_where (length p.seqs) (receives_in p t) (e i))) ∙ (λ i. crossing_by p t (sender_is i) (receiver_is i))
+  crossing_is ms e = (λ i. crossing_by p t (first_where (length p.seqs) (sends_in p t) (e i))
+      (first_where (length p.seqs) (receives_in p t) (e i))) ∙ (λ i. crossing_by p t (sender_is i) (receiver_is i))

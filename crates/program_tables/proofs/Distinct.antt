@@ -51,14 +51,18 @@ module _ (b : ℕ) (written : List Mark) where
   again : (s : ℕ) (ms ys : List Mark) → AllIn s ms → readings_in b written (Some s) (ms ++ ys) ≡ readings_in b written (Some s) ys
   again s [] ys h = refl
   again s (m ∷ ms) ys h =
-      let P : ℕ → Type 0 = λ t. cond (not (nat_eq s t) && not (writes_in t)) (reading b t ∷ readings_in b written (Some t) (ms ++ ys)) (readings_in b written (Some t) (ms ++ ys)) ≡ readings_in b written (Some s) ys in
-      subst P (sym h.0) (ap (λ (c : Bool). cond (not c && not (writes_in s)) (reading b s ∷ readings_in b written (Some s) (ms ++ ys)) (readings_in b written (Some s) (ms ++ ys))) (eq-eqb s s refl) ∙ again s ms ys h.1)
+      let P : ℕ → Type 0 = λ t. cond (not (nat_eq s t) && not (writes_in t)) (reading b t ∷ readings_in b written (Some t) (ms ++ ys))
+      (readings_in b written (Some t) (ms ++ ys)) ≡ readings_in b written (Some s) ys in
+      subst P (sym h.0) (ap (λ (c : Bool). cond (not c && not (writes_in s)) (reading b s ∷ readings_in b written (Some s) (ms ++ ys))
+      (readings_in b written (Some s) (ms ++ ys))) (eq-eqb s s refl) ∙ again s ms ys h.1)
 
   -- the first read of a sequence that is not the last one
   once : (s : ℕ) (last : Option ℕ) (m : Mark) (ms ys : List Mark) → is_new last s ≡ true → m.sequence ≡ s → AllIn s ms
       → readings_in b written last (m ∷ ms ++ ys) ≡ cond (not (writes_in s)) (reading b s ∷ readings_in b written (Some s) ys) (readings_in b written (Some s) ys)
   once s last m ms ys new e h =
-      let P : ℕ → Type 0 = λ t. cond (is_new last t && not (writes_in t)) (reading b t ∷ readings_in b written (Some t) (ms ++ ys)) (readings_in b written (Some t) (ms ++ ys)) ≡ cond (not (writes_in s)) (reading b s ∷ readings_in b written (Some s) ys) (readings_in b written (Some s) ys) in
+      let P : ℕ → Type 0 = λ t. cond (is_new last t && not (writes_in t)) (reading b t ∷ readings_in b written (Some t) (ms ++ ys))
+      (readings_in b written (Some t) (ms ++ ys))
+      ≡ cond (not (writes_in s)) (reading b s ∷ readings_in b written (Some s) ys) (readings_in b written (Some s) ys) in
       let rest = again s ms ys h in
       subst P (sym e) (ap (λ (c : Bool). cond (c && not (writes_in s)) (reading b s ∷ readings_in b written (Some s) (ms ++ ys)) (readings_in b written (Some s) (ms ++ ys))) new
       ∙ (λ i. cond (not (writes_in s)) (reading b s ∷ rest i) (rest i)))
@@ -98,16 +102,21 @@ module _ (b : ℕ) (written : List Mark) where
       by : (ms : List Mark) → AllIn s ms → IsFirst ms (list_any (names Read b) q.turn) s (0 + position_or_len (names Read b) q.turn) (port_in Read b q.turn)
           → readings_in b written last (filter (of_number b) (marks_from Read (s + 1) qs)) ≡ map reading_of (readers_from (s + 1) qs b)
           → readings_in b written (Some s) (filter (of_number b) (marks_from Read (s + 1) qs)) ≡ map reading_of (readers_from (s + 1) qs b)
-          → readings_in b written last (ms ++ filter (of_number b) (marks_from Read (s + 1) qs)) ≡ map reading_of (cond (waits_for b q) (record { buffer = b; sequence = s } ∷ readers_from (suc s) qs b) (readers_from (suc s) qs b))
+          → readings_in b written last (ms ++ filter (of_number b) (marks_from Read (s + 1) qs))
+          ≡ map reading_of (cond (waits_for b q) (record { buffer = b; sequence = s } ∷ readers_from (suc s) qs b) (readers_from (suc s) qs b))
       by [] all first none some =
           none ∙ ap (λ (k : ℕ). map reading_of (readers_from k qs b)) one
-          ∙ ap (λ (t : Bool). map reading_of (cond (t && not (list_any (writes b) q.turn)) (record { buffer = b; sequence = s } ∷ readers_from (suc s) qs b) (readers_from (suc s) qs b))) (sym first ∙ read_is)
+          ∙ ap (λ (t : Bool). map reading_of
+          (cond (t && not (list_any (writes b) q.turn)) (record { buffer = b; sequence = s } ∷ readers_from (suc s) qs b)
+          (readers_from (suc s) qs b))) (sym first ∙ read_is)
       by (m ∷ ms) all first none some =
           once s last m ms (filter (of_number b) (marks_from Read (s + 1) qs)) (is_fresh last s l) all.0 all.1
           ∙ (λ i. cond (not (here i)) (reading b s ∷ some i) (some i))
           ∙ ap (λ (k : ℕ). cond (not (list_any (writes b) q.turn)) (reading b s ∷ map reading_of (readers_from k qs b)) (map reading_of (readers_from k qs b))) one
           ∙ inside (list_any (writes b) q.turn)
-          ∙ ap (λ (t : Bool). map reading_of (cond (t && not (list_any (writes b) q.turn)) (record { buffer = b; sequence = s } ∷ readers_from (suc s) qs b) (readers_from (suc s) qs b))) (sym first.0 ∙ read_is)
+          ∙ ap (λ (t : Bool). map reading_of
+          (cond (t && not (list_any (writes b) q.turn)) (record { buffer = b; sequence = s } ∷ readers_from (suc s) qs b)
+          (readers_from (suc s) qs b))) (sym first.0 ∙ read_is)
         where
           inside : (t : Bool) → cond (not t) (reading b s ∷ map reading_of (readers_from (suc s) qs b)) (map reading_of (readers_from (suc s) qs b))
               ≡ map reading_of (cond (true && not t) (record { buffer = b; sequence = s } ∷ readers_from (suc s) qs b) (readers_from (suc s) qs b))
@@ -115,10 +124,13 @@ module _ (b : ℕ) (written : List Mark) where
           inside false = refl
 
 pub readings_are : (p : Program) (b : ℕ) → readings_in b (marks_of p Written b) None (marks_of p Read b) ≡ map reading_of (readers_from 0 p.seqs b)
-readings_are p b = from b (marks_of p Written b) 0 p.seqs None tt (λ i q e. ap (λ (s : ℕ). list_any (λ (w : Mark). nat_eq w.sequence s) (marks_of p Written b)) (let z : 0 + i ≡ i = omega arith in z) ∙ written_in p b i ∙ ap (λ (xs : List Instr). list_any (writes b) xs) (ap turn_of e))
+readings_are p b = from b (marks_of p Written b) 0 p.seqs None tt
+    (λ i q e. ap (λ (s : ℕ). list_any (λ (w : Mark). nat_eq w.sequence s) (marks_of p Written b)) (let z : 0 + i ≡ i = omega arith in z)
+    ∙ written_in p b i ∙ ap (λ (xs : List Instr). list_any (writes b) xs) (ap turn_of e))
 
 -- the readings of one buffer more
-pub one_more : (p : Program) (b : ℕ) (old new : List Reading) (ws rs : List Mark) → new ≡ old ++ readings_in b ws None rs → old ≡ map reading_of (blocks (readers_from 0 p.seqs) b) → ws ≡ marks_of p Written b → rs ≡ marks_of p Read b
+pub one_more : (p : Program) (b : ℕ) (old new : List Reading) (ws rs : List Mark) → new ≡ old ++ readings_in b ws None rs → old
+    ≡ map reading_of (blocks (readers_from 0 p.seqs) b) → ws ≡ marks_of p Written b → rs ≡ marks_of p Read b
     → new ≡ map reading_of (blocks (readers_from 0 p.seqs) (b + 1))
 one_more p b old new ws rs e was w r =
     e ∙ (λ i. was i ++ readings_in b (w i) None (r i)) ∙ ap (λ (xs : List Reading). map reading_of (blocks (readers_from 0 p.seqs) b) ++ xs) (readings_are p b)

@@ -39,14 +39,16 @@ module _ (p : Program) (role : Role) (n : ℕ) where
       × (m.port ≡ port_in role n (turn p (sequence_where p has_one)))
   first m ms e =
       let P : List Mark → Type 0 = λ xs. IsFirst xs (list_any (λ (q : SeqCode). list_any (names role n) q.turn) p.seqs) (sequence_where p (λ (q : SeqCode). list_any (names role n) q.turn))
-      (position_or_len (names role n) (turn p (sequence_where p (λ (q : SeqCode). list_any (names role n) q.turn)))) (port_in role n (turn p (sequence_where p (λ (q : SeqCode). list_any (names role n) q.turn)))) in
+      (position_or_len (names role n) (turn p (sequence_where p (λ (q : SeqCode). list_any (names role n) q.turn))))
+      (port_in role n (turn p (sequence_where p (λ (q : SeqCode). list_any (names role n) q.turn)))) in
       let f = subst P e (first_is role n p) in
       (f.1 ∙ same_where, f.2 ∙ same_at, f.3 ∙ ap (λ (s : ℕ). port_in role n (turn p s)) same_where)
 
   none_where : marks_of p role n ≡ [] → sequence_where p has_one ≡ length p.seqs
   none_where e =
       let P : List Mark → Type 0 = λ xs. IsFirst xs (list_any (λ (q : SeqCode). list_any (names role n) q.turn) p.seqs) (sequence_where p (λ (q : SeqCode). list_any (names role n) q.turn))
-      (position_or_len (names role n) (turn p (sequence_where p (λ (q : SeqCode). list_any (names role n) q.turn)))) (port_in role n (turn p (sequence_where p (λ (q : SeqCode). list_any (names role n) q.turn)))) in
+      (position_or_len (names role n) (turn p (sequence_where p (λ (q : SeqCode). list_any (names role n) q.turn))))
+      (port_in role n (turn p (sequence_where p (λ (q : SeqCode). list_any (names role n) q.turn)))) in
       let f = subst P e (first_is role n p) in
       sym same_where ∙ none_found (λ (q : SeqCode). list_any (names role n) q.turn) p.seqs f
 
@@ -86,7 +88,9 @@ module _ (p : Program) (role : Role) (n : ℕ) where
 
 -- as which output the first write of a buffer writes it
 module _ (b : ℕ) where
-  written_port : (xs : List Instr) → position_or_len (λ c. nat_eq c b) (named_in Written (slice_get xs (position_or_len (names Written b) xs))) ≡ output_at b (slice_get xs (position_or_len (names Written b) xs))
+  written_port : (xs : List Instr)
+      → position_or_len (λ c. nat_eq c b) (named_in Written (slice_get xs (position_or_len (names Written b) xs)))
+      ≡ output_at b (slice_get xs (position_or_len (names Written b) xs))
   written_port [] = refl
   written_port (x ∷ xs) = by (names Written b x) refl (written_port xs)
     where
@@ -100,8 +104,12 @@ module _ (b : ℕ) where
       here (Send c q) e = absurd (false≢true e)
       here (Sync c q) e = absurd (false≢true e)
 
-      by : (t : Bool) → names Written b x ≡ t → position_or_len (λ c. nat_eq c b) (named_in Written (slice_get xs (position_or_len (names Written b) xs))) ≡ output_at b (slice_get xs (position_or_len (names Written b) xs))
-          → position_or_len (λ c. nat_eq c b) (named_in Written (slice_get (x ∷ xs) (cond (not t) (1 + position_or_len (names Written b) xs) 0))) ≡ output_at b (slice_get (x ∷ xs) (cond (not t) (1 + position_or_len (names Written b) xs) 0))
+      by : (t : Bool) → names Written b x ≡ t
+          → position_or_len (λ c. nat_eq c b) (named_in Written (slice_get xs (position_or_len (names Written b) xs)))
+          ≡ output_at b (slice_get xs (position_or_len (names Written b) xs))
+          → position_or_len (λ c. nat_eq c b)
+          (named_in Written (slice_get (x ∷ xs) (cond (not t) (1 + position_or_len (names Written b) xs) 0)))
+          ≡ output_at b (slice_get (x ∷ xs) (cond (not t) (1 + position_or_len (names Written b) xs) 0))
       by true e r = here x e
       by false e r =
           let one : 1 + position_or_len (names Written b) xs ≡ suc (position_or_len (names Written b) xs) = omega arith in

@@ -110,7 +110,8 @@ module _ (p : Program) (role : Role) (n : ℕ) where
   -- such an instruction stands at each place
   stands : list_all (λ (m : Mark). passes (test_of role n) (slice_get (turn p m.sequence) m.at)) (marks_of p role n) ≡ true
   stands = stands_are (λ s a. passes (test_of role n) (slice_get (turn p s) a)) n p role
-      ∙ of_every p (λ s a x. implies (test_of role n x) (passes (test_of role n) (slice_get (turn p s) a))) (λ s a x e. implying (test_of role n x) (passes (test_of role n) (slice_get (turn p s) a)) (λ h. ap (passes (test_of role n)) e ∙ h))
+      ∙ of_every p (λ s a x. implies (test_of role n x) (passes (test_of role n) (slice_get (turn p s) a)))
+      (λ s a x e. implying (test_of role n x) (passes (test_of role n) (slice_get (turn p s) a)) (λ h. ap (passes (test_of role n)) e ∙ h))
 
   abbrev first_place : ℕ → ℕ
   first_place s = position_or_len (test_of role n) (turn p s)
@@ -118,8 +119,14 @@ module _ (p : Program) (role : Role) (n : ℕ) where
   first_of : (ms : List Mark) (s : ℕ) → marks_of p role n ≡ ms → lone s ms ≡ true → first_at ms ≡ first_place s
   first_of [] s e h = absurd (false≢true h)
   first_of (m ∷ ms) s e h =
-      let f : IsFirst (m ∷ ms) (list_any (λ q. list_any (names role n) q.turn) p.seqs) (sequence_where p (λ q. list_any (names role n) q.turn)) (position_or_len (names role n) (turn p (sequence_where p (λ q. list_any (names role n) q.turn)))) (port_in role n (turn p (sequence_where p (λ q. list_any (names role n) q.turn)))) =
-      (let P : List Mark → Type 0 = λ ms. IsFirst ms (list_any (λ q. list_any (names role n) q.turn) p.seqs) (sequence_where p (λ q. list_any (names role n) q.turn)) (position_or_len (names role n) (turn p (sequence_where p (λ q. list_any (names role n) q.turn)))) (port_in role n (turn p (sequence_where p (λ q. list_any (names role n) q.turn)))) in subst P e (first_is role n p)) in
+      let f : IsFirst (m ∷ ms) (list_any (λ q. list_any (names role n) q.turn) p.seqs)
+      (sequence_where p (λ q. list_any (names role n) q.turn))
+      (position_or_len (names role n) (turn p (sequence_where p (λ q. list_any (names role n) q.turn))))
+      (port_in role n (turn p (sequence_where p (λ q. list_any (names role n) q.turn)))) =
+      (let P : List Mark → Type 0 = λ ms. IsFirst ms (list_any (λ q. list_any (names role n) q.turn) p.seqs)
+      (sequence_where p (λ q. list_any (names role n) q.turn))
+      (position_or_len (names role n) (turn p (sequence_where p (λ q. list_any (names role n) q.turn))))
+      (port_in role n (turn p (sequence_where p (λ q. list_any (names role n) q.turn)))) in subst P e (first_is role n p)) in
       let at_s = (and_parts (nat_eq m.sequence s) (nat_eq m.at m.at) (and_parts (here s m.at m) (list_all (here s m.at) ms) h).0).0 in
       f.2 ∙ ap (λ (t : ℕ). position_or_len (names role n) (turn p t)) (sym f.1 ∙ eqb-true m.sequence s at_s) ∙ ap (λ (t : Instr → Bool). position_or_len t (turn p s)) (names_are role n)
 
@@ -130,7 +137,9 @@ module _ (p : Program) (role : Role) (n : ℕ) where
   to_only [] s e h = absurd (false≢true h)
   to_only (m ∷ ms) s e h =
       let at_s = (and_parts (nat_eq m.sequence s) (nat_eq m.at m.at) (and_parts (here s m.at m) (list_all (here s m.at) ms) h).0).0 in
-      let one = and_parts (passes (test_of role n) (slice_get (turn p m.sequence) m.at)) (list_all (λ (m : Mark). passes (test_of role n) (slice_get (turn p m.sequence) m.at)) ms) (ap (list_all (λ (m : Mark). passes (test_of role n) (slice_get (turn p m.sequence) m.at))) (sym e) ∙ stands) in
+      let one = and_parts (passes (test_of role n) (slice_get (turn p m.sequence) m.at))
+      (list_all (λ (m : Mark). passes (test_of role n) (slice_get (turn p m.sequence) m.at)) ms)
+      (ap (list_all (λ (m : Mark). passes (test_of role n) (slice_get (turn p m.sequence) m.at))) (sym e) ∙ stands) in
       both_true (ap (λ (t : ℕ). passes (test_of role n) (slice_get (turn p t) m.at)) (sym (eqb-true m.sequence s at_s)) ∙ one.0)
       (sym (stands_are (λ t b. nat_eq t s && nat_eq b m.at) n p role) ∙ ap (list_all (here s m.at)) e ∙ h)
 

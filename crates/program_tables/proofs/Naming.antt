@@ -31,7 +31,8 @@ module _ (f : ℕ → ℕ → ℕ → Bool) (n : ℕ) where
       by true e = ap (λ z. f s a k && z) e
       by false e = e
 
-  kept_in : (role : Role) (s a : ℕ) (xs : List Instr) → list_all test (filter (of_number n) (marks_in role s a xs)) ≡ all_at (λ b x. all_at (λ j c. implies (nat_eq c n) (f s b j)) 0 (named role x)) a xs
+  kept_in : (role : Role) (s a : ℕ) (xs : List Instr) → list_all test (filter (of_number n) (marks_in role s a xs))
+      ≡ all_at (λ b x. all_at (λ j c. implies (nat_eq c n) (f s b j)) 0 (named role x)) a xs
   kept_in role s a [] = refl
   kept_in role s a (x ∷ xs) =
       let one = kept_at s a 0 (named role x) in
@@ -40,7 +41,8 @@ module _ (f : ℕ → ℕ → ℕ → Bool) (n : ℕ) where
       ∙ list_all-append test (filter (of_number n) (marks_at s a 0 (named role x))) (filter (of_number n) (marks_in role s (a + 1) xs))
       ∙ (λ i. one i && rest i)
 
-  kept_from : (role : Role) (s : ℕ) (qs : List SeqCode) → list_all test (filter (of_number n) (marks_from role s qs)) ≡ all_at (λ t (q : SeqCode). all_at (λ b x. all_at (λ j c. implies (nat_eq c n) (f t b j)) 0 (named role x)) 0 q.turn) s qs
+  kept_from : (role : Role) (s : ℕ) (qs : List SeqCode) → list_all test (filter (of_number n) (marks_from role s qs))
+      ≡ all_at (λ t (q : SeqCode). all_at (λ b x. all_at (λ j c. implies (nat_eq c n) (f t b j)) 0 (named role x)) 0 q.turn) s qs
   kept_from role s [] = refl
   kept_from role s (q ∷ qs) =
       let one = kept_in role s 0 q.turn in
@@ -50,7 +52,8 @@ module _ (f : ℕ → ℕ → ℕ → Bool) (n : ℕ) where
       ∙ (λ i. one i && rest i)
 
   -- a test at each place, with the number of the entry
-  pub all_marks : (p : Program) (role : Role) → list_all (λ (m : Mark). f m.sequence m.at m.port) (marks_of p role n) ≡ every p (λ s a x. all_at (λ j c. implies (nat_eq c n) (f s a j)) 0 (named role x))
+  pub all_marks : (p : Program) (role : Role) → list_all (λ (m : Mark). f m.sequence m.at m.port) (marks_of p role n)
+      ≡ every p (λ s a x. all_at (λ j c. implies (nat_eq c n) (f s a j)) 0 (named role x))
   all_marks p role = kept_from role 0 p.seqs
 
 whole : (b : Bool) (n k : ℕ) (ns : List ℕ) → all_at (λ j c. implies (nat_eq c n) b) k ns ≡ implies (list_any (λ c. nat_eq c n) ns) b
@@ -98,7 +101,8 @@ module _ (role : Role) (n : ℕ) where
           → IsFirst (cond b (record { number = c; sequence = s; at = a; port = k } ∷ filter (of_number n) (marks_at s a (k + 1) cs)) (filter (of_number n) (marks_at s a (k + 1) cs)))
           (b || list_any (λ c. nat_eq c n) cs) s a (k + cond (not b) (1 + position_or_len (λ c. nat_eq c n) cs) 0)
       by true h = (refl, refl, refl, omega arith)
-      by false h = moved (filter (of_number n) (marks_at s a (k + 1) cs)) (list_any (λ c. nat_eq c n) cs) s a (k + 1 + position_or_len (λ c. nat_eq c n) cs) s a (k + (1 + position_or_len (λ c. nat_eq c n) cs)) h refl refl (omega arith)
+      by false h = moved (filter (of_number n) (marks_at s a (k + 1) cs)) (list_any (λ c. nat_eq c n) cs) s a
+          (k + 1 + position_or_len (λ c. nat_eq c n) cs) s a (k + (1 + position_or_len (λ c. nat_eq c n) cs)) h refl refl (omega arith)
 
   -- which of the numbers of the first instruction that names it
   abbrev pub port_in : List Instr → ℕ
@@ -111,18 +115,28 @@ module _ (role : Role) (n : ℕ) where
       both : IsFirst (filter (of_number n) (marks_in role s (a + 1) xs)) (list_any (names role n) xs) s (a + 1 + position_or_len (names role n) xs) (port_in xs)
           → IsFirst (filter (of_number n) (marks_at s a 0 (named role x)) ++ filter (of_number n) (marks_in role s (a + 1) xs)) (names role n x || list_any (names role n) xs)
           (cond (names role n x) s s) (cond (names role n x) a (a + 1 + position_or_len (names role n) xs)) (cond (names role n x) (0 + place (named role x)) (port_in xs))
-      both rest = joined (filter (of_number n) (marks_at s a 0 (named role x))) (filter (of_number n) (marks_in role s (a + 1) xs)) (names role n x) (list_any (names role n) xs) s a (0 + place (named role x)) s (a + 1 + position_or_len (names role n) xs) (port_in xs)
+      both rest = joined (filter (of_number n) (marks_at s a 0 (named role x))) (filter (of_number n) (marks_in role s (a + 1) xs))
+          (names role n x) (list_any (names role n) xs) s a (0 + place (named role x)) s (a + 1 + position_or_len (names role n) xs) (port_in xs)
           (first_at s a 0 (named role x)) rest
 
-      by : (b : Bool) (ms : List Mark) → IsFirst ms (b || list_any (names role n) xs) (cond b s s) (cond b a (a + 1 + position_or_len (names role n) xs)) (cond b (0 + place (named role x)) (port_in xs))
-          → IsFirst ms (b || list_any (names role n) xs) s (a + cond (not b) (1 + position_or_len (names role n) xs) 0) (place (named_in role (slice_get (x ∷ xs) (cond (not b) (1 + position_or_len (names role n) xs) 0))))
+      by : (b : Bool) (ms : List Mark)
+          → IsFirst ms (b || list_any (names role n) xs) (cond b s s) (cond b a (a + 1 + position_or_len (names role n) xs))
+          (cond b (0 + place (named role x)) (port_in xs))
+          → IsFirst ms (b || list_any (names role n) xs) s (a + cond (not b) (1 + position_or_len (names role n) xs) 0)
+          (place (named_in role (slice_get (x ∷ xs) (cond (not b) (1 + position_or_len (names role n) xs) 0))))
       by true ms h = moved ms true s a (0 + place (named role x)) s (a + 0) (place (named role x)) h refl (omega arith) (omega arith)
-      by false ms h = moved ms (list_any (names role n) xs) s (a + 1 + position_or_len (names role n) xs) (port_in xs) s (a + (1 + position_or_len (names role n) xs)) (place (named_in role (slice_get (x ∷ xs) (1 + position_or_len (names role n) xs)))) h refl (omega arith)
+      by false ms h = moved ms (list_any (names role n) xs) s (a + 1 + position_or_len (names role n) xs) (port_in xs) s
+          (a + (1 + position_or_len (names role n) xs))
+          (place (named_in role (slice_get (x ∷ xs) (1 + position_or_len (names role n) xs)))) h refl (omega arith)
           (ap (λ (i : ℕ). place (named_in role (slice_get (x ∷ xs) i))) (let one : suc (position_or_len (names role n) xs) ≡ 1 + position_or_len (names role n) xs = omega arith in one))
 
-      first_here : IsFirst (filter (of_number n) (marks_in role s (a + 1) xs)) (list_any (names role n) xs) s (a + 1 + position_or_len (names role n) xs) (port_in xs) → IsFirst (filter (of_number n) (marks_in role s a (x ∷ xs))) (list_any (names role n) (x ∷ xs)) s (a + position_or_len (names role n) (x ∷ xs)) (port_in (x ∷ xs))
+      first_here : IsFirst (filter (of_number n) (marks_in role s (a + 1) xs)) (list_any (names role n) xs) s
+          (a + 1 + position_or_len (names role n) xs) (port_in xs)
+          → IsFirst (filter (of_number n) (marks_in role s a (x ∷ xs))) (list_any (names role n) (x ∷ xs)) s
+          (a + position_or_len (names role n) (x ∷ xs)) (port_in (x ∷ xs))
       first_here rest = by (names role n x) (filter (of_number n) (marks_in role s a (x ∷ xs)))
-          (let P : List Mark → Type 0 = λ ms. IsFirst ms (names role n x || list_any (names role n) xs) (cond (names role n x) s s) (cond (names role n x) a (a + 1 + position_or_len (names role n) xs)) (cond (names role n x) (0 + place (named role x)) (port_in xs)) in
+          (let P : List Mark → Type 0 = λ ms. IsFirst ms (names role n x || list_any (names role n) xs) (cond (names role n x) s s)
+          (cond (names role n x) a (a + 1 + position_or_len (names role n) xs)) (cond (names role n x) (0 + place (named role x)) (port_in xs)) in
           subst P (sym (filter-append (of_number n) (marks_at s a 0 (named role x)) (marks_in role s (a + 1) xs))) (both rest))
 
   abbrev has_one : SeqCode → Bool
@@ -131,19 +145,28 @@ module _ (role : Role) (n : ℕ) where
   abbrev there : List SeqCode → List Instr
   there qs = turn_of (slice_get qs (position_or_len has_one qs))
 
-  first_from : (s : ℕ) (qs : List SeqCode) → IsFirst (filter (of_number n) (marks_from role s qs)) (list_any has_one qs) (s + position_or_len has_one qs) (position_or_len (names role n) (there qs)) (port_in (there qs))
+  first_from : (s : ℕ) (qs : List SeqCode)
+      → IsFirst (filter (of_number n) (marks_from role s qs)) (list_any has_one qs) (s + position_or_len has_one qs)
+      (position_or_len (names role n) (there qs)) (port_in (there qs))
   first_from s [] = refl
   first_from s (q ∷ qs) = whole_list (first_from (s + 1) qs)
     where
       both : IsFirst (filter (of_number n) (marks_from role (s + 1) qs)) (list_any has_one qs) (s + 1 + position_or_len has_one qs) (position_or_len (names role n) (there qs)) (port_in (there qs))
           → IsFirst (filter (of_number n) (marks_in role s 0 q.turn) ++ filter (of_number n) (marks_from role (s + 1) qs)) (has_one q || list_any has_one qs)
-          (cond (has_one q) s (s + 1 + position_or_len has_one qs)) (cond (has_one q) (0 + position_or_len (names role n) q.turn) (position_or_len (names role n) (there qs))) (cond (has_one q) (port_in q.turn) (port_in (there qs)))
-      both rest = joined (filter (of_number n) (marks_in role s 0 q.turn)) (filter (of_number n) (marks_from role (s + 1) qs)) (has_one q) (list_any has_one qs) s (0 + position_or_len (names role n) q.turn) (port_in q.turn) (s + 1 + position_or_len has_one qs) (position_or_len (names role n) (there qs)) (port_in (there qs))
+          (cond (has_one q) s (s + 1 + position_or_len has_one qs))
+          (cond (has_one q) (0 + position_or_len (names role n) q.turn) (position_or_len (names role n) (there qs)))
+          (cond (has_one q) (port_in q.turn) (port_in (there qs)))
+      both rest = joined (filter (of_number n) (marks_in role s 0 q.turn)) (filter (of_number n) (marks_from role (s + 1) qs)) (has_one q)
+          (list_any has_one qs) s (0 + position_or_len (names role n) q.turn) (port_in q.turn) (s + 1 + position_or_len has_one qs)
+          (position_or_len (names role n) (there qs)) (port_in (there qs))
           (first_in s 0 q.turn) rest
 
-      by : (b : Bool) (ms : List Mark) → IsFirst ms (b || list_any has_one qs) (cond b s (s + 1 + position_or_len has_one qs)) (cond b (0 + position_or_len (names role n) q.turn) (position_or_len (names role n) (there qs))) (cond b (port_in q.turn) (port_in (there qs)))
+      by : (b : Bool) (ms : List Mark)
+          → IsFirst ms (b || list_any has_one qs) (cond b s (s + 1 + position_or_len has_one qs))
+          (cond b (0 + position_or_len (names role n) q.turn) (position_or_len (names role n) (there qs))) (cond b (port_in q.turn) (port_in (there qs)))
           → IsFirst ms (b || list_any has_one qs) (s + cond (not b) (1 + position_or_len has_one qs) 0)
-          (position_or_len (names role n) (turn_of (slice_get (q ∷ qs) (cond (not b) (1 + position_or_len has_one qs) 0)))) (port_in (turn_of (slice_get (q ∷ qs) (cond (not b) (1 + position_or_len has_one qs) 0))))
+          (position_or_len (names role n) (turn_of (slice_get (q ∷ qs) (cond (not b) (1 + position_or_len has_one qs) 0))))
+          (port_in (turn_of (slice_get (q ∷ qs) (cond (not b) (1 + position_or_len has_one qs) 0))))
       by true ms h = moved ms true s (0 + position_or_len (names role n) q.turn) (port_in q.turn) (s + 0) (position_or_len (names role n) q.turn) (port_in q.turn) h (omega arith) (omega arith) refl
       by false ms h =
           let one : suc (position_or_len has_one qs) ≡ 1 + position_or_len has_one qs = omega arith in
@@ -151,13 +174,21 @@ module _ (role : Role) (n : ℕ) where
           (position_or_len (names role n) (turn_of (slice_get (q ∷ qs) (1 + position_or_len has_one qs)))) (port_in (turn_of (slice_get (q ∷ qs) (1 + position_or_len has_one qs)))) h (omega arith)
           (ap (λ (i : ℕ). position_or_len (names role n) (turn_of (slice_get (q ∷ qs) i))) one) (ap (λ (i : ℕ). port_in (turn_of (slice_get (q ∷ qs) i))) one)
 
-      whole_list : IsFirst (filter (of_number n) (marks_from role (s + 1) qs)) (list_any has_one qs) (s + 1 + position_or_len has_one qs) (position_or_len (names role n) (there qs)) (port_in (there qs)) → IsFirst (filter (of_number n) (marks_from role s (q ∷ qs))) (list_any has_one (q ∷ qs)) (s + position_or_len has_one (q ∷ qs)) (position_or_len (names role n) (there (q ∷ qs))) (port_in (there (q ∷ qs)))
+      whole_list : IsFirst (filter (of_number n) (marks_from role (s + 1) qs)) (list_any has_one qs) (s + 1 + position_or_len has_one qs)
+          (position_or_len (names role n) (there qs)) (port_in (there qs))
+          → IsFirst (filter (of_number n) (marks_from role s (q ∷ qs))) (list_any has_one (q ∷ qs)) (s + position_or_len has_one (q ∷ qs))
+          (position_or_len (names role n) (there (q ∷ qs))) (port_in (there (q ∷ qs)))
       whole_list rest = by (has_one q) (filter (of_number n) (marks_from role s (q ∷ qs)))
-          (let P : List Mark → Type 0 = λ ms. IsFirst ms (has_one q || list_any has_one qs) (cond (has_one q) s (s + 1 + position_or_len has_one qs)) (cond (has_one q) (0 + position_or_len (names role n) q.turn) (position_or_len (names role n) (there qs))) (cond (has_one q) (port_in q.turn) (port_in (there qs))) in
+          (let P : List Mark → Type 0 = λ ms. IsFirst ms (has_one q || list_any has_one qs)
+          (cond (has_one q) s (s + 1 + position_or_len has_one qs))
+          (cond (has_one q) (0 + position_or_len (names role n) q.turn) (position_or_len (names role n) (there qs)))
+          (cond (has_one q) (port_in q.turn) (port_in (there qs))) in
           subst P (sym (filter-append (of_number n) (marks_in role s 0 q.turn) (marks_from role (s + 1) qs))) (both rest))
 
   -- the first place is that of the first instruction that names it, in the first sequence that has one
   pub first_is : (p : Program) → IsFirst (marks_of p role n) (list_any has_one p.seqs) (sequence_where p has_one)
       (position_or_len (names role n) (turn p (sequence_where p has_one))) (port_in (turn p (sequence_where p has_one)))
-  first_is p = moved (marks_of p role n) (list_any has_one p.seqs) (0 + position_or_len has_one p.seqs) (position_or_len (names role n) (there p.seqs)) (port_in (there p.seqs)) (position_or_len has_one p.seqs) (position_or_len (names role n) (there p.seqs)) (port_in (there p.seqs))
+  first_is p = moved (marks_of p role n) (list_any has_one p.seqs) (0 + position_or_len has_one p.seqs)
+      (position_or_len (names role n) (there p.seqs)) (port_in (there p.seqs)) (position_or_len has_one p.seqs)
+      (position_or_len (names role n) (there p.seqs)) (port_in (there p.seqs))
       (first_from 0 p.seqs) (omega arith) refl refl

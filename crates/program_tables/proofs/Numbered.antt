@@ -28,13 +28,19 @@ place_of a (x ∷ xs) zero = by (is_communication x) (place_of (a + 1) xs zero)
     by : (b : Bool) → number_or (a + 1 + length xs) (slice_get (places_from (a + 1) xs) zero) ≡ a + 1 + communication_at xs zero
         → number_or (a + length (x ∷ xs)) (slice_get (cond b (a ∷ places_from (a + 1) xs) (places_from (a + 1) xs)) zero) ≡ a + cond b 0 (suc (communication_at xs zero))
     by true e = omega arith
-    by false e = ap (λ (n : ℕ). number_or n (slice_get (places_from (a + 1) xs) zero)) (let z : a + length (x ∷ xs) ≡ a + 1 + length xs = omega arith in z) ∙ e ∙ (let z : a + 1 + communication_at xs zero ≡ a + suc (communication_at xs zero) = omega arith in z)
+    by false e = ap (λ (n : ℕ). number_or n (slice_get (places_from (a + 1) xs) zero))
+        (let z : a + length (x ∷ xs) ≡ a + 1 + length xs = omega arith in z) ∙ e
+        ∙ (let z : a + 1 + communication_at xs zero ≡ a + suc (communication_at xs zero) = omega arith in z)
 place_of a (x ∷ xs) (suc t) = by (is_communication x) (λ k. place_of (a + 1) xs k)
   where
     by : (b : Bool) → ((k : ℕ) → number_or (a + 1 + length xs) (slice_get (places_from (a + 1) xs) k) ≡ a + 1 + communication_at xs k)
         → number_or (a + length (x ∷ xs)) (slice_get (cond b (a ∷ places_from (a + 1) xs) (places_from (a + 1) xs)) (suc t)) ≡ a + suc (communication_at xs (cond b t (suc t)))
-    by true e = ap (λ (n : ℕ). number_or n (slice_get (places_from (a + 1) xs) t)) (let z : a + length (x ∷ xs) ≡ a + 1 + length xs = omega arith in z) ∙ e t ∙ (let z : a + 1 + communication_at xs t ≡ a + suc (communication_at xs t) = omega arith in z)
-    by false e = ap (λ (n : ℕ). number_or n (slice_get (places_from (a + 1) xs) (suc t))) (let z : a + length (x ∷ xs) ≡ a + 1 + length xs = omega arith in z) ∙ e (suc t) ∙ (let z : a + 1 + communication_at xs (suc t) ≡ a + suc (communication_at xs (suc t)) = omega arith in z)
+    by true e = ap (λ (n : ℕ). number_or n (slice_get (places_from (a + 1) xs) t))
+        (let z : a + length (x ∷ xs) ≡ a + 1 + length xs = omega arith in z) ∙ e t
+        ∙ (let z : a + 1 + communication_at xs t ≡ a + suc (communication_at xs t) = omega arith in z)
+    by false e = ap (λ (n : ℕ). number_or n (slice_get (places_from (a + 1) xs) (suc t)))
+        (let z : a + length (x ∷ xs) ≡ a + 1 + length xs = omega arith in z) ∙ e (suc t)
+        ∙ (let z : a + 1 + communication_at xs (suc t) ≡ a + suc (communication_at xs (suc t)) = omega arith in z)
 
 row_there : {A : Type 0} (f : SeqCode → A) (qs : List SeqCode) (s : ℕ) (row : A) → slice_get (map f qs) s ≡ Some row → (q : SeqCode) × (slice_get qs s ≡ Some q) × (f q ≡ row)
 row_there f [] s row e = absurd cc
@@ -52,7 +58,9 @@ number_told p s a row e l =
     let r = row_there (λ (q : SeqCode). numbers_from 0 q.turn) p.seqs s row e in
     let t : turn p s ≡ r.0.turn = ap turn_of r.1 in
     let low : a < length r.0.turn = let m = ap (λ (xs : List Instr). length xs) t in omega arith in
-    ap (λ (xs : List ℕ). slice_index xs a) (sym r.2) ∙ number_of 0 r.0.turn a low ∙ (let z : 0 + count_by is_communication (take a r.0.turn) ≡ count_by is_communication (take a r.0.turn) = omega arith in z) ∙ ap (λ (xs : List Instr). count_by is_communication (take a xs)) (sym t)
+    ap (λ (xs : List ℕ). slice_index xs a) (sym r.2) ∙ number_of 0 r.0.turn a low
+    ∙ (let z : 0 + count_by is_communication (take a r.0.turn) ≡ count_by is_communication (take a r.0.turn) = omega arith in z)
+    ∙ ap (λ (xs : List Instr). count_by is_communication (take a xs)) (sym t)
 
 pub no_number : (p : Program) (s a : ℕ) → slice_get (numbers_of p) s ≡ None → a < length (turn p s) → 0 ≡ communications p s a
 no_number p s a e l = let t : turn p s ≡ [] = ap turn_of (row_none (λ (q : SeqCode). numbers_from 0 q.turn) p.seqs s e) in let m = ap (λ (xs : List Instr). length xs) t in absurd (omega arith)
@@ -62,7 +70,8 @@ place_told p s t row e =
     let r = row_there (λ (q : SeqCode). places_from 0 q.turn) p.seqs s row e in
     let same : turn p s ≡ r.0.turn = ap turn_of r.1 in
     let here = place_of 0 r.0.turn t in
-    (λ i. number_or (length (same i)) (slice_get (sym r.2 i) t)) ∙ ap (λ (n : ℕ). number_or n (slice_get (places_from 0 r.0.turn) t)) (let z : length r.0.turn ≡ 0 + length r.0.turn = omega arith in z) ∙ here
+    (λ i. number_or (length (same i)) (slice_get (sym r.2 i) t))
+    ∙ ap (λ (n : ℕ). number_or n (slice_get (places_from 0 r.0.turn) t)) (let z : length r.0.turn ≡ 0 + length r.0.turn = omega arith in z) ∙ here
     ∙ (let z : 0 + communication_at r.0.turn t ≡ communication_at r.0.turn t = omega arith in z) ∙ ap (λ (xs : List Instr). communication_at xs t) (sym same)
 
 pub no_place : (p : Program) (s t : ℕ) → slice_get (places_of p) s ≡ None → 0 ≡ communication_at (turn p s) t

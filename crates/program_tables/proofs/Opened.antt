@@ -1,5 +1,40 @@
 -- The signals of one pair more are passed, or the prologue is not that which its sequence has.
-use Rattle.std.proofs.Common.{◌≡◌, ◌≢◌, ℕ, zero, suc, ◌+◌, ◌<◌, ◌≤◌, ◌⊎◌, Bool, true, false, cond, List, [], ◌∷◌, ◌++◌, length, take, drop, replicate, refl, sym, ap, subst, inl, inr, arith, ◌∙◌, length-append, length-drop, append_assoc, eq-eqb, append-nil}
+use Rattle.std.proofs.Common.{
+  ◌≡◌,
+  ◌≢◌,
+  ℕ,
+  zero,
+  suc,
+  ◌+◌,
+  ◌<◌,
+  ◌≤◌,
+  ◌⊎◌,
+  Bool,
+  true,
+  false,
+  cond,
+  List,
+  [],
+  ◌∷◌,
+  ◌++◌,
+  length,
+  take,
+  drop,
+  replicate,
+  refl,
+  sym,
+  ap,
+  subst,
+  inl,
+  inr,
+  arith,
+  ◌∙◌,
+  length-append,
+  length-drop,
+  append_assoc,
+  eq-eqb,
+  append-nil,
+}
 use Rattle.std.specs.Prelude.{slice_index, slice_set, nat_le}
 use Rattle.std.specs.List.{list_all}
 use Rattle.std.specs.Cmp.Derive.{both_true}
@@ -49,7 +84,8 @@ length_take (suc c) (x ∷ xs) l = ap (λ (k : ℕ). suc k) (length_take c xs (o
 
 -- signals of one pair
 signals_are : (q n : ℕ) (xs : List Instr) → opens_next q n xs ≡ true → take n xs ≡ repeated (Pre0 q) n
-signals_are q n xs h = by n xs (leb-true n (length xs) (and_parts (nat_le n (length xs)) (list_all (signals_empty q) (take n xs)) h).0) (and_parts (nat_le n (length xs)) (list_all (signals_empty q) (take n xs)) h).1
+signals_are q n xs h = by n xs (leb-true n (length xs) (and_parts (nat_le n (length xs)) (list_all (signals_empty q) (take n xs)) h).0)
+    (and_parts (nat_le n (length xs)) (list_all (signals_empty q) (take n xs)) h).1
   where
     by : (n : ℕ) (xs : List Instr) → n ≤ length xs → list_all (signals_empty q) (take n xs) ≡ true → take n xs ≡ repeated (Pre0 q) n
     by zero xs l e = refl
@@ -102,7 +138,9 @@ module _ (p : Program) (q : ℕ) where
     pub passes_none : length passed ≤ (reader p q).sequence → IsPassed p (q + 1) passed
     passes_none l = record { many = h.many; within = h.within; signals = λ s k. others_same s k (λ e. let m = h.many in absurd (omega arith)) }
 
-    pub passes : (s : ℕ) → (reader p q).sequence ≡ s → s < length passed → opens_next q (depth_of p (reader p q).buffer) (drop (slice_index passed s) (prologue p s)) ≡ true → IsPassed p (q + 1) (slice_set passed s (slice_index passed s + depth_of p (reader p q).buffer))
+    pub passes : (s : ℕ) → (reader p q).sequence ≡ s → s < length passed
+        → opens_next q (depth_of p (reader p q).buffer) (drop (slice_index passed s) (prologue p s)) ≡ true
+        → IsPassed p (q + 1) (slice_set passed s (slice_index passed s + depth_of p (reader p q).buffer))
     passes s e l o = record {
       many = length-set passed s (slice_index passed s + depth_of p (reader p q).buffer) ∙ h.many;
       within = λ t k. within t k (cases_eq t s);
@@ -128,16 +166,21 @@ module _ (p : Program) (q : ℕ) where
             set_other (x ∷ xs) (suc i) (suc j) v h = set_other xs i j v (λ e. h (ap (λ (n : ℕ). suc n) e))
 
         few : depth_of p (reader p q).buffer ≤ length (drop (slice_index passed s) (prologue p s))
-        few = leb-true (depth_of p (reader p q).buffer) (length (drop (slice_index passed s) (prologue p s))) (and_parts (nat_le (depth_of p (reader p q).buffer) (length (drop (slice_index passed s) (prologue p s)))) (list_all (signals_empty q) (take (depth_of p (reader p q).buffer) (drop (slice_index passed s) (prologue p s)))) o).0
+        few = leb-true (depth_of p (reader p q).buffer) (length (drop (slice_index passed s) (prologue p s)))
+            (and_parts (nat_le (depth_of p (reader p q).buffer) (length (drop (slice_index passed s) (prologue p s))))
+            (list_all (signals_empty q) (take (depth_of p (reader p q).buffer) (drop (slice_index passed s) (prologue p s)))) o).0
 
         low : s < length p.seqs
         low = let m = h.many in omega arith
 
         within : (t : ℕ) → t < length p.seqs → (t ≡ s) ⊎ (t ≡ s → ⊥) → slice_index (slice_set passed s (slice_index passed s + depth_of p (reader p q).buffer)) t ≤ length (prologue p t)
-        within t k (inl same) = let a = ap (slice_index (slice_set passed s (slice_index passed s + depth_of p (reader p q).buffer))) same ∙ at_s in let b = ap (λ (u : ℕ). length (prologue p u)) same in let c = few in let d = h.within s low in let n = length-drop (slice_index passed s) (prologue p s) in omega arith
+        within t k (inl same) = let a = ap (slice_index (slice_set passed s (slice_index passed s + depth_of p (reader p q).buffer))) same
+            ∙ at_s in let b = ap (λ (u : ℕ). length (prologue p u)) same in let c = few in let d = h.within s low in
+            let n = length-drop (slice_index passed s) (prologue p s) in omega arith
         within t k (inr n) = let a = at_other t n in let b = h.within t k in omega arith
 
-        signals : (t : ℕ) → t < length p.seqs → (t ≡ s) ⊎ (t ≡ s → ⊥) → take (slice_index (slice_set passed s (slice_index passed s + depth_of p (reader p q).buffer)) t) (prologue p t) ≡ blocks (signals_of p t) (q + 1)
+        signals : (t : ℕ) → t < length p.seqs → (t ≡ s) ⊎ (t ≡ s → ⊥)
+            → take (slice_index (slice_set passed s (slice_index passed s + depth_of p (reader p q).buffer)) t) (prologue p t) ≡ blocks (signals_of p t) (q + 1)
         signals t k (inl same) =
             let P : ℕ → Type 0 = λ u. take (slice_index (slice_set passed s (slice_index passed s + depth_of p (reader p q).buffer)) u) (prologue p u) ≡ blocks (signals_of p u) (q + 1) in
             subst P (sym same)
@@ -148,14 +191,19 @@ module _ (p : Program) (q : ℕ) where
         signals t k (inr n) = ap (λ (m : ℕ). take m (prologue p t)) (at_other t n) ∙ others_same t k (λ f. n (sym f ∙ e))
 
     -- where they do not follow, the prologue is another one
-    pub stops : (s : ℕ) → (reader p q).sequence ≡ s → s < length passed → q < length (readers p) → opens_next q (depth_of p (reader p q).buffer) (drop (slice_index passed s) (prologue p s)) ≡ false → AreOpened p → ⊥
+    pub stops : (s : ℕ) → (reader p q).sequence ≡ s → s < length passed → q < length (readers p)
+        → opens_next q (depth_of p (reader p q).buffer) (drop (slice_index passed s) (prologue p s)) ≡ false → AreOpened p → ⊥
     stops s e l k o all =
         let m = h.many in
         let low : s < length p.seqs = omega arith in
         let b = begins (signals_of p s) (suc q) (length (readers p)) (omega arith) in
-        let whole : prologue p s ≡ blocks (signals_of p s) q ++ (repeated (Pre0 q) (opening_signals p s q) ++ b.0) = all s low ∙ b.1 ∙ append_assoc (blocks (signals_of p s) q) (repeated (Pre0 q) (opening_signals p s q)) b.0 in
-        let many : slice_index passed s ≡ length (blocks (signals_of p s) q) = sym (length_take (slice_index passed s) (prologue p s) (h.within s low)) ∙ ap (λ (xs : List Instr). length xs) (h.signals s low) in
-        let rest : drop (slice_index passed s) (prologue p s) ≡ repeated (Pre0 q) (opening_signals p s q) ++ b.0 = (λ i. drop (many i) (whole i)) ∙ drop_append (blocks (signals_of p s) q) (repeated (Pre0 q) (opening_signals p s q) ++ b.0) in
+        let whole : prologue p s ≡ blocks (signals_of p s) q ++ (repeated (Pre0 q) (opening_signals p s q) ++ b.0) = all s low ∙ b.1
+        ∙ append_assoc (blocks (signals_of p s) q) (repeated (Pre0 q) (opening_signals p s q)) b.0 in
+        let many : slice_index passed s
+        ≡ length (blocks (signals_of p s) q) = sym (length_take (slice_index passed s) (prologue p s) (h.within s low))
+        ∙ ap (λ (xs : List Instr). length xs) (h.signals s low) in
+        let rest : drop (slice_index passed s) (prologue p s) ≡ repeated (Pre0 q) (opening_signals p s q)
+        ++ b.0 = (λ i. drop (many i) (whole i)) ∙ drop_append (blocks (signals_of p s) q) (repeated (Pre0 q) (opening_signals p s q) ++ b.0) in
         false≢true (sym o ∙ (λ i. opens_next q (sym (own s e) i) (rest i)) ∙ are_signals q (opening_signals p s q) b.0)
 
 -- at the start nothing is passed

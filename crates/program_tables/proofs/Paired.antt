@@ -22,7 +22,9 @@ both true true f a b c d h k = let e = h refl in let q = k refl in λ i. f (e i)
 both true false f a b c d h k = refl
 both false m f a b c d h k = refl
 
-pub written_is : (p : Program) (q w at : ℕ) → (lone w (marks_of p EmptyTaken q) && lone w (marks_of p FullSignalled q) && nat_lt (first_at (marks_of p EmptyTaken q)) at && nat_lt at (first_at (marks_of p FullSignalled q))) ≡ is_written_between p q w at
+pub written_is : (p : Program) (q w at : ℕ)
+    → (lone w (marks_of p EmptyTaken q) && lone w (marks_of p FullSignalled q) && nat_lt (first_at (marks_of p EmptyTaken q)) at
+    && nat_lt at (first_at (marks_of p FullSignalled q))) ≡ is_written_between p q w at
 written_is p q w at =
     chain (lone w (marks_of p EmptyTaken q)) (lone w (marks_of p FullSignalled q)) (λ n. nat_lt n at) (λ n. nat_lt at n)
     (first_at (marks_of p EmptyTaken q)) (first_place p (takes_empty q) w) (first_at (marks_of p FullSignalled q)) (first_place p (signals_full q) w)
@@ -30,7 +32,9 @@ written_is p q w at =
     ∙ (λ i. lone_is p EmptyTaken q w i && lone_is p FullSignalled q w i && nat_lt (first_place p (takes_empty q) w) at && nat_lt at (first_place p (signals_full q) w))
 
 pub read_is : (p : Program) (q b s : ℕ)
-    → (lone s (marks_of p FullTaken q) && lone s (marks_of p EmptySignalled q) && list_all (λ (m : Mark). implies (nat_eq m.sequence s) (nat_lt (first_at (marks_of p FullTaken q)) m.at && nat_lt m.at (first_at (marks_of p EmptySignalled q)))) (marks_of p Read b))
+    → (lone s (marks_of p FullTaken q) && lone s (marks_of p EmptySignalled q)
+    && list_all (λ (m : Mark). implies (nat_eq m.sequence s)
+    (nat_lt (first_at (marks_of p FullTaken q)) m.at && nat_lt m.at (first_at (marks_of p EmptySignalled q)))) (marks_of p Read b))
     ≡ is_read_between p q b s
 read_is p q b s =
     both (lone s (marks_of p FullTaken q)) (lone s (marks_of p EmptySignalled q)) (λ x y. list_all (λ (m : Mark). implies (nat_eq m.sequence s) (nat_lt x m.at && nat_lt m.at y)) (marks_of p Read b))

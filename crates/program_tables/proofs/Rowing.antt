@@ -55,9 +55,13 @@ grouped rows marks i count d low many h n l = step (get_or marks i d) ∙ sym (f
     step : (m : Mark) → row (added rows m) n ≡ filter (λ (x : Mark). nat_eq x.number n) (take i marks) ++ cond (nat_eq m.number n) (m ∷ []) []
     step m = elim (cases_eq m.number n) [
       | inl q ↦ (let b = eq-eqb m.number n q in
-          ap (λ k. row (added rows m) k) (sym q) ∙ row_set rows m.number (row rows m.number ++ m ∷ []) (omega arith) ∙ ap (λ ws. ws ++ m ∷ []) (ap (row rows) q ∙ h n l) ∙ ap (λ b. filter (λ (x : Mark). nat_eq x.number n) (take i marks) ++ cond b (m ∷ []) []) (sym b))
+          ap (λ k. row (added rows m) k) (sym q) ∙ row_set rows m.number (row rows m.number ++ m ∷ []) (omega arith)
+          ∙ ap (λ ws. ws ++ m ∷ []) (ap (row rows) q ∙ h n l)
+          ∙ ap (λ b. filter (λ (x : Mark). nat_eq x.number n) (take i marks) ++ cond b (m ∷ []) []) (sym b))
       | inr q ↦ (let b = ne_eqb m.number n q in
-          row_other rows m.number n (row rows m.number ++ m ∷ []) q ∙ h n l ∙ sym (append-nil (filter (λ (x : Mark). nat_eq x.number n) (take i marks))) ∙ ap (λ b. filter (λ (x : Mark). nat_eq x.number n) (take i marks) ++ cond b (m ∷ []) []) (sym b))
+          row_other rows m.number n (row rows m.number ++ m ∷ []) q ∙ h n l
+          ∙ sym (append-nil (filter (λ (x : Mark). nat_eq x.number n) (take i marks)))
+          ∙ ap (λ b. filter (λ (x : Mark). nat_eq x.number n) (take i marks) ++ cond b (m ∷ []) []) (sym b))
     ]
 
 pub none_grouped : (count n : ℕ) → row (replicate count []) n ≡ []

@@ -39,7 +39,8 @@ maps_same f (x ∷ xs) (y ∷ ys) n h =
     let rest = maps_same f xs ys (let m : length xs ≡ length ys = omega (arith, n) in m) (λ i z e. h (suc i) z e) in
     λ i. h zero y refl i ∷ rest i
 
-same_maps : (f : Reader → Option ℕ) (xs : List ℕ) (ys : List Reader) → map (λ o. Some o) xs ≡ map f ys → (i : ℕ) (y : Reader) → slice_get ys i ≡ Some y → (k : ℕ) × (slice_get xs i ≡ Some k) × (f y ≡ Some k)
+same_maps : (f : Reader → Option ℕ) (xs : List ℕ) (ys : List Reader) → map (λ o. Some o) xs ≡ map f ys → (i : ℕ) (y : Reader)
+    → slice_get ys i ≡ Some y → (k : ℕ) × (slice_get xs i ≡ Some k) × (f y ≡ Some k)
 same_maps f [] [] h i y e = absurd (cc)
 same_maps f [] (z ∷ ys) h i y e = absurd (cc)
 same_maps f (x ∷ xs) [] h i y e = absurd (cc)
@@ -160,13 +161,15 @@ module _ (p : Program) where
 
     pub all_of : Numbered → ((q : ℕ) → q < length p.pairs → is_there q (reader p q) ≡ true → test q (reader p q) ≡ true) → all_pass ≡ true
     all_of n h =
-        let many : length p.pairs ≡ length (readers p) = sym (length-map p.pairs (λ o. Some o)) ∙ ap (λ (os : List (Option ℕ)). length os) n ∙ length-map (readers p) (λ (r : Reader). operator_of p r.buffer) in
+        let many : length p.pairs ≡ length (readers p) = sym (length-map p.pairs (λ o. Some o))
+        ∙ ap (λ (os : List (Option ℕ)). length os) n ∙ length-map (readers p) (λ (r : Reader). operator_of p r.buffer) in
         both_true (eq-eqb (length p.pairs) (length (readers p)) many)
         (to_zero test (readers p) (λ q x e.
         let l : q < length p.pairs = omega (arith, many, slice_get_within (readers p) q x e) in
         let same = reader_is q x e in
         let k = same_maps (λ (r : Reader). operator_of p r.buffer) p.pairs (readers p) n q x e in
-        let there = both_true (lt-ltb q (length p.pairs) l) (same_operators (slice_get p.pairs q) (operator_of p (reader p q).buffer) k.0 k.1 (ap (λ (z : Reader). operator_of p z.buffer) same ∙ k.2)) in
+        let there = both_true (lt-ltb q (length p.pairs) l)
+        (same_operators (slice_get p.pairs q) (operator_of p (reader p q).buffer) k.0 k.1 (ap (λ (z : Reader). operator_of p z.buffer) same ∙ k.2)) in
         subst (λ (z : Reader). test q z ≡ true) same (h q l there)))
 
   module _ (order : List ℕ) where

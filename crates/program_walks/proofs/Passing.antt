@@ -40,7 +40,8 @@ module _ {X : Type 0} (test : ℕ → X → Bool) where
     range_step o n l = let e : n - o ≡ suc (n - (o + 1)) = omega arith in ap (range_with_len o) e
 
     -- one block of those from o to n - 1
-    pub range_passed : (o n k : ℕ) (z : Option ℕ) → o < n → passed test k (f o) ≡ z → passed test k (flat_map f (range_with_len o (n - o))) ≡ after z (flat_map f (range_with_len (o + 1) (n - (o + 1))))
+    pub range_passed : (o n k : ℕ) (z : Option ℕ) → o < n → passed test k (f o) ≡ z → passed test k (flat_map f (range_with_len o (n - o)))
+        ≡ after z (flat_map f (range_with_len (o + 1) (n - (o + 1))))
     range_passed o n k z l e =
         ap (λ (ms : List ℕ). passed test k (flat_map f ms)) (range_step o n l)
         ∙ (ap (λ (xs : List X). passed test k xs) (flat_map-cons f o (range_with_len (o + 1) (n - (o + 1))))

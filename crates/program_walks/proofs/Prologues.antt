@@ -173,7 +173,8 @@ module _ (p : Program) where
 
   pub of_opened : map (λ o. Some o) p.pairs ≡ map (λ (r : Reader). operator_of p r.buffer) (readers p) → ((s : ℕ) → s < length p.seqs → prologue p s ≡ opening_of p s) → are_opened p ≡ true
   of_opened numbered h =
-      let many : length p.pairs ≡ length (readers p) = sym (length-map p.pairs (λ o. Some o)) ∙ ap (λ (os : List (Option ℕ)). length os) numbered ∙ length-map (readers p) (λ (r : Reader). operator_of p r.buffer) in
+      let many : length p.pairs ≡ length (readers p) = sym (length-map p.pairs (λ o. Some o))
+      ∙ ap (λ (os : List (Option ℕ)). length os) numbered ∙ length-map (readers p) (λ (r : Reader). operator_of p r.buffer) in
       let here : (s : ℕ) (q : SeqCode) → slice_get p.seqs s ≡ Some q → q.prologue ≡ opening_of p s = λ s q e. sym (ap prologue_of e) ∙ h s (slice_get_within p.seqs s q e) in
       let opened : all_at (opens p) 0 (readers p) ≡ true =
       to_zero (opens p) (readers p) (λ k x e.

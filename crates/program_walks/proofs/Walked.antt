@@ -65,7 +65,8 @@ module _ (p : Program) (order : List ℕ) where
   abbrev read_by : ℕ → List Reader
   read_by = readers_from 0 p.seqs
 
-  pub right_more : (b n : ℕ) → all_at (guards p order) 0 (blocks (readers_from 0 p.seqs) b) ≡ true → n ≡ length (blocks (readers_from 0 p.seqs) b) → all_at (guards p order) n (readers_from 0 p.seqs b) ≡ true
+  pub right_more : (b n : ℕ) → all_at (guards p order) 0 (blocks (readers_from 0 p.seqs) b) ≡ true → n
+      ≡ length (blocks (readers_from 0 p.seqs) b) → all_at (guards p order) n (readers_from 0 p.seqs b) ≡ true
       → all_at (guards p order) 0 (blocks (readers_from 0 p.seqs) (b + 1)) ≡ true
   right_more b n h many e =
       subst (λ (k : ℕ). all_at (guards p order) 0 (blocks (readers_from 0 p.seqs) k) ≡ true) (let s : suc b ≡ b + 1 = omega arith in s)
@@ -82,7 +83,10 @@ module _ (p : Program) (order : List ℕ) where
       (block_fails (guards p order) (readers_from 0 p.seqs) (length p.buffers) b l (subst (λ (k : ℕ). all_at (guards p order) k (readers_from 0 p.seqs b) ≡ false) many e))
       ∙ and_no (nat_eq (length p.pairs) (length (readers p))))
 
-  pub all_right : (b n : ℕ) → b ≡ length p.buffers → n ≡ length (blocks (readers_from 0 p.seqs) b) → all_at (guards p order) 0 (blocks (readers_from 0 p.seqs) b) ≡ true → nat_eq (length p.pairs) n ≡ are_pairs p order
+  pub all_right : (b n : ℕ) → b ≡ length p.buffers → n ≡ length (blocks (readers_from 0 p.seqs) b)
+      → all_at (guards p order) 0 (blocks (readers_from 0 p.seqs) b) ≡ true → nat_eq (length p.pairs) n ≡ are_pairs p order
   all_right b n same many h =
       ap (λ (k : ℕ). nat_eq (length p.pairs) k) (many ∙ ap (λ (k : ℕ). length (blocks (readers_from 0 p.seqs) k)) same)
-      ∙ sym (ap (λ (t : Bool). nat_eq (length p.pairs) (length (readers p)) && t) (subst (λ (k : ℕ). all_at (guards p order) 0 (blocks (readers_from 0 p.seqs) k) ≡ true) same h) ∙ and-true (nat_eq (length p.pairs) (length (readers p))))
+      ∙ sym (ap (λ (t : Bool). nat_eq (length p.pairs) (length (readers p)) && t)
+      (subst (λ (k : ℕ). all_at (guards p order) 0 (blocks (readers_from 0 p.seqs) k) ≡ true) same h)
+      ∙ and-true (nat_eq (length p.pairs) (length (readers p))))

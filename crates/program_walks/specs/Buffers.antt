@@ -56,7 +56,7 @@ module _ (p : Program) where
       list_all (λ q.
       list_all (λ x. implies (touches b x) (is_operator (slice_get p.buffers b) q.seq.operator)) q.turn) p.seqs
 
-  -- its writer reads it after this place alone
+  -- The sequence that writes a buffer at this place reads it at later places only.
   abbrev pub is_written_first : ℕ → ℕ → ℕ → Bool
   is_written_first b writer at = all_at (λ a x. implies (reads b x) (nat_lt at a)) 0 (turn p writer)
 

@@ -86,7 +86,8 @@ module _ (j : JobData) where
     where
       by : (s < length j.program.seqs) ⊎ (length j.program.seqs ≤ s) → count (opening j) s ≡ 0
       by (inl l) = get_or-replicate (length j.program.seqs) s 0 0 l
-      by (inr l) = get_or_past (replicate (length j.program.seqs) 0) s 0 (let e : length (replicate {A = ℕ} (length j.program.seqs) 0) ≡ length j.program.seqs = length-replicate (length j.program.seqs) 0 in omega arith)
+      by (inr l) = get_or_past (replicate (length j.program.seqs) 0) s 0
+          (let e : length (replicate {A = ℕ} (length j.program.seqs) 0) ≡ length j.program.seqs = length-replicate (length j.program.seqs) 0 in omega arith)
 
   opening_are : AreCounts (opening j)
   opening_are = record { there = length-replicate (length j.program.seqs) 0; within = λ s. let e = zero_at s in omega arith }

@@ -15,7 +15,9 @@ back-append : (k : ℕ) (xs ys : List Arc) → back_from k (xs ++ ys) ≡ back_f
 back-append k [] ys = refl
 back-append k (a ∷ xs) ys = by (nat_le a.lag k) (back-append k xs ys)
   where
-    by : (b : Bool) → back_from k (xs ++ ys) ≡ back_from k xs ++ back_from k ys → cond b (event (k - a.lag) a.act ∷ back_from k (xs ++ ys)) (back_from k (xs ++ ys)) ≡ cond b (event (k - a.lag) a.act ∷ back_from k xs) (back_from k xs) ++ back_from k ys
+    by : (b : Bool) → back_from k (xs ++ ys) ≡ back_from k xs ++ back_from k ys
+        → cond b (event (k - a.lag) a.act ∷ back_from k (xs ++ ys)) (back_from k (xs ++ ys))
+        ≡ cond b (event (k - a.lag) a.act ∷ back_from k xs) (back_from k xs) ++ back_from k ys
     by true e = ap (λ (l : List Event). event (k - a.lag) a.act ∷ l) e
     by false e = e
 
@@ -27,7 +29,8 @@ back_ago k d [] = by (nat_le d k)
     by false = refl
 back_ago k d (n ∷ ns) = by (nat_le d k) (back_ago k d ns)
   where
-    by : (b : Bool) → back_from k (map (arc d) ns) ≡ cond b (map (event (k - d)) ns) [] → cond b (event (k - d) n ∷ back_from k (map (arc d) ns)) (back_from k (map (arc d) ns)) ≡ cond b (event (k - d) n ∷ map (event (k - d)) ns) []
+    by : (b : Bool) → back_from k (map (arc d) ns) ≡ cond b (map (event (k - d)) ns) []
+        → cond b (event (k - d) n ∷ back_from k (map (arc d) ns)) (back_from k (map (arc d) ns)) ≡ cond b (event (k - d) n ∷ map (event (k - d)) ns) []
     by true e = ap (λ (l : List Event). event (k - d) n ∷ l) e
     by false e = e
 
@@ -54,7 +57,8 @@ back_at k (b ∷ xs) zero a e l =
     (0, ap (λ (t : Bool). slice_get (cond t (event (k - b.lag) b.act ∷ back_from k xs) (back_from k xs)) 0) there ∙ ap (λ (c : Arc). Some (event (k - c.lag) c.act)) same)
 back_at k (b ∷ xs) (suc r) a e l = by (nat_le b.lag k) (back_at k xs r a e l)
   where
-    by : (t : Bool) → (q : ℕ) × (slice_get (back_from k xs) q ≡ Some (event (k - a.lag) a.act)) → (q : ℕ) × (slice_get (cond t (event (k - b.lag) b.act ∷ back_from k xs) (back_from k xs)) q ≡ Some (event (k - a.lag) a.act))
+    by : (t : Bool) → (q : ℕ) × (slice_get (back_from k xs) q ≡ Some (event (k - a.lag) a.act)) → (q : ℕ)
+        × (slice_get (cond t (event (k - b.lag) b.act ∷ back_from k xs) (back_from k xs)) q ≡ Some (event (k - a.lag) a.act))
     by true w = (suc w.0, w.1)
     by false w = w
 
@@ -84,7 +88,8 @@ from_arc k (b ∷ xs) r e h = by (nat_le b.lag k) refl r h (λ q m. from_arc k x
 
 module _ (depth : ℕ) (vertices : List Vertex) (xs : List Act) where
   -- the three parts of the arcs: the act before it in line, those that make what it reads, and the readers of what it makes
-  parts_are : (k : ℕ) (o l : Option ℕ) (made readers : List ℕ) → back_from k (latest_arc o l ++ (map (arc 0) made ++ map (arc depth) readers)) ≡ latest_of k o l ++ (map (event k) made ++ ago depth k readers)
+  parts_are : (k : ℕ) (o l : Option ℕ) (made readers : List ℕ)
+      → back_from k (latest_arc o l ++ (map (arc 0) made ++ map (arc depth) readers)) ≡ latest_of k o l ++ (map (event k) made ++ ago depth k readers)
   parts_are k o l made readers =
       back-append k (latest_arc o l) (map (arc 0) made ++ map (arc depth) readers)
       ∙ ap (λ (es : List Event). es ++ back_from k (map (arc 0) made ++ map (arc depth) readers)) (back_line k o l)
@@ -93,10 +98,12 @@ module _ (depth : ℕ) (vertices : List Vertex) (xs : List Act) where
       ∙ ap (λ (es : List Event). latest_of k o l ++ (map (event k) made ++ es)) (back_ago k depth readers)
 
   pub arcs_are_needs : (k i : ℕ) (x : Act) → back_from k (arcs depth vertices xs i x) ≡ needs depth vertices xs k i x
-  arcs_are_needs k i x = parts_are k (last_where (same_line x) 0 (take i xs)) (last_where (same_line x) 0 xs) (numbers_where (reads_from vertices x) 0 (take i xs)) (numbers_where (has_reader vertices x) 0 xs)
+  arcs_are_needs k i x = parts_are k (last_where (same_line x) 0 (take i xs)) (last_where (same_line x) 0 xs)
+      (numbers_where (reads_from vertices x) 0 (take i xs)) (numbers_where (has_reader vertices x) 0 xs)
 
   -- each arc of an act leads to an event that must precede it, and an arc leads to each such event
-  pub to_need : (k i : ℕ) (x : Act) (r : ℕ) (a : Arc) → slice_get (arcs depth vertices xs i x) r ≡ Some a → a.lag ≤ k → (q : ℕ) × (slice_get (needs depth vertices xs k i x) q ≡ Some (event (k - a.lag) a.act))
+  pub to_need : (k i : ℕ) (x : Act) (r : ℕ) (a : Arc) → slice_get (arcs depth vertices xs i x) r ≡ Some a → a.lag ≤ k → (q : ℕ)
+      × (slice_get (needs depth vertices xs k i x) q ≡ Some (event (k - a.lag) a.act))
   to_need k i x r a e l = let w = back_at k (arcs depth vertices xs i x) r a e l in (w.0, ap (λ (es : List Event). slice_get es w.0) (sym (arcs_are_needs k i x)) ∙ w.1)
 
   pub of_need : (k i : ℕ) (x : Act) (r : ℕ) (e : Event) → slice_get (needs depth vertices xs k i x) r ≡ Some e → FromArc k (arcs depth vertices xs i x) e

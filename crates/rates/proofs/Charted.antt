@@ -39,7 +39,8 @@ module _ (depth : ℕ) (deep : 1 ≤ depth) (g : Graph) (a : Architecture) (tick
   -- no act ends before it starts
   in_order : (i : ℕ) (x : Act) → slice_get (acts s) i ≡ Some x → start_of x ≤ end_of x
   in_order i (carry t) e =
-      let parts = and_parts (is_carried (slice_get a.media t.medium) (len_of g.vertices t.source) t && have_ended (is_over t.medium) (take i (acts s)) t.start) (not (is_there g a ticks (take i (acts s)) (copy t.to t.source)))
+      let parts = and_parts (is_carried (slice_get a.media t.medium) (len_of g.vertices t.source) t
+      && have_ended (is_over t.medium) (take i (acts s)) t.start) (not (is_there g a ticks (take i (acts s)) (copy t.to t.source)))
       (right_at g a ticks s valid i (carry t) e).act in
       long (slice_get a.media t.medium) (and_parts (is_carried (slice_get a.media t.medium) (len_of g.vertices t.source) t) (have_ended (is_over t.medium) (take i (acts s)) t.start) parts.0).0
     where
@@ -55,14 +56,16 @@ module _ (depth : ℕ) (deep : 1 ≤ depth) (g : Graph) (a : Architecture) (tick
       long None h = absurd (false≢true h)
       long (Some n) h = let z = eqb-true d.end (d.start + n) h in omega arith
 
-  follows : (i : ℕ) (x : Act) → slice_get (acts s) i ≡ Some x → (r : ℕ) (b : Arc) → slice_get (arcs depth g.vertices (acts s) i x) r ≡ Some b → chart_end (acts s) b.act + 1 * stated_at (acts s) i ≤ chart_end (acts s) i + b.lag * length_of s
+  follows : (i : ℕ) (x : Act) → slice_get (acts s) i ≡ Some x → (r : ℕ) (b : Arc) → slice_get (arcs depth g.vertices (acts s) i x) r
+      ≡ Some b → chart_end (acts s) b.act + 1 * stated_at (acts s) i ≤ chart_end (acts s) i + b.lag * length_of s
   follows i x e r b h =
       let w = to_need depth g.vertices (acts s) b.lag i x r b h (omega arith) in
       let end = end_at (acts s) i x e in
       let long = long_at (acts s) i x e in
       elim (needs_are depth deep g.vertices (acts s) b.lag i x w.0 (event (b.lag - b.lag) b.act) w.1) [
         | inl n ↦ (let l = ended_before g a ticks s valid i x e b.act n.it n.less n.stands n.how in let z = end_at (acts s) b.act n.it n.stands in let order = in_order i x e in omega arith)
-        | inr p ↦ (let less = p.less in let l = latest_at (acts s) b.act p.it p.stands in let z = end_at (acts s) b.act p.it p.stands in let one : 1 ≤ b.lag = omega arith in let times = mul-le-mul_left (length_of s) one in omega arith)
+        | inr p ↦ (let less = p.less in let l = latest_at (acts s) b.act p.it p.stands in let z = end_at (acts s) b.act p.it p.stands in
+            let one : 1 ≤ b.lag = omega arith in let times = mul-le-mul_left (length_of s) one in omega arith)
       ]
 
   pub chart_is_sustained : Sustains depth g.vertices (acts s) (stated_at (acts s)) (length_of s) 1 (λ i. with_act (slice_get (acts s) i) end_of)

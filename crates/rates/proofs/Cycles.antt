@@ -83,7 +83,7 @@ module _ (depth : ℕ) (vertices : List Vertex) (xs : List Act) (long : ℕ → 
 
 -- an arc over no reaction leads to an act with a lower number
 module _ (depth : ℕ) (deep : 1 ≤ depth) (vertices : List Vertex) (xs : List Act) where
-  up : (a : Arc) (i : ℕ) → Precedes depth vertices xs a i → a.lag ≡ 0 → a.act < i
+  pub up : (a : Arc) (i : ℕ) → Precedes depth vertices xs a i → a.lag ≡ 0 → a.act < i
   up a i p z =
       let w = to_need depth vertices xs 0 i p.it p.at a p.is (omega arith) in
       elim (needs_are depth deep vertices xs 0 i p.it w.0 (event (0 - a.lag) a.act) w.1) [

@@ -63,7 +63,7 @@ module _ (depth : ℕ) (deep : 1 ≤ depth) (vertices : List Vertex) (xs : List 
   ]
 
   -- no arc leads further back than this
-  lag_low : (a : Arc) (i : ℕ) → Precedes depth vertices xs a i → a.lag ≤ 1 + depth
+  pub lag_low : (a : Arc) (i : ℕ) → Precedes depth vertices xs a i → a.lag ≤ 1 + depth
   lag_low a i p =
       parts_low (last_where (same_line p.it) 0 (take i xs)) (last_where (same_line p.it) 0 xs) (numbers_where (reads_from vertices p.it) 0 (take i xs)) (numbers_where (has_reader vertices p.it) 0 xs)
       p.at a p.is
@@ -105,7 +105,8 @@ module _ (depth : ℕ) (deep : 1 ≤ depth) (vertices : List Vertex) (xs : List 
         up : bound * ticks / reactions < bound * more / over
         within : bound * more / over ≤ bound * most_ticks
 
-      higher : (ticks reactions : ℕ) → 0 < reactions → reactions ≤ most_lags → (i : ℕ) (way : List Arc) → IsCycle depth vertices xs i way → ticks * lags way < reactions * length_over long way → length way ≤ length xs → Higher ticks reactions
+      higher : (ticks reactions : ℕ) → 0 < reactions → reactions ≤ most_lags → (i : ℕ) (way : List Arc) → IsCycle depth vertices xs i way
+          → ticks * lags way < reactions * length_over long way → length way ≤ length xs → Higher ticks reactions
       higher ticks reactions some low i way c far few =
           let fewer = lags_few i way c.leads few in
           let shorter = ticks_few i way c.leads few in

@@ -1,5 +1,37 @@
 -- Every rate is sustained with some offsets, or a cycle is over it: the search goes on as long as an arc has no room, and ends since each turn raises an offset.
-use Rattle.std.proofs.Common.{◌≡◌, ℕ, zero, suc, ◌+◌, ◌*◌, ◌<◌, ◌≤◌, ◌⊎◌, Bool, true, false, cond, ◌&&◌, List, [], ◌∷◌, length, Option, Some, None, refl, sym, ap, subst, inl, inr, arith, ◌∙◌, eq-eqb, ne_eqb}
+use Rattle.std.proofs.Common.{
+  ◌≡◌,
+  ℕ,
+  zero,
+  suc,
+  ◌+◌,
+  ◌*◌,
+  ◌<◌,
+  ◌≤◌,
+  ◌⊎◌,
+  Bool,
+  true,
+  false,
+  cond,
+  ◌&&◌,
+  List,
+  [],
+  ◌∷◌,
+  length,
+  Option,
+  Some,
+  None,
+  refl,
+  sym,
+  ap,
+  subst,
+  inl,
+  inr,
+  arith,
+  ◌∙◌,
+  eq-eqb,
+  ne_eqb,
+}
 use Rattle.std.specs.Prelude.{slice_get, nat_le, ◌-◌, ◌==◌}
 use Rattle.std.specs.List.{list_all}
 use Rattle.std.proofs.lemmas.Bool.{true≢false, and_cases, cases_eq, cases_lt, leb-false}
@@ -94,13 +126,16 @@ module _ (depth : ℕ) (deep : 1 ≤ depth) (vertices : List Vertex) (xs : List 
   fails_at : (offset : ℕ → ℕ) (n : ℕ) (ys : List Act) → is_sustained_from depth vertices xs long ticks reactions offset n ys ≡ false
       → (i : ℕ) × (j : ℕ) × (x : Act) × (j ≡ n + i) × (slice_get ys i ≡ Some x) × Fails offset j x
   fails_at offset n [] h = absurd (true≢false h)
-  fails_at offset n (y ∷ ys) h = elim (and_cases (nat_le (reactions * long n) (offset n)) (list_all (has_room long ticks reactions offset n) (arcs depth vertices xs n y) && is_sustained_from depth vertices xs long ticks reactions offset (suc n) ys) h) [
-    | inl f ↦ (0, n, y, omega arith, refl, inl f)
-    | inr f ↦ elim (and_cases (list_all (has_room long ticks reactions offset n) (arcs depth vertices xs n y)) (is_sustained_from depth vertices xs long ticks reactions offset (suc n) ys) f) [
-      | inl g ↦ (0, n, y, omega arith, refl, inr (some_fails (has_room long ticks reactions offset n) (arcs depth vertices xs n y) g))
-      | inr g ↦ (let r = fails_at offset (suc n) ys g in let z = r.3 in (suc r.0, r.1, r.2, omega arith, r.4, r.5))
-    ]
-  ]
+  fails_at offset n (y ∷ ys) h = elim
+      (and_cases (nat_le (reactions * long n) (offset n))
+      (list_all (has_room long ticks reactions offset n) (arcs depth vertices xs n y)
+      && is_sustained_from depth vertices xs long ticks reactions offset (suc n) ys) h) [
+        | inl f ↦ (0, n, y, omega arith, refl, inl f)
+        | inr f ↦ elim (and_cases (list_all (has_room long ticks reactions offset n) (arcs depth vertices xs n y)) (is_sustained_from depth vertices xs long ticks reactions offset (suc n) ys) f) [
+          | inl g ↦ (0, n, y, omega arith, refl, inr (some_fails (has_room long ticks reactions offset n) (arcs depth vertices xs n y) g))
+          | inr g ↦ (let r = fails_at offset (suc n) ys g in let z = r.3 in (suc r.0, r.1, r.2, omega arith, r.4, r.5))
+        ]
+      ]
 
   -- an arc without room
   record HasNone (offset : ℕ → ℕ) : Type 0 where

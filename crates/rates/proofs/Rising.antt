@@ -140,7 +140,8 @@ module _ (table : List (List Arc)) (long : List ℕ) (s : IsSearchable table lon
         low = (let z = is.low in let l = low in omega arith);
         lowest = is.lowest;
         exact = inr (both (is_cycle_in table i way) (next.reactions * length_over (at long) way == next.ticks * lags way)
-            (both (begin_or i way == i) (is_way_in table i way && nat_le 1 (lags way)) (eq-eqb (begin_or i way) i over.begins) (both (is_way_in table i way) (nat_le 1 (lags way)) over.leads (le-leb 1 (lags way) over.later)))
+            (both (begin_or i way == i) (is_way_in table i way && nat_le 1 (lags way)) (eq-eqb (begin_or i way) i over.begins)
+            (both (is_way_in table i way) (nat_le 1 (lags way)) over.leads (le-leb 1 (lags way) over.later)))
             (eq-eqb (next.reactions * length_over (at long) way) (next.ticks * lags way) is.same));
       }
 
@@ -148,7 +149,8 @@ module _ (table : List (List Arc)) (long : List ℕ) (s : IsSearchable table lon
       less =
           let fewer : next.reactions ≤ 2 ^ 30 = goes_on.low in
           let product = mul-le rate.reactions next.reactions (2 ^ 30) (2 ^ 30) now.low fewer in
-          let up = quotient_rises (2 ^ 60) rate.ticks rate.reactions next.ticks next.reactions now.some is.some (omega arith) (ratio_up rate.ticks rate.reactions next.ticks next.reactions (length_over (at long) way) (lags way) over.later is.some is.same over.longer) in
+          let up = quotient_rises (2 ^ 60) rate.ticks rate.reactions next.ticks next.reactions now.some is.some (omega arith)
+          (ratio_up rate.ticks rate.reactions next.ticks next.reactions (length_over (at long) way) (lags way) over.later is.some is.same over.longer) in
           let top = quotient_low (2 ^ 60 * next.ticks) next.reactions is.some in
           let f = is.few in
           let z = short in

@@ -1,5 +1,40 @@
 -- The search over a table: what holds of the offsets and the arcs so far, how one more arc is looked at, and how it ends.
-use Rattle.std.proofs.Common.{◌≡◌, ℕ, zero, suc, ◌+◌, ◌*◌, ◌^◌, ◌<◌, ◌≤◌, true, ◌&&◌, List, [], ◌∷◌, ◌++◌, length, map, reverse, replicate, Option, Some, None, refl, sym, ap, ap₂, subst, inl, inr, arith, ◌∙◌, eq-eqb, append_assoc, length-append}
+use Rattle.std.proofs.Common.{
+  ◌≡◌,
+  ℕ,
+  zero,
+  suc,
+  ◌+◌,
+  ◌*◌,
+  ◌^◌,
+  ◌<◌,
+  ◌≤◌,
+  true,
+  ◌&&◌,
+  List,
+  [],
+  ◌∷◌,
+  ◌++◌,
+  length,
+  map,
+  reverse,
+  replicate,
+  Option,
+  Some,
+  None,
+  refl,
+  sym,
+  ap,
+  ap₂,
+  subst,
+  inl,
+  inr,
+  arith,
+  ◌∙◌,
+  eq-eqb,
+  append_assoc,
+  length-append,
+}
 use Rattle.std.specs.Prelude.{slice_get, slice_set, nat_le, ◌==◌}
 use Rattle.std.specs.List.{list_all}
 use Rattle.std.proofs.lemmas.Bool.{cases_lt, le-leb}
@@ -33,7 +68,8 @@ none_given zero i = refl
 none_given (suc n) zero = refl
 none_given (suc n) (suc i) = none_given n i
 
-pub started : (table : List (List Arc)) (long : List ℕ) (rate : Rate) (offsets : List ℕ) (given : List (Option Arc)) → AreFirst long rate.reactions (length table) offsets → given ≡ replicate (length table) None
+pub started : (table : List (List Arc)) (long : List ℕ) (rate : Rate) (offsets : List ℕ) (given : List (Option Arc))
+    → AreFirst long rate.reactions (length table) offsets → given ≡ replicate (length table) None
     → IsSearchOf table long rate offsets given
 started table long rate offsets given f e = record {
   offsets_size = f.size;
@@ -66,7 +102,8 @@ module _ (table : List (List Arc)) (long : List ℕ) (rate : Rate) (s : IsSearch
       let rest = all_up i b way h.1 (omega arith) in
       omega arith
 
-  later : (i : ℕ) (way : List Arc) → begin_or i way ≡ i → IsWay (length table) (IsInRow table) (at long) rate.ticks rate.reactions i way → rate.ticks * lags way < rate.reactions * length_over (at long) way → 0 < lags way
+  later : (i : ℕ) (way : List Arc) → begin_or i way ≡ i → IsWay (length table) (IsInRow table) (at long) rate.ticks rate.reactions i way
+      → rate.ticks * lags way < rate.reactions * length_over (at long) way → 0 < lags way
   later i [] b h l = absurd (omega arith)
   later i (a ∷ way) b h l = elim (cases_lt 0 (lags (a ∷ way))) [
     | inl z ↦ z
@@ -94,7 +131,9 @@ module _ (table : List (List Arc)) (long : List ℕ) (rate : Rate) (s : IsSearch
         let here = le-leb (rate.reactions * at long n) (at offsets n) (f 0 n (omega arith) (omega arith)) in
         let room = g 0 n (omega arith) (omega arith) in
         let rest = fits_from (n + 1) rows (λ i j q l. f (suc i) j (omega arith) (omega arith)) (λ i j q l. g (suc i) j (omega arith) (omega arith)) in
-        both (nat_le (rate.reactions * at long n) (at offsets n) && list_all (has_room (at long) rate.ticks rate.reactions (at offsets) n) row) (rows_fit_from (at long) rate.ticks rate.reactions (at offsets) (n + 1) rows)
+        both (nat_le (rate.reactions * at long n) (at offsets n)
+        && list_all (has_room (at long) rate.ticks rate.reactions (at offsets) n) row)
+        (rows_fit_from (at long) rate.ticks rate.reactions (at offsets) (n + 1) rows)
         (both (nat_le (rate.reactions * at long n) (at offsets n)) (list_all (has_room (at long) rate.ticks rate.reactions (at offsets) n) row) here room) rest
 
     pub fits : HaveRoomFrom table long rate offsets 0 → rows_fit (at long) rate.ticks rate.reactions (at offsets) table ≡ true
@@ -124,7 +163,8 @@ module _ (table : List (List Arc)) (long : List ℕ) (rate : Rate) (s : IsSearch
       goes_on = record {
         offsets_size = length-set offsets l.act next ∙ now.offsets_size;
         given_size = length-set given l.act (Some l.arc) ∙ now.given_size;
-        search = raised (length table) (IsInRow table) (at long) rate.ticks rate.reactions (at offsets) (given_at given) now.search l.act l.arc k.here (s.there l.arc l.act k.is) k.is k.over m.way m.back m.avoids
+        search = raised (length table) (IsInRow table) (at long) rate.ticks rate.reactions (at offsets)
+            (given_at given) now.search l.act l.arc k.here (s.there l.arc l.act k.is) k.is k.over m.way m.back m.avoids
             (at (slice_set offsets l.act next)) (given_at (slice_set given l.act (Some l.arc)))
             (let e = offset_here in let h = is in omega arith) (λ j n. get_or-set_other offsets l.act j next 0 n)
             (get_or-set_same given l.act (Some l.arc) None (let e = now.given_size in let h = k.here in omega arith)) (λ j n. get_or-set_other given l.act j (Some l.arc) None n);
@@ -140,7 +180,8 @@ module _ (table : List (List Arc)) (long : List ℕ) (rate : Rate) (s : IsSearch
           (low_after l.act k.here) (λ j n. get_or-set_other offsets l.act j next 0 n) (length table) k.here
         where
           low_after : (i : ℕ) → i < length table → at (slice_set offsets l.act next) i ≤ cap table long rate
-          low_after i b = offsets_low (length table) (IsInRow table) (at long) rate.ticks rate.reactions (at (slice_set offsets l.act next)) (given_at given') after.search (2 ^ 30) (λ j h. s.short j) i b
+          low_after i b = offsets_low (length table) (IsInRow table) (at long) rate.ticks rate.reactions
+              (at (slice_set offsets l.act next)) (given_at given') after.search (2 ^ 30) (λ j h. s.short j) i b
 
 -- The walk back from a lacking arc: the arcs so far, and the next one.
 pub record IsWalk (given : List (Option Arc)) (lacking : Lacking) (k : ℕ) (way : List Arc) (arc : Arc) : Type 0 where

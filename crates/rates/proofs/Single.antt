@@ -34,7 +34,8 @@ module _ (depth : ℕ) (vertices : List Vertex) (xs : List Act) (long : ℕ → 
       let low = no_faster depth vertices xs long s.0 ticks reactions s.1 c.0 c.1 c.2.cycle in
       ratio_low ticks reactions more over (length_over long c.1) (lags c.1) c.2.cycle.later c.2.rate low
 
-  pub one_rate : (ticks reactions more over : ℕ) → 0 < reactions → 0 < over → IsSustained ticks reactions → IsSustained more over → IsExact ticks reactions → IsExact more over → ticks * over ≡ more * reactions
+  pub one_rate : (ticks reactions more over : ℕ) → 0 < reactions → 0 < over → IsSustained ticks reactions → IsSustained more over
+      → IsExact ticks reactions → IsExact more over → ticks * over ≡ more * reactions
   one_rate ticks reactions more over some some' s s' e e' =
       let up = lowest ticks reactions more over s e' in
       let down = lowest more over ticks reactions s' e in

@@ -18,7 +18,8 @@ use Rattle.rates.proofs.Arced.{to_need, of_need}
 greatest_times : (f : Event → ℕ) (c m bound : ℕ) (es : List Event) → m ≤ bound → ((r : ℕ) (e : Event) → slice_get es r ≡ Some e → c * f e + m ≤ bound) → c * greatest (map f es) + m ≤ bound
 greatest_times f c m bound [] l h = omega arith
 greatest_times f c m bound (e ∷ es) l h = elim (cases_lt (f e) (greatest (map f es))) [
-  | inl z ↦ (let is : max (f e) (greatest (map f es)) ≡ greatest (map f es) = omega arith in let w = ap (λ (n : ℕ). c * n) is in let y = greatest_times f c m bound es l (λ r d q. h (suc r) d q) in omega arith)
+  | inl z ↦ (let is : max (f e) (greatest (map f es)) ≡ greatest (map f es) = omega arith in let w = ap (λ (n : ℕ). c * n) is in
+      let y = greatest_times f c m bound es l (λ r d q. h (suc r) d q) in omega arith)
   | inr z ↦ (let is : max (f e) (greatest (map f es)) ≡ f e = omega arith in let w = ap (λ (n : ℕ). c * n) is in let y = h 0 e refl in omega arith)
 ]
 
@@ -37,7 +38,8 @@ module _ (depth : ℕ) (vertices : List Vertex) (xs : List Act) (long offset : �
       omega arith
 
   pub from_events : ((i : ℕ) (x : Act) → slice_get xs i ≡ Some x → reactions * long i ≤ offset i)
-      → ((k i : ℕ) (x : Act) → slice_get xs i ≡ Some x → (r : ℕ) (e : Event) → slice_get (needs depth vertices xs k i x) r ≡ Some e → offset e.act + reactions * long i ≤ offset i + (k - e.reaction) * ticks)
+      → ((k i : ℕ) (x : Act) → slice_get xs i ≡ Some x → (r : ℕ) (e : Event) → slice_get (needs depth vertices xs k i x) r ≡ Some e
+      → offset e.act + reactions * long i ≤ offset i + (k - e.reaction) * ticks)
       → Sustains depth vertices xs long ticks reactions offset
   from_events fits follows = record { fits = fits; follows = each }
     where
@@ -49,7 +51,8 @@ module _ (depth : ℕ) (vertices : List Vertex) (xs : List Act) (long offset : �
           let times = ap (λ (n : ℕ). n * ticks) lag in
           omega arith
 
-  module _ (deep : 1 ≤ depth) (s : Sustains depth vertices xs long ticks reactions offset) (lasts ends : ℕ → ℕ → ℕ) (short : NoneLongerThan xs long lasts) (are : AreDates depth vertices xs lasts ends) where
+  module _ (deep : 1 ≤ depth) (s : Sustains depth vertices xs long ticks reactions offset) (lasts ends : ℕ → ℕ → ℕ)
+      (short : NoneLongerThan xs long lasts) (are : AreDates depth vertices xs lasts ends) where
     abbrev InTime : ℕ → ℕ → Type 0
     InTime k i = (x : Act) → slice_get xs i ≡ Some x → reactions * ends k i ≤ k * ticks + offset i
 
@@ -71,6 +74,10 @@ module _ (depth : ℕ) (vertices : List Vertex) (xs : List Act) (long offset : �
 
             each : (r : ℕ) (d : Event) → slice_get (needs depth vertices xs k i x) r ≡ Some d → reactions * ends d.reaction d.act + reactions * long i ≤ k * ticks + offset i
             each r d m = elim (needs_are depth deep vertices xs k i x r d m) [
-              | inl n ↦ (let same = n.reaction in then d (k - d.reaction) (omega arith) (let same_end = ap (λ (j : ℕ). reactions * ends j d.act) n.reaction in let same_ticks = ap (λ (j : ℕ). j * ticks) n.reaction in let bound = now d.act n.less n.it n.stands in omega arith) (of_events s k i x e r d m))
+              | inl n ↦ (let same = n.reaction in
+                  then d (k - d.reaction) (omega arith)
+                  (let same_end = ap (λ (j : ℕ). reactions * ends j d.act) n.reaction in
+                  let same_ticks = ap (λ (j : ℕ). j * ticks) n.reaction in let bound = now d.act n.less n.it n.stands in omega arith)
+                  (of_events s k i x e r d m))
               | inr p ↦ (let less = p.less in then d (k - d.reaction) (omega arith) (past d.reaction d.act p.less p.it p.stands) (of_events s k i x e r d m))
             ]

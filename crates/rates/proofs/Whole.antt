@@ -5,7 +5,23 @@ use Rattle.self_timed.specs.declared.Vertex.{Vertex}
 use Rattle.self_timed.specs.Acts.{Act}
 use Rattle.rates.specs.declared.table.Arc.{Arc}
 use Rattle.rates.specs.Rates.{lags, IsWayTo}
-use Rattle.rates.specs.Laws.{ArcsAreNeeds, SustainsIsOfNeeds, RatesAreSustained, ChartIsSustained, NoExecutiveIsFaster, NoRateIsBelowACycle, CriticalCyclesAreExact, CyclesTakeReactions, SustainedIsTested, CycleIsTested, EveryRateIsSustainedOrExceeded, ExactRatesAreOne, SomeRateIsExact, TablesAreTested, ClockKeepsOrder}
+use Rattle.rates.specs.Laws.{
+  ArcsAreNeeds,
+  SustainsIsOfNeeds,
+  RatesAreSustained,
+  ChartIsSustained,
+  NoExecutiveIsFaster,
+  NoRateIsBelowACycle,
+  CriticalCyclesAreExact,
+  CyclesTakeReactions,
+  SustainedIsTested,
+  CycleIsTested,
+  EveryRateIsSustainedOrExceeded,
+  ExactRatesAreOne,
+  SomeRateIsExact,
+  TablesAreTested,
+  ClockKeepsOrder,
+}
 use Rattle.rates.proofs.Arced.{arcs_are_needs as are_needs}
 use Rattle.rates.proofs.Sustained.{of_events, from_events, sustained}
 use Rattle.rates.proofs.Cycles.{turns, no_faster, exact_below, takes_reactions}

@@ -3,6 +3,7 @@ use Rattle.std.proofs.Common.{◌≡◌, ◌≤◌, ◌*◌, ℕ, Bool, true, fa
 use Rattle.std.specs.Prelude.{slice_get, slice_index_or}
 use Rattle.self_timed.specs.Graph.{Graph}
 use Rattle.self_timed.specs.declared.Medium.{Medium}
+use Rattle.self_timed.specs.declared.MediumKind.TheVariants.{PointToPoint}
 use Rattle.self_timed.specs.Archi.{Architecture}
 use Rattle.self_timed.specs.declared.Schedule.{Schedule}
 use Rattle.self_timed.specs.Acts.{Act, acts, end_of, length_of}
@@ -28,7 +29,8 @@ abbrev critical : ℕ → Graph → Schedule → ℕ → ℕ → ℕ → List Ar
 critical depth g s ticks reactions i way = is_critical_cycle depth g.vertices (acts s) (stated_at (acts s)) ticks reactions i way
 
 -- One operator: sensor and actuator last 1 and 2, so a reaction takes 3; two reactions in 6 ticks are the same rate.
-plain_sustains : (sustains 1 plain_graph plain_schedule 3 1 (1 ∷ 3 ∷ []) ≡ true) × (sustains 1 plain_graph plain_schedule 6 2 (2 ∷ 6 ∷ []) ≡ true) × (sustains 1 plain_graph plain_schedule 2 1 (1 ∷ 3 ∷ []) ≡ false)
+plain_sustains : (sustains 1 plain_graph plain_schedule 3 1 (1 ∷ 3 ∷ []) ≡ true)
+    × (sustains 1 plain_graph plain_schedule 6 2 (2 ∷ 6 ∷ []) ≡ true) × (sustains 1 plain_graph plain_schedule 2 1 (1 ∷ 3 ∷ []) ≡ false)
 plain_sustains = (refl, refl, refl)
 
 -- the cycle may begin at either of them, and three ticks for two reactions are too few
@@ -91,7 +93,8 @@ delay_cycle : (critical 1 delay_graph delay_schedule 12 1 1 (arc 0 1 ∷ arc 1 5
 delay_cycle = (refl, refl)
 
 -- Operators that wait for nothing, with a sensor each, which lasts 4 or 0: the slower one has the rate, by one turn or by two.
-lone_sustains : (sustains 1 multi_graph lone_schedule 4 1 (4 ∷ 0 ∷ []) ≡ true) × (sustains 1 multi_graph lone_schedule 3 1 (4 ∷ 0 ∷ []) ≡ false) × (sustains 1 multi_graph lone_schedule 4 1 (3 ∷ 0 ∷ []) ≡ false)
+lone_sustains : (sustains 1 multi_graph lone_schedule 4 1 (4 ∷ 0 ∷ []) ≡ true)
+    × (sustains 1 multi_graph lone_schedule 3 1 (4 ∷ 0 ∷ []) ≡ false) × (sustains 1 multi_graph lone_schedule 4 1 (3 ∷ 0 ∷ []) ≡ false)
 lone_sustains = (refl, refl, refl)
 
 lone_cycle : (critical 1 multi_graph lone_schedule 4 1 0 (arc 1 0 ∷ []) ≡ true) × (critical 1 multi_graph lone_schedule 4 1 0 (arc 1 0 ∷ arc 1 0 ∷ []) ≡ true)
@@ -99,7 +102,9 @@ lone_cycle : (critical 1 multi_graph lone_schedule 4 1 0 (arc 1 0 ∷ []) ≡ tr
 lone_cycle = (refl, refl, refl, refl)
 
 -- no arcs are no cycle; an arc over another number of reactions is not there
-lone_others : (is_cycle 1 multi_graph.vertices (acts lone_schedule) 0 [] ≡ false) × (is_cycle 1 multi_graph.vertices (acts lone_schedule) 0 (arc 2 0 ∷ []) ≡ false) × (is_cycle 1 multi_graph.vertices (acts lone_schedule) 0 (arc 1 1 ∷ []) ≡ false)
+lone_others : (is_cycle 1 multi_graph.vertices (acts lone_schedule) 0 [] ≡ false)
+    × (is_cycle 1 multi_graph.vertices (acts lone_schedule) 0 (arc 2 0 ∷ []) ≡ false)
+    × (is_cycle 1 multi_graph.vertices (acts lone_schedule) 0 (arc 1 1 ∷ []) ≡ false)
 lone_others = (refl, refl, refl)
 
 -- without acts every rate is sustained
@@ -131,7 +136,7 @@ abbrev cross_schedule : Schedule
 cross_schedule = schedule (placed 0 0 0 1 [] ∷ placed 1 1 0 1 [] ∷ placed 2 1 6 7 (carried 0 0 0 1 1 6 ∷ []) ∷ placed 3 0 7 8 (carried 1 1 1 0 1 7 ∷ []) ∷ [])
 
 abbrev cross_medium : ℕ → ℕ → Medium
-cross_medium c fixed = record { name = c ∷ []; multi = false; fixed = fixed; per = 1; stands = 0 ∷ 1 ∷ [] }
+cross_medium c fixed = record { name = c ∷ []; kind = PointToPoint; fixed = fixed; per = 1; stands = 0 ∷ 1 ∷ [] }
 
 abbrev cross_archi : Architecture
 cross_archi = archi ((80 ∷ []) ∷ (81 ∷ []) ∷ []) (cross_medium 109 4 ∷ cross_medium 110 5 ∷ [])
@@ -152,7 +157,8 @@ cross_cycle = refl
 -- it follows that no act ends later than in the chart repeated
 no_later : NoLaterThanStated
 no_later depth g a ticks s lasts ends deep valid short are k i x e =
-    let above = rates_are_sustained depth g.vertices (acts s) (stated_at (acts s)) (λ i. with_act (slice_get (acts s) i) end_of) (length_of s) 1 lasts ends deep (chart_is_sustained depth g a ticks s deep valid)
+    let above = rates_are_sustained depth g.vertices (acts s) (stated_at (acts s)) (λ i. with_act (slice_get (acts s) i) end_of)
+    (length_of s) 1 lasts ends deep (chart_is_sustained depth g a ticks s deep valid)
     (λ j h y q. let z = ap (λ (o : Option Act). with_act o stated) q in let l = short j h y q in omega arith) are k i x e in
     let end = ap (λ (o : Option Act). with_act o end_of) e in
     omega arith

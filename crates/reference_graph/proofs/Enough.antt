@@ -1,6 +1,38 @@
 -- Paths and depths are followed far enough: what is led to grows with the length of paths, and not more often than there
 -- are vertices.
-use Rattle.std.proofs.Common.{◌≡◌, ℕ, zero, suc, ◌+◌, ◌<◌, ◌≤◌, Bool, true, false, ◌||◌, ◌==◌, cond, ltb, List, [], ◌∷◌, length, map, get_or, arith, refl, sym, ap, subst, ◌∙◌, ◌⊎◌, inl, inr, ltb-true, ltb-false}
+use Rattle.std.proofs.Common.{
+  ◌≡◌,
+  ℕ,
+  zero,
+  suc,
+  ◌+◌,
+  ◌<◌,
+  ◌≤◌,
+  Bool,
+  true,
+  false,
+  ◌||◌,
+  ◌==◌,
+  cond,
+  ltb,
+  List,
+  [],
+  ◌∷◌,
+  length,
+  map,
+  get_or,
+  arith,
+  refl,
+  sym,
+  ap,
+  subst,
+  ◌∙◌,
+  ◌⊎◌,
+  inl,
+  inr,
+  ltb-true,
+  ltb-false,
+}
 use Rattle.std.specs.Prelude.{Some, None, position}
 use Rattle.std.specs.List.{list_any, position_or_len, range_with_len}
 use Rattle.std.proofs.Math.Dec.{eqb}
@@ -179,7 +211,8 @@ none_returns p n e k l = by (ltb (position_or_len p xs) (length xs)) refl
     xs = range_with_len 0 n
 
     by : (t : Bool) → ltb (position_or_len p (range_with_len 0 n)) (length (range_with_len 0 n)) ≡ t → p k ≡ false
-    by true f = absurd (let some : position p (range_with_len 0 n) ≡ Some (position_or_len p (range_with_len 0 n)) = ap (λ (t : Bool). cond t (Some (position_or_len p (range_with_len 0 n))) None) f in cc)
+    by true f = absurd (let some : position p (range_with_len 0 n)
+        ≡ Some (position_or_len p (range_with_len 0 n)) = ap (λ (t : Bool). cond t (Some (position_or_len p (range_with_len 0 n))) None) f in cc)
     by false f =
         let len = length-range_with_len 0 n in
         let end = ltb-false (position_or_len p (range_with_len 0 n)) (length (range_with_len 0 n)) f in

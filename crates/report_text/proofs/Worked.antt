@@ -4,6 +4,7 @@ use Rattle.std.specs.Fmt.{digits}
 use Rattle.syn_base.specs.Bytes.{Bytes}
 use Rattle.timing_chart.specs.Chart.{line_text, text_of}
 use Rattle.self_timed.specs.declared.Vertex.{Vertex}
+use Rattle.self_timed.specs.declared.MediumKind.TheVariants.{PointToPoint}
 use Rattle.self_timed.specs.declared.Kind.TheVariants.{Sensor, Actuator}
 use Rattle.self_timed.specs.Archi.{Architecture}
 use Rattle.self_timed.proofs.Examples.{archi, medium, source, vertex}
@@ -73,7 +74,7 @@ beside = (refl, refl, refl)
 
 -- Two operators on a bus, a sensor and two actuators.
 abbrev lines : Architecture
-lines = archi ((80 ∷ []) ∷ (81 ∷ []) ∷ []) (medium 109 false (0 ∷ 1 ∷ []) ∷ [])
+lines = archi ((80 ∷ []) ∷ (81 ∷ []) ∷ []) (medium 109 PointToPoint (0 ∷ 1 ∷ []) ∷ [])
 
 abbrev vertices : List Vertex
 vertices = vertex 115 (Sensor 0) [] (1 ∷ []) ∷ vertex 97 (Actuator 0) (source 0 ∷ []) [] ∷ vertex 98 (Actuator 1) (source 0 ∷ []) [] ∷ []

@@ -54,7 +54,7 @@ ratio_word r =
 abbrev pub period_word : Period → Bytes
 period_word p = ratio_word (ratio p.ticks p.reactions)
 
--- WORD NUMBER
+-- The line `WORD NUMBER`.
 abbrev pub number_line : Bytes → ℕ → Line
 number_line word n = word ∷ decimal n ∷ []
 
@@ -158,7 +158,7 @@ module _ (vertices : List Vertex) where
   abbrev pub period_lines : Architecture → Figures → List Line
   period_lines a f = period_line f.period ∷ busiest_line a f.busiest ∷ map latency_line f.latencies
 
-  -- chain NAME TICKS
+  -- The line `chain NAME TICKS` of an operation of the chain.
   abbrev pub chain_line : Link → Line
   chain_line k = codes "chain" ∷ name_of k.op ∷ decimal k.ticks ∷ []
 

@@ -1,5 +1,38 @@
 -- The computed routes are the least ones: they are chosen from all routes of this many hops.
-use Rattle.std.proofs.Common.{◌≡◌, ℕ, zero, suc, ◌+◌, ◌-◌, ◌*◌, ◌<◌, ◌≤◌, Bool, true, false, cond, ◌||◌, ◌==◌, List, [], ◌∷◌, ◌++◌, map, length, Some, refl, sym, ap, subst, arith, ◌∙◌, ◌⊎◌, inl, inr, length-append}
+use Rattle.std.proofs.Common.{
+  ◌≡◌,
+  ℕ,
+  zero,
+  suc,
+  ◌+◌,
+  ◌-◌,
+  ◌*◌,
+  ◌<◌,
+  ◌≤◌,
+  Bool,
+  true,
+  false,
+  cond,
+  ◌||◌,
+  ◌==◌,
+  List,
+  [],
+  ◌∷◌,
+  ◌++◌,
+  map,
+  length,
+  Some,
+  refl,
+  sym,
+  ap,
+  subst,
+  arith,
+  ◌∙◌,
+  ◌⊎◌,
+  inl,
+  inr,
+  length-append,
+}
 use Rattle.std.specs.Prelude.{Contains, slice_get, slice_index_or, nat_eq}
 use Rattle.std.specs.List.{flat_map, list_any, range_with_len}
 use Rattle.std.proofs.lemmas.Bool.{eqb-true, eq-eqb}
@@ -284,6 +317,7 @@ routes_are_least a valid = record {
     one_more from near far h lf ln e lh is =
         let last : IsRoute a.media near (h ∷ []) far = (is, e) in
         let long = route_on a.media from near far (route_in (table_of a) from near) (h ∷ []) (all from near lf ln).route last in
-        let no_less = not_less_is_no_shorter (route_in (table_of a) from near ++ h ∷ []) (route_in (table_of a) from far) ((all from far lf lh).least (route_in (table_of a) from near ++ h ∷ []) long) in
+        let no_less = not_less_is_no_shorter (route_in (table_of a) from near ++ h ∷ []) (route_in (table_of a) from far)
+        ((all from far lf lh).least (route_in (table_of a) from near ++ h ∷ []) long) in
         let d : length (route_in (table_of a) from near ++ h ∷ []) ≡ level_in (table_of a) from near + 1 = length-append (route_in (table_of a) from near) (h ∷ []) in
         omega (arith, no_less, d)

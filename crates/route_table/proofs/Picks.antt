@@ -1,5 +1,37 @@
 -- The hop that is chosen gives a route that is not greater than that of any other hop.
-use Rattle.std.proofs.Common.{◌≡◌, ℕ, zero, suc, ◌+◌, ◌<◌, Bool, true, false, cond, ◌&&◌, ◌||◌, List, [], ◌∷◌, length, Option, Some, None, refl, sym, ap, subst, arith, ◌∙◌, ◌⊎◌, inl, inr, add-zero, zero-add, drop}
+use Rattle.std.proofs.Common.{
+  ◌≡◌,
+  ℕ,
+  zero,
+  suc,
+  ◌+◌,
+  ◌<◌,
+  Bool,
+  true,
+  false,
+  cond,
+  ◌&&◌,
+  ◌||◌,
+  List,
+  [],
+  ◌∷◌,
+  length,
+  Option,
+  Some,
+  None,
+  refl,
+  sym,
+  ap,
+  subst,
+  arith,
+  ◌∙◌,
+  ◌⊎◌,
+  inl,
+  inr,
+  add-zero,
+  zero-add,
+  drop,
+}
 use Rattle.std.specs.Prelude.{Contains, IfSome, IsSomeAnd, slice_get, slice_index_or, nat_eq}
 use Rattle.std.specs.List.{list_any}
 use Rattle.std.proofs.lemmas.Bool.{and_parts, eqb-true, eq-eqb}
@@ -59,7 +91,8 @@ module _ (t : RouteTable) (hops to : ℕ) where
   pick_keeps (Some best) h g b = by (is_at t hops h.to to && is_less (through t to h) (through t to best)) refl
     where
       by : (x : Bool) → (is_at t hops h.to to && is_less (through t to h) (through t to best)) ≡ x → Beats t to (cond x (Some h) (Some best)) g
-      by true e = less_not (through t to g) (through t to best) (through t to h) b (less_turned (through t to h) (through t to best) (and_parts (is_at t hops h.to to) (is_less (through t to h) (through t to best)) e).1)
+      by true e = less_not (through t to g) (through t to best) (through t to h) b
+          (less_turned (through t to h) (through t to best) (and_parts (is_at t hops h.to to) (is_less (through t to h) (through t to best)) e).1)
       by false e = b
 
   pick_beats : (best : Option Hop) (h : Hop) → is_at t hops h.to to ≡ true → Beats t to (pick t hops to best h) h

@@ -1,6 +1,7 @@
 -- Least routes computed on worked examples.
 use Rattle.std.proofs.Common.{◌≡◌, ℕ, false, List, [], ◌∷◌, refl}
 use Rattle.archi_graph.specs.declared.medium.Medium.{Medium}
+use Rattle.archi_graph.specs.declared.medium.MediumKind.TheVariants.{PointToPoint}
 use Rattle.archi_graph.specs.declared.medium.Hop.{Hop}
 use Rattle.route_table.specs.Computed.{least_route, table_of}
 
@@ -8,7 +9,7 @@ abbrev over : ℕ → ℕ → Hop
 over m to = record { medium = m; to = to }
 
 abbrev at : List ℕ → Medium
-at stands = record { name = 109 ∷ []; multi = false; fixed = 1; per = 1; stands = stands }
+at stands = record { name = 109 ∷ []; kind = PointToPoint; fixed = 1; per = 1; stands = stands }
 
 -- a relay: a medium between operators 0 and 1, and one between 1 and 2
 relayed : (table_of (record { operators = (65 ∷ []) ∷ (66 ∷ []) ∷ (67 ∷ []) ∷ []; media = at (0 ∷ 1 ∷ []) ∷ at (1 ∷ 2 ∷ []) ∷ []; depth = 1 })).routes

@@ -110,7 +110,8 @@ here_or_not from to o d = by (eqb_tells o from) (eqb_tells d to)
 
 -- a write of a least route
 module _ (media : List Medium) (t u : RouteTable) (hops from to : ℕ) (c : Hop) (places : (from < t.operators) × (to < t.operators))
-    (so_far : IsKnownWithin media t hops) (least : IsLeastRoute media from (through t to c) to) (same : u.operators ≡ t.operators) (size : length u.routes ≡ length t.routes) (put : route_in u from to ≡ through t to c)
+    (so_far : IsKnownWithin media t hops) (least : IsLeastRoute media from (through t to c) to) (same : u.operators ≡ t.operators)
+    (size : length u.routes ≡ length t.routes) (put : route_in u from to ≡ through t to c)
     (others : (o d : ℕ) → o < t.operators → d < t.operators → (o ≢ from) ⊎ (d ≢ to) → route_in u o d ≡ route_in t o d) where
   there_now : is_known u from to ≡ true
   there_now = let l : length (route_in u from to) ≡ length (through t to c) = ap (λ r. length r) put in longer_is_known from to (level_in u from to) (omega arith)
@@ -156,7 +157,8 @@ grows_on t u v g h =
     (h.0 ∙ g.0, h.1 ∙ g.1, λ from to l k known. h.2 from to (subst (λ (n : ℕ). from < n) (sym g.0) l) (subst (λ (n : ℕ). to < n) (sym g.0) k) (g.2 from to l k known))
 
 -- all operators done, the table has the routes of one hop more
-pub one_hop_more : (media : List Medium) (t : RouteTable) (hops : ℕ) → IsKnownWithin media t hops → ((from to : ℕ) → from < t.operators → to < t.operators → Covers media t (hops + 1) from to) → IsKnownWithin media t (hops + 1)
+pub one_hop_more : (media : List Medium) (t : RouteTable) (hops : ℕ) → IsKnownWithin media t hops
+    → ((from to : ℕ) → from < t.operators → to < t.operators → Covers media t (hops + 1) from to) → IsKnownWithin media t (hops + 1)
 one_hop_more media t hops so_far all = record { least = so_far.least; covers = all }
 
 -- a table with no hop at all has the routes of no hop

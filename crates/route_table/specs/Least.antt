@@ -33,7 +33,7 @@ is_less a b =
     nat_lt (length a) (length b) || ((length a == length b) && (comes_before (media_of a) (media_of b) ||
     (are_equal (media_of a) (media_of b) && comes_before (operators_of a) (operators_of b))))
 
--- it is a route, and no route is less
+-- The hops are a route between these operators, and no route between them is less.
 pub record IsLeastRoute (media : List Medium) (from : ℕ) (hops : List Hop) (to : ℕ) : Type 0 where
   pub route : IsRoute media from hops to
   pub least : (other : List Hop) → IsRoute media from other to → is_less other hops ≡ false

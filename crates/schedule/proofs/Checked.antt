@@ -1,5 +1,38 @@
 -- A schedule is valid exactly where its lines are right and its copies are there in time.
-use Rattle.std.proofs.Common.{◌≡◌, ℕ, zero, suc, ◌+◌, ◌*◌, ◌/◌, ◌<◌, ◌≤◌, Bool, true, false, ◌&&◌, ◌||◌, ◌==◌, not, List, [], ◌∷◌, ◌++◌, map, length, Option, Some, None, refl, sym, ap, arith, ◌∙◌, inl, inr}
+use Rattle.std.proofs.Common.{
+  ◌≡◌,
+  ℕ,
+  zero,
+  suc,
+  ◌+◌,
+  ◌*◌,
+  ◌/◌,
+  ◌<◌,
+  ◌≤◌,
+  Bool,
+  true,
+  false,
+  ◌&&◌,
+  ◌||◌,
+  ◌==◌,
+  not,
+  List,
+  [],
+  ◌∷◌,
+  ◌++◌,
+  map,
+  length,
+  Option,
+  Some,
+  None,
+  refl,
+  sym,
+  ap,
+  arith,
+  ◌∙◌,
+  inl,
+  inr,
+}
 use Rattle.std.specs.Prelude.{slice_get, slice_index_or, nat_le, nat_lt}
 use Rattle.std.specs.List.{list_any, list_all, range_with_len}
 use Rattle.std.specs.Cmp.Derive.{both_true}
@@ -36,7 +69,8 @@ module _ (g : Graph) (a : Architecture) (ticks : ℕ → ℕ → Option ℕ) (fl
 
   outputs_more : (before : List Act) (x : Act) → AreOutputs before → is_right g a ticks before x ≡ true → AreOutputs (before ++ x ∷ [])
   outputs_more before x all r c h =
-      elim (or_cases (is_made g.vertices before c) (list_any (same_copy c) (made_by g.vertices x) || false) (sym (list_any-append (λ y. list_any (same_copy c) (made_by g.vertices y)) before (x ∷ [])) ∙ h)) [
+      elim (or_cases (is_made g.vertices before c) (list_any (same_copy c) (made_by g.vertices x) || false)
+      (sym (list_any-append (λ y. list_any (same_copy c) (made_by g.vertices y)) before (x ∷ [])) ∙ h)) [
         | inl e ↦ all c e
         | inr e ↦ now x r (elim (or_cases (list_any (same_copy c) (made_by g.vertices x)) false e) [ inl k ↦ k | inr k ↦ absurd (false≢true k) ])
       ]
@@ -88,7 +122,8 @@ module _ (g : Graph) (a : Architecture) (ticks : ℕ → ℕ → Option ℕ) (fl
       fresh (run d) h = refl
       fresh (carry t) h =
           unless (covers first (copy t.to t.source)) (not (is_made g.vertices before (copy t.to t.source)))
-          (and_parts (is_carried (slice_get a.media t.medium) (len_of g.vertices t.source) t && have_ended (is_over t.medium) before t.start) (not (is_made g.vertices before (copy t.to t.source))) h).1
+          (and_parts (is_carried (slice_get a.media t.medium) (len_of g.vertices t.source) t
+          && have_ended (is_over t.medium) before t.start) (not (is_made g.vertices before (copy t.to t.source))) h).1
 
   lined_where_right : (before xs : List Act) → AreOutputs before → are_right g a ticks before xs ≡ true → lined_after g a ticks before xs ≡ true
   lined_where_right before [] all h = refl
@@ -113,7 +148,8 @@ module _ (g : Graph) (a : Architecture) (ticks : ℕ → ℕ → Option ℕ) (fl
         let y = output_there g.vertices x h in
         let ports = few_outputs g flat x.vertex y.it y.is in
         let port = y.port in
-        both_true (both_true (both_true (le-leb (x.vertex / 16 * 16) x.vertex (omega arith)) (lt-ltb x.vertex (x.vertex / 16 * 16 + 16) (omega arith))) (lt-ltb x.port 64 (omega arith))) (lt-ltb o 16 (omega arith))
+        both_true (both_true (both_true (le-leb (x.vertex / 16 * 16) x.vertex (omega arith))
+        (lt-ltb x.vertex (x.vertex / 16 * 16 + 16) (omega arith))) (lt-ltb x.port 64 (omega arith))) (lt-ltb o 16 (omega arith))
 
     abbrev pub AreFed : List Act → List Act → Type 0
     AreFed before xs = (k : ℕ) → k < (length g.vertices + 15) / 16 → fed_after g.vertices (k * 16) before xs ≡ true
@@ -140,9 +176,12 @@ module _ (g : Graph) (a : Architecture) (ticks : ℕ → ℕ → Option ℕ) (fl
     reads before date o l (x ∷ xs) h fed =
         let r = and_parts (nat_le 1 (len_of g.vertices x)) (list_all (λ s. nat_le 1 (len_of g.vertices s)) xs) h in
         let k = x.vertex / 16 in
-        let one = (and_parts (not (covers (k * 16) (copy o x)) || is_held g a ticks before date (copy o x)) (list_all (λ c. not (covers (k * 16) c) || is_held g a ticks before date c) (map (copy o) xs)) (fed k (in_window o x r.0))).0 in
+        let one = (and_parts (not (covers (k * 16) (copy o x)) || is_held g a ticks before date (copy o x))
+        (list_all (λ c. not (covers (k * 16) c) || is_held g a ticks before date c) (map (copy o) xs)) (fed k (in_window o x r.0))).0 in
         both_true (drop_not (covers (k * 16) (copy o x)) (is_held g a ticks before date (copy o x)) (is_covered o x r.0 l) one)
-        (reads before date o l xs r.1 (λ j q. (and_parts (not (covers (j * 16) (copy o x)) || is_held g a ticks before date (copy o x)) (list_all (λ c. not (covers (j * 16) c) || is_held g a ticks before date c) (map (copy o) xs)) (fed j q)).1))
+        (reads before date o l xs r.1 (λ j q.
+        (and_parts (not (covers (j * 16) (copy o x)) || is_held g a ticks before date (copy o x))
+        (list_all (λ c. not (covers (j * 16) c) || is_held g a ticks before date c) (map (copy o) xs)) (fed j q)).1))
 
     one_right : (before : List Act) (x : Act) → lined g a ticks before x ≡ true → OneFed before x → is_right g a ticks before x ≡ true
     one_right before (carry t) h fed =
@@ -203,9 +242,12 @@ module _ (g : Graph) (a : Architecture) (ticks : ℕ → ℕ → Option ℕ) (fl
         both_true (ap f e ∙ h 0 (omega arith)) (range_all f (from + 1) n (λ k l. let e : from + 1 + k ≡ from + suc k = omega arith in ap f e ∙ h (suc k) (omega arith)))
 
     -- the whole check
-    pub checked : (xs : List Act) → (are_right g a ticks [] xs && are_placed g a ticks xs) ≡ ((lined_after g a ticks [] xs && are_placed g a ticks xs) && list_all (are_fed_from g.vertices xs) (range_with_len 0 ((length g.vertices + 15) / 16)))
+    pub checked : (xs : List Act) → (are_right g a ticks [] xs && are_placed g a ticks xs)
+        ≡ ((lined_after g a ticks [] xs && are_placed g a ticks xs) && list_all (are_fed_from g.vertices xs) (range_with_len 0 ((length g.vertices + 15) / 16)))
     checked xs =
-        same_bool (are_right g a ticks [] xs && are_placed g a ticks xs) ((lined_after g a ticks [] xs && are_placed g a ticks xs) && list_all (are_fed_from g.vertices xs) (range_with_len 0 ((length g.vertices + 15) / 16)))
+        same_bool (are_right g a ticks [] xs && are_placed g a ticks xs)
+        ((lined_after g a ticks [] xs && are_placed g a ticks xs)
+        && list_all (are_fed_from g.vertices xs) (range_with_len 0 ((length g.vertices + 15) / 16)))
         (λ h.
         let r = and_parts (are_right g a ticks [] xs) (are_placed g a ticks xs) h in
         both_true (both_true (lined_where_right [] xs (λ c k. absurd (false≢true k)) r.0) r.1)

@@ -50,7 +50,8 @@ output_there vertices x h =
     at_port (n ∷ ns) zero l = omega arith
     at_port (n ∷ ns) (suc k) l = let z = at_port ns k l in omega arith
 
-    by : (xs : List Vertex) (v : ℕ) → 1 ≤ with_vertex (slice_get xs v) 0 (λ y. slice_index_or y.outs x.port 0) → (it : Vertex) × (slice_get xs v ≡ Some it) × (v < length xs) × (x.port < length it.outs)
+    by : (xs : List Vertex) (v : ℕ) → 1 ≤ with_vertex (slice_get xs v) 0 (λ y. slice_index_or y.outs x.port 0) → (it : Vertex)
+        × (slice_get xs v ≡ Some it) × (v < length xs) × (x.port < length it.outs)
     by [] v l = absurd (omega arith)
     by (y ∷ ys) zero l = (y, refl, (omega arith), at_port y.outs x.port l)
     by (y ∷ ys) (suc v) l = let r = by ys v l in (r.0, r.1, (let z = r.2 in omega arith), r.3)
@@ -86,7 +87,8 @@ module _ (g : Graph) (flat : is_flat g ≡ true) (v : ℕ) (x : Vertex) (is : sl
   pub sources_have_len : list_all (λ s. nat_le 1 (len_of g.vertices s)) (sources_of (Some x)) ≡ true
   sources_have_len = both (map (λ d. d.source) x.guards) x.ins (guards x.guards parts.1) (ins x.ins parts.2)
     where
-      both : (xs ys : List Source) → list_all (λ s. nat_le 1 (len_of g.vertices s)) xs ≡ true → list_all (λ s. nat_le 1 (len_of g.vertices s)) ys ≡ true → list_all (λ s. nat_le 1 (len_of g.vertices s)) (xs ++ ys) ≡ true
+      both : (xs ys : List Source) → list_all (λ s. nat_le 1 (len_of g.vertices s)) xs ≡ true
+          → list_all (λ s. nat_le 1 (len_of g.vertices s)) ys ≡ true → list_all (λ s. nat_le 1 (len_of g.vertices s)) (xs ++ ys) ≡ true
       both [] ys h k = k
       both (y ∷ xs) ys h k = let r = and_parts (nat_le 1 (len_of g.vertices y)) (list_all (λ s. nat_le 1 (len_of g.vertices s)) xs) h in both_true r.0 (both xs ys r.1 k)
 

@@ -82,7 +82,8 @@ module _ (first : ℕ) (held : List (Option ℕ)) (size : length held ≡ 16384)
           ∙ other s
 
       by : (b : Bool) → covers first k ≡ b
-          → test (slice_index_or (cond b (slice_set held (place first k) (Some (lesser_date (since first held k) e))) held) (place first c) None) ≡ (test (since first held c) || (comes && same_copy c k))
+          → test (slice_index_or (cond b (slice_set held (place first k) (Some (lesser_date (since first held k) e))) held)
+          (place first c) None) ≡ (test (since first held c) || (comes && same_copy c k))
       by true j = here j (same_copy c k) refl
       by false j = other (unlike (same_copy c k) refl)
         where

@@ -104,14 +104,19 @@ module _ (s : Setting) (g : Graph) (a : Architecture) (table : Table)
       order true true r x y = refl
 
       by : (o : Option Vertex)
-          → with_vertex o false (λ x. follows_get before d.operator x.kind x.twin && (nat_lt d.operator (length a.operators) && (lasts (entry_in table d.op d.operator) d.start d.end && not (list_any (runs d.op) before) && have_ended (is_on d.operator) before d.start)))
-          ≡ (with_vertex o false (λ x. follows_get before d.operator x.kind x.twin) && nat_lt d.operator (length a.operators) && lasts (entry_in table d.op d.operator) d.start d.end && not (list_any (runs d.op) before) && have_ended (is_on d.operator) before d.start)
+          → with_vertex o false (λ x. follows_get before d.operator x.kind x.twin
+          && (nat_lt d.operator (length a.operators)
+          && (lasts (entry_in table d.op d.operator) d.start d.end && not (list_any (runs d.op) before) && have_ended (is_on d.operator) before d.start)))
+          ≡ (with_vertex o false (λ x. follows_get before d.operator x.kind x.twin) && nat_lt d.operator (length a.operators)
+          && lasts (entry_in table d.op d.operator) d.start d.end && not (list_any (runs d.op) before) && have_ended (is_on d.operator) before d.start)
       by None = refl
-      by (Some x) = order (follows_get before d.operator x.kind x.twin) (nat_lt d.operator (length a.operators)) (lasts (entry_in table d.op d.operator) d.start d.end) (not (list_any (runs d.op) before)) (have_ended (is_on d.operator) before d.start)
+      by (Some x) = order (follows_get before d.operator x.kind x.twin) (nat_lt d.operator (length a.operators))
+          (lasts (entry_in table d.op d.operator) d.start d.end) (not (list_any (runs d.op) before)) (have_ended (is_on d.operator) before d.start)
 
   told_carry : (l : Lines) (before : List Act) → Told l before → (c : Transfer) → may_carry s l c ≡ true → Told (lines_after s l (carry c)) (before ++ carry c ∷ [])
   told_carry l before t c may =
-      let p = and_parts (nat_le 1 (len_of s.vertices.now c.source) && is_carried (slice_get s.media.now c.medium) (len_of s.vertices.now c.source) c) (nat_le (slice_index_or l.ends c.medium 0) c.start) may in
+      let p = and_parts (nat_le 1 (len_of s.vertices.now c.source)
+      && is_carried (slice_get s.media.now c.medium) (len_of s.vertices.now c.source) c) (nat_le (slice_index_or l.ends c.medium 0) c.start) may in
       let carried = (and_parts (nat_le 1 (len_of s.vertices.now c.source)) (is_carried (slice_get s.media.now c.medium) (len_of s.vertices.now c.source) c) p.0).1 in
       let long = carrying (slice_get s.media.now c.medium) (len_of s.vertices.now c.source) c carried in
       let free = leb-true (slice_index_or l.ends c.medium 0) c.start p.1 in
@@ -136,7 +141,8 @@ module _ (s : Setting) (g : Graph) (a : Architecture) (table : Table)
           ∙ sym (ended_more (is_over m) before (carry c) date)
       by m date false e long free low =
           ap (λ (n : ℕ). nat_le n date) (get_or-set_other l.ends c.medium m c.end 0 (λ q. eqb-false c.medium m e (sym q)))
-          ∙ t.ends m date ∙ sym (and-true (have_ended (is_over m) before date)) ∙ (λ i. have_ended (is_over m) before date && (not (sym e i) || nat_le c.end date)) ∙ sym (ended_more (is_over m) before (carry c) date)
+          ∙ t.ends m date ∙ sym (and-true (have_ended (is_over m) before date))
+          ∙ (λ i. have_ended (is_over m) before date && (not (sym e i) || nat_le c.end date)) ∙ sym (ended_more (is_over m) before (carry c) date)
 
   -- what an operation that may run has
   record Runs (l : Lines) (d : Decision) : Type 0 where
@@ -161,7 +167,14 @@ module _ (s : Setting) (g : Graph) (a : Architecture) (table : Table)
       let op = r.0 in
       let ps = sizes.places in
       let bs = sizes.busy in
-      record { op = omega arith; operator = omega arith; fresh = u.1; free = leb-true (slice_index_or l.busy d.operator 0) d.start q.1; long = lasting (entry_in s.durations.now d.op d.operator) d.start d.end u.0 }
+      record {
+        op = omega arith;
+        operator = omega arith;
+        fresh = u.1;
+        free =
+            leb-true (slice_index_or l.busy d.operator 0) d.start q.1;
+        long = lasting (entry_in s.durations.now d.op d.operator) d.start d.end u.0;
+      }
     where
       by : (xs : List Vertex) (v : ℕ) → with_vertex (slice_get xs v) false (λ x. follows l d.operator x.kind x.twin && runs_in_time s l d) ≡ true → (v < length xs) × (runs_in_time s l d ≡ true)
       by [] v h = absurd (false≢true h)
@@ -183,7 +196,9 @@ module _ (s : Setting) (g : Graph) (a : Architecture) (table : Table)
       record {
         sizes = record { places = length-set l.places d.op (Some d.operator) ∙ sizes.places; busy = length-set l.busy d.operator d.end ∙ sizes.busy; ends = sizes.ends };
         placed = λ v. at_place is_some (runs v) v (t.placed v) (λ e. sym e) (λ e. e) (not_some (slice_index_or l.places d.op None) r.fresh) r;
-        on = λ v o. at_place (λ p. is_number p o) (λ y. runs v y && is_on o y) v (t.on v o) (λ e. ap (λ (b : Bool). b && nat_eq d.operator o) (sym e)) (λ e. ap (λ (b : Bool). b && nat_eq d.operator o) e) (no_name (slice_index_or l.places d.op None) o r.fresh) r;
+        on = λ v o. at_place (λ p. is_number p o) (λ y. runs v y && is_on o y) v (t.on v o)
+            (λ e. ap (λ (b : Bool). b && nat_eq d.operator o) (sym e)) (λ e. ap (λ (b : Bool). b && nat_eq d.operator o) e)
+            (no_name (slice_index_or l.places d.op None) o r.fresh) r;
         busy = λ o date. by o date (nat_eq d.operator o) refl r;
         ends = λ m date. t.ends m date ∙ sym (and-true (have_ended (is_over m) before date)) ∙ sym (ended_more (is_over m) before (run d) date);
       }
@@ -213,7 +228,8 @@ module _ (s : Setting) (g : Graph) (a : Architecture) (table : Table)
           ∙ sym (ended_more (is_on o) before (run d) date)
       by o date false e r =
           ap (λ (n : ℕ). nat_le n date) (get_or-set_other l.busy d.operator o d.end 0 (λ q. eqb-false d.operator o e (sym q)))
-          ∙ t.busy o date ∙ sym (and-true (have_ended (is_on o) before date)) ∙ (λ i. have_ended (is_on o) before date && (not (sym e i) || nat_le d.end date)) ∙ sym (ended_more (is_on o) before (run d) date)
+          ∙ t.busy o date ∙ sym (and-true (have_ended (is_on o) before date))
+          ∙ (λ i. have_ended (is_on o) before date && (not (sym e i) || nat_le d.end date)) ∙ sym (ended_more (is_on o) before (run d) date)
 
   told_more : (l : Lines) (before : List Act) → Told l before → (x : Act) → may_follow s l x ≡ true → Told (lines_after s l x) (before ++ x ∷ [])
   told_more l before t (carry c) may = told_carry l before t c may
@@ -238,8 +254,11 @@ module _ (s : Setting) (g : Graph) (a : Architecture) (table : Table)
       assoc false q r = refl
 
       by : (b : Bool) → may_follow s l x ≡ b
-          → (Told (lines_after s l x) (before ++ x ∷ []) → are_in_line s (lines_after s l x) xs ≡ (lined_after g a (entry_in table) (before ++ x ∷ []) xs && are_placed g a (entry_in table) ((before ++ x ∷ []) ++ xs)))
-          → (b && are_in_line s (lines_after s l x) xs) ≡ ((lined g a (entry_in table) before x && lined_after g a (entry_in table) (before ++ x ∷ []) xs) && are_placed g a (entry_in table) (before ++ x ∷ xs))
+          → (Told (lines_after s l x) (before ++ x ∷ []) → are_in_line s (lines_after s l x) xs
+          ≡ (lined_after g a (entry_in table) (before ++ x ∷ []) xs && are_placed g a (entry_in table) ((before ++ x ∷ []) ++ xs)))
+          → (b && are_in_line s (lines_after s l x) xs)
+          ≡ ((lined g a (entry_in table) before x && lined_after g a (entry_in table) (before ++ x ∷ []) xs)
+          && are_placed g a (entry_in table) (before ++ x ∷ xs))
       by true h rest =
           rest (told_more l before t x h)
           ∙ (λ i. (sym (sym (may_same l before t x) ∙ h) i && lined_after g a (entry_in table) (before ++ x ∷ []) xs) && are_placed g a (entry_in table) (sym joined i))

@@ -1,5 +1,36 @@
 -- Tables at the start, and steps of loops.
-use Rattle.std.proofs.Common.{◌≡◌, ℕ, zero, suc, ◌+◌, ◌*◌, ◌<◌, ◌≤◌, Bool, false, cond, ◌&&◌, List, [], ◌∷◌, map, max, length, drop, replicate, get_or, Option, None, Some, refl, sym, ap, arith, ◌∙◌, drop-cons}
+use Rattle.std.proofs.Common.{
+  ◌≡◌,
+  ℕ,
+  zero,
+  suc,
+  ◌+◌,
+  ◌*◌,
+  ◌<◌,
+  ◌≤◌,
+  Bool,
+  false,
+  cond,
+  ◌&&◌,
+  List,
+  [],
+  ◌∷◌,
+  map,
+  max,
+  length,
+  drop,
+  replicate,
+  get_or,
+  Option,
+  None,
+  Some,
+  refl,
+  sym,
+  ap,
+  arith,
+  ◌∙◌,
+  drop-cons,
+}
 use Rattle.std.specs.Prelude.{slice_index_or, slice_set, nat_le, nat_lt, is_some}
 use Rattle.std.specs.List.{list_all}
 use Rattle.std.proofs.lemmas.Bool.{le-ltb, and_left, and_right}

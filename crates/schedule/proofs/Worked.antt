@@ -1,6 +1,7 @@
 -- Validity and tightness computed on worked schedules: one that is valid and tight, and each condition broken alone.
 use Rattle.std.proofs.Common.{◌≡◌, ℕ, Bool, true, false, List, [], ◌∷◌, ◌++◌, Option, Some, None, refl, pos}
 use Rattle.std.specs.Prelude.{slice_index_or}
+use Rattle.durations.specs.declared.MediumKind.TheVariants.{PointToPoint}
 use Rattle.durations.specs.declared.Source.{Source}
 use Rattle.durations.specs.declared.Vertex.{Vertex}
 use Rattle.durations.specs.declared.Kind.{Kind}
@@ -19,7 +20,7 @@ vertex c k ins outs twin = record { name = c ∷ []; def = 68 ∷ []; kind = k; 
 
 -- two operators on a bus that carries one element in 2 ticks
 abbrev bus : Architecture
-bus = record { operators = (80 ∷ []) ∷ (81 ∷ []) ∷ []; media = record { name = 109 ∷ []; multi = false; fixed = 1; per = 1; stands = 0 ∷ 1 ∷ [] } ∷ []; depth = 1 }
+bus = record { operators = (80 ∷ []) ∷ (81 ∷ []) ∷ []; media = record { name = 109 ∷ []; kind = PointToPoint; fixed = 1; per = 1; stands = 0 ∷ 1 ∷ [] } ∷ []; depth = 1 }
 
 abbrev carried : ℕ → ℕ → ℕ → Transfer
 carried v start end = record { source = source v; medium = 0; from = 0; to = 1; start = start; end = end }

@@ -20,6 +20,6 @@ pub use laws::tight_act_by_act;
 // What the clauses here speak of: flat graphs, architectures and durations.
 pub use durations::{
     Archi, ArchiCause, ArchiError, ArchiText, DurationLine, Durations, Flat, Given, Guard, Hop,
-    Kind, Medium, Seq, Source, Vertex, accepted_are_durations, durations_fit, durations_of, entry,
-    is_archi, is_flat, len_of,
+    Kind, Medium, MediumKind, Seq, Source, Vertex, accepted_are_durations, durations_fit,
+    durations_of, entry, is_archi, is_flat, len_of,
 };

@@ -1,5 +1,39 @@
 -- All operations on one operator: nothing is carried, and each one starts when the one before it ends.
-use Rattle.std.proofs.Common.{◌≡◌, ℕ, zero, suc, ◌+◌, ◌-◌, ◌<◌, ◌≤◌, Bool, true, false, cond, ◌&&◌, ◌||◌, not, nat_eq, List, [], ◌∷◌, ◌++◌, map, length, Option, Some, None, max, refl, sym, ap, subst, arith, ◌∙◌, eq-eqb}
+use Rattle.std.proofs.Common.{
+  ◌≡◌,
+  ℕ,
+  zero,
+  suc,
+  ◌+◌,
+  ◌-◌,
+  ◌<◌,
+  ◌≤◌,
+  Bool,
+  true,
+  false,
+  cond,
+  ◌&&◌,
+  ◌||◌,
+  not,
+  nat_eq,
+  List,
+  [],
+  ◌∷◌,
+  ◌++◌,
+  map,
+  length,
+  Option,
+  Some,
+  None,
+  max,
+  refl,
+  sym,
+  ap,
+  subst,
+  arith,
+  ◌∙◌,
+  eq-eqb,
+}
 use Rattle.std.specs.Prelude.{IsTrue, is_some, nat_le, nat_lt, slice_get, sum_by}
 use Rattle.std.specs.List.{filter, list_all, list_any, range_with_len}
 use Rattle.std.specs.Cmp.Derive.{both_true}
@@ -10,7 +44,29 @@ use Rattle.std.proofs.lemmas.List.Sums.{sum_by_push}
 use Rattle.std.proofs.Math.Nat.{le-max_left, le-max_right}
 use Rattle.comm_routing.specs.Task.{Task}
 use Rattle.comm_routing.specs.Given.{IsTask}
-use Rattle.comm_routing.specs.Placing.{arrival, decision, fetched, fetched_all, along, half_end, halves, held_from, holds, is_candidate, is_placed, last_end, makes, may_place, may_stand, needs, operator_of, sources, start, ticks_in, transfers}
+use Rattle.comm_routing.specs.Placing.{
+  arrival,
+  decision,
+  fetched,
+  fetched_all,
+  along,
+  half_end,
+  halves,
+  held_from,
+  holds,
+  is_candidate,
+  is_placed,
+  last_end,
+  makes,
+  may_place,
+  may_stand,
+  needs,
+  operator_of,
+  sources,
+  start,
+  ticks_in,
+  transfers,
+}
 use Rattle.comm_routing.proofs.Done.{any_more, held_where_made}
 use Rattle.comm_routing.proofs.Right.{candidate_given, is_given}
 use Rattle.pressure_heuristic.specs.Pressure.{operations}
@@ -106,7 +162,9 @@ module _ (t : Task) (given : IsTask t) (ds : List Decision) (v p : ℕ) (may : m
   joined = acts-append ds (decision t (acts_of ds) v p ∷ []) ∙ sym (append_assoc (acts_of ds) (map carry (transfers t (acts_of ds) v p)) (run (decision t (acts_of ds) v p) ∷ []))
 
   more : (w : ℕ) → is_placed (acts_of ds) w ≡ true → is_placed (acts_of (ds ++ decision t (acts_of ds) v p ∷ [])) w ≡ true
-  more w h = ap (λ (l : List Act). is_placed l w) joined ∙ any_more (runs w) (acts_of ds ++ map carry (transfers t (acts_of ds) v p)) (run (decision t (acts_of ds) v p) ∷ []) (any_more (runs w) (acts_of ds) (map carry (transfers t (acts_of ds) v p)) h)
+  more w h = ap (λ (l : List Act). is_placed l w) joined
+      ∙ any_more (runs w) (acts_of ds ++ map carry (transfers t (acts_of ds) v p)) (run (decision t (acts_of ds) v p) ∷ [])
+      (any_more (runs w) (acts_of ds) (map carry (transfers t (acts_of ds) v p)) h)
 
   now : is_placed (acts_of (ds ++ decision t (acts_of ds) v p ∷ [])) v ≡ true
   now = ap (λ (l : List Act). is_placed l v) joined ∙ list_any-append (runs v) (acts_of ds ++ map carry (transfers t (acts_of ds) v p)) (run (decision t (acts_of ds) v p) ∷ [])
@@ -114,7 +172,8 @@ module _ (t : Task) (given : IsTask t) (ds : List Decision) (v p : ℕ) (may : m
 
   -- one fewer is left
   pub one_less : count_left t (ds ++ decision t (acts_of ds) v p ∷ []) < count_left t ds
-  one_less = one_fewer (is_placed (acts_of ds)) (is_placed (acts_of (ds ++ decision t (acts_of ds) v p ∷ []))) more (operations t) v v (in_range (length t.graph.vertices) v there) (candidate_given t given.flat (acts_of ds) v can).fresh now
+  one_less = one_fewer (is_placed (acts_of ds)) (is_placed (acts_of (ds ++ decision t (acts_of ds) v p ∷ []))) more (operations t) v v
+      (in_range (length t.graph.vertices) v there) (candidate_given t given.flat (acts_of ds) v can).fresh now
 
   -- and all is done in time
   pub still_so : SoFar t p ds → SoFar t p (ds ++ decision t (acts_of ds) v p ∷ [])
@@ -123,11 +182,13 @@ module _ (t : Task) (given : IsTask t) (ds : List Decision) (v p : ℕ) (may : m
       let none : transfers t (acts_of ds) v p ≡ [] = none_fetched t p (acts_of ds) so.on (sources t v) c.given in
       let d = decision t (acts_of ds) v p in
       let shut : acts_of (ds ++ decision t (acts_of ds) v p ∷ []) ≡ acts_of ds ++ run (decision t (acts_of ds) v p) ∷ []
-      = joined ∙ ap (λ (cs : List Transfer). (acts_of ds ++ map carry cs) ++ run (decision t (acts_of ds) v p) ∷ []) none ∙ ap (λ (l : List Act). l ++ run (decision t (acts_of ds) v p) ∷ []) (append-nil (acts_of ds)) in
+      = joined ∙ ap (λ (cs : List Transfer). (acts_of ds ++ map carry cs) ++ run (decision t (acts_of ds) v p) ∷ []) none
+      ∙ ap (λ (l : List Act). l ++ run (decision t (acts_of ds) v p) ∷ []) (append-nil (acts_of ds)) in
       let low = start_low t p (acts_of ds) v none in
       let long : latest (acts_of (ds ++ decision t (acts_of ds) v p ∷ [])) ≡ max (latest (acts_of ds)) (max (start t (acts_of ds) v p + ticks_in (t.ticks v p)) 0)
       = ap latest shut ∙ latest-append (acts_of ds) (run (decision t (acts_of ds) v p) ∷ []) in
-      let less = less_left (λ w. ticks_in (t.ticks w p)) (is_placed (acts_of ds)) (is_placed (acts_of (ds ++ decision t (acts_of ds) v p ∷ []))) more (operations t) v v (in_range (length t.graph.vertices) v there) c.fresh now in
+      let less = less_left (λ w. ticks_in (t.ticks w p)) (is_placed (acts_of ds))
+      (is_placed (acts_of (ds ++ decision t (acts_of ds) v p ∷ []))) more (operations t) v v (in_range (length t.graph.vertices) v there) c.fresh now in
       let w = so.within in
       let l = so.lasting in
       let sum : sum_by stated (acts_of (ds ++ decision t (acts_of ds) v p ∷ [])) ≡ sum_by stated (acts_of ds) + (start t (acts_of ds) v p + ticks_in (t.ticks v p) - start t (acts_of ds) v p)
@@ -139,7 +200,8 @@ module _ (t : Task) (given : IsTask t) (ds : List Decision) (v p : ℕ) (may : m
       }
 
 -- where all may stand on the operator, a candidate may
-pub may_stand_there : (t : Task) → IsTask t → (ds : List Decision) (v p : ℕ) → SoFar t p ds → MayAllStand t.graph t.archi t.ticks p → is_candidate t (acts_of ds) v ≡ true → may_place t (acts_of ds) v p ≡ true
+pub may_stand_there : (t : Task) → IsTask t → (ds : List Decision) (v p : ℕ) → SoFar t p ds → MayAllStand t.graph t.archi t.ticks p
+    → is_candidate t (acts_of ds) v ≡ true → may_place t (acts_of ds) v p ≡ true
 may_stand_there t given ds v p so all can =
     let c = candidate_given t given.flat (acts_of ds) v can in
     let low = nat_lt v (length t.graph.vertices) in

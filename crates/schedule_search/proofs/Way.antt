@@ -1,5 +1,38 @@
 -- Drafts under way: one more decision, and what a draft gives in the end.
-use Rattle.std.proofs.Common.{◌≡◌, ℕ, zero, suc, ◌+◌, ◌<◌, ◌≤◌, Bool, true, false, cond, ◌&&◌, not, List, [], ◌∷◌, ◌++◌, length, Option, Some, None, Ok, Err, refl, sym, ap, subst, arith, ◌∙◌, inl, inr, ◌⊎◌}
+use Rattle.std.proofs.Common.{
+  ◌≡◌,
+  ℕ,
+  zero,
+  suc,
+  ◌+◌,
+  ◌<◌,
+  ◌≤◌,
+  Bool,
+  true,
+  false,
+  cond,
+  ◌&&◌,
+  not,
+  List,
+  [],
+  ◌∷◌,
+  ◌++◌,
+  length,
+  Option,
+  Some,
+  None,
+  Ok,
+  Err,
+  refl,
+  sym,
+  ap,
+  subst,
+  arith,
+  ◌∙◌,
+  inl,
+  inr,
+  ◌⊎◌,
+}
 use Rattle.std.specs.Prelude.{All, IfOk, IfSome, IsNone, IsSome, IsSomeAnd, IsTrue, Result, nat_lt, slice_get, sum_by}
 use Rattle.std.specs.List.{filter, list_all, range_with_len}
 use Rattle.std.proofs.lemmas.Bool.{false≢true, true≢false}
@@ -30,7 +63,8 @@ use Rattle.schedule_search.specs.Drafts.{IsDone, IsSite, IsUnderWay, IsValidIn, 
 use Rattle.schedule_search.proofs.Lone.{at_first, count_left, may_stand_there, one_less, still_so}
 use Rattle.schedule_search.proofs.Whole.{drafts_are_valid, passes_none}
 
-pub begun : (s : Site) → is_flat s.flat.now ≡ true → is_archi s.archi.now.operators s.archi.now.media ≡ true → IsSite s → All (IsRow s.durations.now.operators) s.durations.now.rows → StandBeside s.durations.now
+pub begun : (s : Site) → is_flat s.flat.now ≡ true → is_archi s.archi.now.operators s.archi.now.media ≡ true → IsSite s
+    → All (IsRow s.durations.now.operators) s.durations.now.rows → StandBeside s.durations.now
     → (r : Result Drafted OutOfMemory) → IfOk r (λ d. d ≡ opened s) → IfOk r (λ d. IsUnderWay d)
 begun s flat archi site rows beside (Ok d) is =
     subst (λ (x : Drafted). IsUnderWay x) (sym is) (record {

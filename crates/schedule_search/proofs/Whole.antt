@@ -53,7 +53,9 @@ module _ (t : Task) (given : IsTask t) (ds : List Decision) (right : AreRight t 
   pub all_placed : IsDone t ds → are_placed t.graph t.archi t.ticks (acts_of ds) ≡ true
   all_placed done = by (all_or_not (is_placed (acts_of ds)) (operations t))
     where
-      by : (list_all (is_placed (acts_of ds)) (operations t) ≡ true) ⊎ ((k : ℕ) × (v : ℕ) × (slice_get (operations t) k ≡ Some v) × (is_placed (acts_of ds) v ≡ false)) → list_all (is_placed (acts_of ds)) (operations t) ≡ true
+      by : (list_all (is_placed (acts_of ds)) (operations t) ≡ true)
+          ⊎ ((k : ℕ) × (v : ℕ) × (slice_get (operations t) k ≡ Some v) × (is_placed (acts_of ds) v ≡ false))
+          → list_all (is_placed (acts_of ds)) (operations t) ≡ true
       by (inl h) = h
       by (inr r) =
           let low = below 0 (length t.graph.vertices) r.0 r.1 r.2 in

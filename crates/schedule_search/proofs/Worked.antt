@@ -1,6 +1,7 @@
 -- The time on one operator alone, computed: two operations on two operators, on which they last unequally.
 use Rattle.std.proofs.Common.{◌≡◌, ℕ, zero, suc, ◌<◌, ◌≤◌, Bool, true, false, List, [], ◌∷◌, Option, Some, None, refl, arith}
 use Rattle.std.specs.Prelude.{IsTrue, is_some, slice_index_or, length}
+use Rattle.self_timed.specs.declared.MediumKind.TheVariants.{Multipoint}
 use Rattle.self_timed.specs.declared.Source.{Source}
 use Rattle.self_timed.specs.declared.Vertex.{Vertex}
 use Rattle.self_timed.specs.declared.Kind.{Kind}
@@ -16,7 +17,7 @@ abbrev relay : Graph
 relay = record { vertices = vertex 115 (Sensor 0) [] (1 ∷ []) ∷ vertex 97 (Actuator 0) (record { vertex = 0; port = 0 } ∷ []) [] ∷ []; bodies = [] }
 
 abbrev bus : Architecture
-bus = record { operators = (80 ∷ []) ∷ (81 ∷ []) ∷ (82 ∷ []) ∷ []; media = record { name = 109 ∷ []; multi = true; fixed = 1; per = 1; stands = 0 ∷ 1 ∷ 2 ∷ [] } ∷ []; depth = 1 }
+bus = record { operators = (80 ∷ []) ∷ (81 ∷ []) ∷ (82 ∷ []) ∷ []; media = record { name = 109 ∷ []; kind = Multipoint; fixed = 1; per = 1; stands = 0 ∷ 1 ∷ 2 ∷ [] } ∷ []; depth = 1 }
 
 -- 3 and 5 ticks on the first operator, 2 and 7 on the second; on the third the actuator may not stand
 abbrev ticks : ℕ → ℕ → Option ℕ

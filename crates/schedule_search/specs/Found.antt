@@ -14,7 +14,7 @@ use Rattle.pressure_heuristic.specs.Tasks.{task}
 use Rattle.plan_costs.specs.declared.site.Goal.{Goal}
 use Rattle.plan_costs.specs.declared.site.Goal.TheVariants.{Length, Period}
 
--- it is no longer than the pressure run over the least routes
+-- The schedule is no longer than the pressure run over the least routes.
 abbrev pub IsNoLongerThanRun : Graph → Architecture → Table → Schedule → Type 0
 IsNoLongerThanRun g a d s = (r : RouteTable) → IsTableOf a r → length_of s ≤ length_of (pressure_run (task g a r d))
 
@@ -22,7 +22,8 @@ IsNoLongerThanRun g a d s = (r : RouteTable) → IsTableOf a r → length_of s �
 abbrev pub last_half : Graph → Architecture → Schedule → ℕ
 last_half g a s = (period_of_schedule g a s 50).ticks
 
--- its last half takes no longer than that of the pressure run over the least routes
+-- The last half of the reactions of the schedule takes no longer than that of the pressure run over
+-- the least routes.
 abbrev pub IsNoSlowerThanRun : Graph → Architecture → Table → Schedule → Type 0
 IsNoSlowerThanRun g a d s =
     (r : RouteTable) → IsTableOf a r → last_half g a s ≤ last_half g a (pressure_run (task g a r d))
@@ -47,10 +48,12 @@ module _ (g : Graph) (a : Architecture) (ticks : ℕ → ℕ → Option ℕ) whe
   abbrev pub time_alone : ℕ → ℕ
   time_alone p = sum (map (λ v. ticks_in (ticks v p)) (range_with_len 0 (length g.vertices)))
 
-  -- it is no longer than all operations on one operator on which they all may stand
+  -- The schedule is no longer than all operations together on any operator on which all of them may
+  -- stand.
   abbrev pub IsNoLongerThanAlone : Schedule → Type 0
   IsNoLongerThanAlone s = (p : ℕ) → MayAllStand p → length_of s ≤ time_alone p
 
-  -- its last half takes no longer than 25 times all operations on one operator on which they all may stand
+  -- The last half of the reactions of the schedule takes no longer than 25 times all operations
+  -- together on any operator on which all of them may stand.
   abbrev pub IsNoSlowerThanAlone : Schedule → Type 0
   IsNoSlowerThanAlone s = (p : ℕ) → MayAllStand p → last_half g a s ≤ 25 * time_alone p

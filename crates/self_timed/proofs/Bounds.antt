@@ -45,7 +45,8 @@ module _ (g : Graph) (a : Architecture) (ticks : ℕ → ℕ → Option ℕ) (s 
 
   timed : (i : ℕ) (x : Act) → slice_get (acts s) i ≡ Some x → Timed i x
   timed i (carry t) e =
-      let parts = and_parts (is_carried (slice_get a.media t.medium) (len_of g.vertices t.source) t && have_ended (is_over t.medium) (take i (acts s)) t.start) (not (is_there g a ticks (take i (acts s)) (copy t.to t.source)))
+      let parts = and_parts (is_carried (slice_get a.media t.medium) (len_of g.vertices t.source) t
+      && have_ended (is_over t.medium) (take i (acts s)) t.start) (not (is_there g a ticks (take i (acts s)) (copy t.to t.source)))
       (right_at g a ticks s valid i (carry t) e).act in
       let first = and_parts (is_carried (slice_get a.media t.medium) (len_of g.vertices t.source) t) (have_ended (is_over t.medium) (take i (acts s)) t.start) parts.0 in
       record { lasts = long (slice_get a.media t.medium) first.0; free = free first.1 }
@@ -88,7 +89,8 @@ module _ (g : Graph) (a : Architecture) (ticks : ℕ → ℕ → Option ℕ) (s 
       omega arith
 
   -- what precedes it in the same reaction has ended
-  pub ended_before : (i : ℕ) (x : Act) → slice_get (acts s) i ≡ Some x → (j : ℕ) (y : Act) → j < i → slice_get (acts s) j ≡ Some y → (same_line x y ≡ true) ⊎ (reads_from g.vertices x y ≡ true) → end_of y ≤ start_of x
+  pub ended_before : (i : ℕ) (x : Act) → slice_get (acts s) i ≡ Some x → (j : ℕ) (y : Act) → j < i → slice_get (acts s) j ≡ Some y
+      → (same_line x y ≡ true) ⊎ (reads_from g.vertices x y ≡ true) → end_of y ≤ start_of x
   ended_before i x e j y l q (inl h) = (timed i x e).free y h j l q
   ended_before i x e j y l q (inr h) = made_before i x e j y q h
 
@@ -96,7 +98,8 @@ module _ (g : Graph) (a : Architecture) (ticks : ℕ → ℕ → Option ℕ) (s 
     pub no_later : NoneLonger g s lasts_for → (k i : ℕ) (x : Act) → slice_get (acts s) i ≡ Some x → ends k i ≤ k * length_of s + end_of x
     no_later short = by_reaction (λ k i. (x : Act) → slice_get (acts s) i ≡ Some x → ends k i ≤ k * length_of s + end_of x) step
       where
-        step : (k i : ℕ) → ((j h : ℕ) → j < k → (x : Act) → slice_get (acts s) h ≡ Some x → ends j h ≤ j * length_of s + end_of x) → ((h : ℕ) → h < i → (x : Act) → slice_get (acts s) h ≡ Some x → ends k h ≤ k * length_of s + end_of x)
+        step : (k i : ℕ) → ((j h : ℕ) → j < k → (x : Act) → slice_get (acts s) h ≡ Some x → ends j h ≤ j * length_of s + end_of x)
+            → ((h : ℕ) → h < i → (x : Act) → slice_get (acts s) h ≡ Some x → ends k h ≤ k * length_of s + end_of x)
             → (x : Act) → slice_get (acts s) i ≡ Some x → ends k i ≤ k * length_of s + end_of x
         step k i past now x e =
             let start = greatest_below (λ d. ends d.reaction d.act) (needs depth g.vertices (acts s) k i x) (k * length_of s + start_of x) each in
@@ -108,7 +111,8 @@ module _ (g : Graph) (a : Architecture) (ticks : ℕ → ℕ → Option ℕ) (s 
             each : (r : ℕ) (d : Event) → slice_get (needs depth g.vertices (acts s) k i x) r ≡ Some d → ends d.reaction d.act ≤ k * length_of s + start_of x
             each r d m = elim (needs_are depth deep g.vertices (acts s) k i x r d m) [
               | inl n ↦ (let same = ap (λ (j : ℕ). ends j d.act) n.reaction in let bound = now d.act n.less n.it n.stands in let l = ended_before i x e d.act n.it n.less n.stands n.how in omega arith)
-              | inr p ↦ (let fits = row_fits d.reaction (length_of s) k (length_of s) p.less (omega arith) in let bound = past d.reaction d.act p.less p.it p.stands in let l = latest_at (acts s) d.act p.it p.stands in omega arith)
+              | inr p ↦ (let fits = row_fits d.reaction (length_of s) k (length_of s) p.less (omega arith) in
+                  let bound = past d.reaction d.act p.less p.it p.stands in let l = latest_at (acts s) d.act p.it p.stands in omega arith)
             ]
 
     -- in the first reaction nothing of an earlier one precedes
@@ -123,7 +127,8 @@ module _ (g : Graph) (a : Architecture) (ticks : ℕ → ℕ → Option ℕ) (s 
 
     -- where the acts before it end as stated, it starts as soon as it can in the chart
     same_start : (i : ℕ) (x : Act) → ((h : ℕ) → h < i → (y : Act) → slice_get (acts s) h ≡ Some y → ends 0 h ≡ end_of y) → start_by depth g.vertices (acts s) ends 0 i x ≡ tight_start i x
-    same_start i x now = greatest_same (λ d. ends d.reaction d.act) (λ d. chart_end (acts s) d.act) (needs depth g.vertices (acts s) 0 i x) each ∙ ap (λ (l : List Event). greatest (map (λ e. chart_end (acts s) e.act) l)) (first_needs i x)
+    same_start i x now = greatest_same (λ d. ends d.reaction d.act) (λ d. chart_end (acts s) d.act)
+        (needs depth g.vertices (acts s) 0 i x) each ∙ ap (λ (l : List Event). greatest (map (λ e. chart_end (acts s) e.act) l)) (first_needs i x)
       where
         each : (r : ℕ) (d : Event) → slice_get (needs depth g.vertices (acts s) 0 i x) r ≡ Some d → ends d.reaction d.act ≡ chart_end (acts s) d.act
         each r d m = elim (needs_are depth deep g.vertices (acts s) 0 i x r d m) [
@@ -131,13 +136,17 @@ module _ (g : Graph) (a : Architecture) (ticks : ℕ → ℕ → Option ℕ) (s 
           | inr p ↦ (let less = p.less in absurd (omega arith))
         ]
 
-    pub first_is_stated : FirstAsStated g s lasts_for → IsTrue (is_tight g s) ↔ ((i : ℕ) (x : Act) → slice_get (acts s) i ≡ Some x → (start_by depth g.vertices (acts s) ends 0 i x ≡ start_of x) × (ends 0 i ≡ end_of x))
+    pub first_is_stated : FirstAsStated g s lasts_for
+        → IsTrue (is_tight g s) ↔ ((i : ℕ) (x : Act) → slice_get (acts s) i ≡ Some x
+        → (start_by depth g.vertices (acts s) ends 0 i x ≡ start_of x) × (ends 0 i ≡ end_of x))
     first_is_stated first = (forth, back)
       where
         forth : is_tight g s ≡ true → (i : ℕ) (x : Act) → slice_get (acts s) i ≡ Some x → (start_by depth g.vertices (acts s) ends 0 i x ≡ start_of x) × (ends 0 i ≡ end_of x)
         forth tight i x e = (starts i x e (λ h l y q. all h y q), all i x e)
           where
-            starts : (i : ℕ) (x : Act) → slice_get (acts s) i ≡ Some x → ((h : ℕ) → h < i → (y : Act) → slice_get (acts s) h ≡ Some y → ends 0 h ≡ end_of y) → start_by depth g.vertices (acts s) ends 0 i x ≡ start_of x
+            starts : (i : ℕ) (x : Act) → slice_get (acts s) i ≡ Some x
+                → ((h : ℕ) → h < i → (y : Act) → slice_get (acts s) h ≡ Some y → ends 0 h ≡ end_of y)
+                → start_by depth g.vertices (acts s) ends 0 i x ≡ start_of x
             starts i x e now = same_start i x now ∙ charted g.vertices (acts s) i x ∙ sym (tight_at g.vertices [] (acts s) tight i x e)
 
             step : (i : ℕ) → ((h : ℕ) → h < i → (y : Act) → slice_get (acts s) h ≡ Some y → ends 0 h ≡ end_of y) → (x : Act) → slice_get (acts s) i ≡ Some x → ends 0 i ≡ end_of x

@@ -48,7 +48,8 @@ last_end f p n d (y ∷ ys) h = by (p y) (λ d. last_end f p (suc n) d ys (λ i 
     none None = refl
     none (Some q) = refl
 
-    by : (b : Bool) → ((d : ℕ) → last_end_or d (filter p ys) ≡ end_or f d (last_where p (suc n) ys)) → last_end_or d (cond b (y ∷ filter p ys) (filter p ys)) ≡ end_or f d (first_of (last_where p (suc n) ys) (cond b (Some n) None))
+    by : (b : Bool) → ((d : ℕ) → last_end_or d (filter p ys) ≡ end_or f d (last_where p (suc n) ys))
+        → last_end_or d (cond b (y ∷ filter p ys) (filter p ys)) ≡ end_or f d (first_of (last_where p (suc n) ys) (cond b (Some n) None))
     by true r = r (end_of y) ∙ first (last_where p (suc n) ys)
     by false r = r d ∙ none (last_where p (suc n) ys)
 

@@ -21,7 +21,8 @@ one_less (zero ∷ ms) (suc k) l e = ap (λ (n : ℕ). suc n) (one_less ms k (om
 one_less (suc m ∷ ms) (suc k) l e = one_less ms k (omega arith) e
 
 -- Numbers that are free and differ are no more than the free marks.
-marked : (ks ms : List ℕ) → ((i k : ℕ) → slice_get ks i ≡ Some k → (k < length ms) × (slice_index_or ms k 0 ≡ 0)) → ((i j k : ℕ) → slice_get ks i ≡ Some k → slice_get ks j ≡ Some k → i ≡ j) → length ks ≤ free_marks ms
+marked : (ks ms : List ℕ) → ((i k : ℕ) → slice_get ks i ≡ Some k → (k < length ms) × (slice_index_or ms k 0 ≡ 0))
+    → ((i j k : ℕ) → slice_get ks i ≡ Some k → slice_get ks j ≡ Some k → i ≡ j) → length ks ≤ free_marks ms
 marked [] ms there apart = omega arith
 marked (k ∷ ks) ms there apart =
     let here = there 0 k refl in

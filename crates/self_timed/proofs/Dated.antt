@@ -78,17 +78,20 @@ pub row_read : (items actual : List (List ℕ)) (k : ℕ) (item row : List ℕ) 
 row_read items actual k item row same is at l = is ∙ at ∙ get_or_default items k item [] l ∙ ap (λ (w : List (List ℕ)). slice_index_or w k []) same
 
 -- what the code lays out is what the acts lay out
-pub next_from : (g : Graph) (s : Schedule) (vs : List Vertex) (ds : List Decision) (n : ℕ) → vs ≡ g.vertices → ds ≡ s.decisions → n ≡ (after_all (started vs) (acts_of ds)).next → n ≡ (after_all (started g.vertices) (acts s)).next
+pub next_from : (g : Graph) (s : Schedule) (vs : List Vertex) (ds : List Decision) (n : ℕ) → vs ≡ g.vertices → ds ≡ s.decisions → n
+    ≡ (after_all (started vs) (acts_of ds)).next → n ≡ (after_all (started g.vertices) (acts s)).next
 next_from g s vs ds n v d e = e ∙ (λ i. (after_all (started (v i)) (acts_of (d i))).next)
 
-pub steps_from : (g : Graph) (s : Schedule) (vs : List Vertex) (ds : List Decision) (sts : List Step) → vs ≡ g.vertices → ds ≡ s.decisions → sts ≡ (after_all (started vs) (acts_of ds)).steps → sts ≡ (after_all (started g.vertices) (acts s)).steps
+pub steps_from : (g : Graph) (s : Schedule) (vs : List Vertex) (ds : List Decision) (sts : List Step) → vs ≡ g.vertices → ds ≡ s.decisions
+    → sts ≡ (after_all (started vs) (acts_of ds)).steps → sts ≡ (after_all (started g.vertices) (acts s)).steps
 steps_from g s vs ds sts v d e = e ∙ (λ i. (after_all (started (v i)) (acts_of (d i))).steps)
 
 pub at_least : (a : Architecture) → is_depth a.depth ≡ true → 1 ≤ a.depth
 at_least a deep = leb-true 1 a.depth (and_parts (nat_le 1 a.depth) (nat_le a.depth 4) deep).0
 
 -- the greatest depth of a program's buffers is the architecture's, where some act reads in another sequence what an act makes
-pub places_of_program : (g : Graph) (a : Architecture) (s : Schedule) (program : Program) → is_archi a.operators a.media ≡ true → is_depth a.depth ≡ true → IsValidForSome g a s → program ≡ program_of g a s → HaveDepth g a s (deepest program.buffers)
+pub places_of_program : (g : Graph) (a : Architecture) (s : Schedule) (program : Program) → is_archi a.operators a.media ≡ true
+    → is_depth a.depth ≡ true → IsValidForSome g a s → program ≡ program_of g a s → HaveDepth g a s (deepest program.buffers)
 places_of_program g a s program archi deep valid built = record { least = deepest_one program.buffers; same = same }
   where
     same : (i j : ℕ) (x y : Act) → slice_get (acts s) i ≡ Some x → slice_get (acts s) j ≡ Some y → has_reader g.vertices x y ≡ true → deepest program.buffers ≡ a.depth
@@ -184,7 +187,8 @@ module _ (g : Graph) (a : Architecture) (s : Schedule) (places : ℕ) (actual : 
               sources = all_from (λ e. e < plan.entries) f.0.sources (λ r n q. (let o = f.2.from r n q in let l = given.low o.at o.it o.stands in let z = o.is in omega arith));
             })
 
-  pub lasts : (k i : ℕ) (x : Act) → slice_get (acts s) i ≡ Some x → (row : List ℕ) → row ≡ slice_index_or actual k [] → slice_index_or row (entry_of g.vertices (acts s) i) 0 ≡ lasting g.vertices (acts s) actual k i
+  pub lasts : (k i : ℕ) (x : Act) → slice_get (acts s) i ≡ Some x → (row : List ℕ) → row ≡ slice_index_or actual k []
+      → slice_index_or row (entry_of g.vertices (acts s) i) 0 ≡ lasting g.vertices (acts s) actual k i
   lasts k i x e row is =
       ap (λ (r : List ℕ). slice_index_or r (entry_of g.vertices (acts s) i) 0) (is ∙ sym (row_there actual k))
       ∙ sym (tick_is (row_in (slice_get actual k)) (entry_of g.vertices (acts s) i))
@@ -192,7 +196,8 @@ module _ (g : Graph) (a : Architecture) (s : Schedule) (places : ℕ) (actual : 
   pub fit : (k i : ℕ) (x : Act) → k < length actual → slice_get (acts s) i ≡ Some x → end_at a.depth g s actual k i < 2 ^ 64
   fit k i x l e =
       let few = asked.few in
-      let z = dates_low g a asked.valid.durations s asked.flat asked.archi asked.valid.rows asked.valid.valid a.depth (at_least a asked.deep) (lasting g.vertices (acts s) actual) (end_at a.depth g s actual) are short k i x (omega arith) e in
+      let z = dates_low g a asked.valid.durations s asked.flat asked.archi asked.valid.rows asked.valid.valid a.depth
+      (at_least a asked.deep) (lasting g.vertices (acts s) actual) (end_at a.depth g s actual) are short k i x (omega arith) e in
       omega arith
 
   -- One reaction more. The code's values are equal to these.
@@ -211,7 +216,8 @@ module _ (g : Graph) (a : Architecture) (s : Schedule) (places : ℕ) (actual : 
         → SoFar a.depth g.vertices (acts s) (end_at a.depth g s actual) plan.entries n more r.ends
     step_more r is n next more all =
         let z : n ≡ suc k = omega arith in
-        let now = so_far_more a.depth g.vertices (acts s) (lasting g.vertices (acts s) actual) (end_at a.depth g s actual) plan places (given plan entries steps) (laid plan entries steps) k rows lines so row
+        let now = so_far_more a.depth g.vertices (acts s) (lasting g.vertices (acts s) actual) (end_at a.depth g s actual) plan places
+        (given plan entries steps) (laid plan entries steps) k rows lines so row
         (λ i x e. lasts k i x e row same_row) (λ i x e. fit k i x l e) r (is ∙ ap (λ (w : List ℕ). after_steps w row plan.steps.items (at_start plan lines)) freed_same) in
         subst (λ (w : List (List Span)). SoFar a.depth g.vertices (acts s) (end_at a.depth g s actual) plan.entries n w r.ends) (sym all)
         (subst (λ (w : ℕ). SoFar a.depth g.vertices (acts s) (end_at a.depth g s actual) plan.entries w (rows ++ r.row ∷ []) r.ends) (sym z) now)
@@ -222,7 +228,8 @@ module _ (g : Graph) (a : Architecture) (s : Schedule) (places : ℕ) (actual : 
     count : length rows ≡ length actual
     count = ap length is ∙ so.count ∙ l
 
-    each : (k i : ℕ) (x : Act) → k < length actual → slice_get (acts s) i ≡ Some x → span_at rows k (entry_of g.vertices (acts s) i) ≡ span (start_at a.depth g s actual k i x) (end_at a.depth g s actual k i)
+    each : (k i : ℕ) (x : Act) → k < length actual → slice_get (acts s) i ≡ Some x → span_at rows k (entry_of g.vertices (acts s) i)
+        ≡ span (start_at a.depth g s actual k i x) (end_at a.depth g s actual k i)
     each j i x h e = ap (λ (w : List (List Span)). span_at w j (entry_of g.vertices (acts s) i)) is ∙ so.each j i x (omega arith) e
 
     pub are_told : AreDatesOf a.depth g s actual rows
@@ -237,12 +244,14 @@ module _ (g : Graph) (a : Architecture) (s : Schedule) (places : ℕ) (actual : 
     told_in_time k i x h e =
         let c = count in
         let z = each k i x (omega arith) e in
-        let b = no_later_than_stated a.depth g a (entry_in asked.valid.durations) s (lasting g.vertices (acts s) actual) (end_at a.depth g s actual) (at_least a asked.deep) asked.valid.valid short are k i x e in
+        let b = no_later_than_stated a.depth g a (entry_in asked.valid.durations) s (lasting g.vertices (acts s) actual)
+        (end_at a.depth g s actual) (at_least a asked.deep) asked.valid.valid short are k i x e in
         let w = ap (λ (p : Span). p.end) z in
         omega arith
 
     pub told_first : StartsAsStated g s actual rows
     told_first first tight i x h e =
         let c = count in
-        let f = (first_reaction_is_stated a.depth g a (entry_in asked.valid.durations) s (lasting g.vertices (acts s) actual) (end_at a.depth g s actual) (at_least a asked.deep) asked.valid.valid first are).0 tight i x e in
+        let f = (first_reaction_is_stated a.depth g a (entry_in asked.valid.durations) s (lasting g.vertices (acts s) actual)
+        (end_at a.depth g s actual) (at_least a asked.deep) asked.valid.valid first are).0 tight i x e in
         each 0 i x (omega arith) e ∙ (λ n. span (f.0 n) (f.1 n))

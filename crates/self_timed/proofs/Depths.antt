@@ -63,7 +63,8 @@ module _ (g : Graph) (a : Architecture) (ticks : ℕ → ℕ → Option ℕ) (s 
   one_line (carry t) (run b) e = let z : Some t.medium ≡ None = ap (λ (q : Seq). q.medium) e in absurd cc
   one_line (run d) (carry u) e = let z : None ≡ Some u.medium = ap (λ (q : Seq). q.medium) e in absurd cc
 
-  pub is_deep : (depth i j h k : ℕ) (x y : Act) (c : Copy) → slice_get (acts s) i ≡ Some x → slice_get (acts s) j ≡ Some y → slice_get (made_by g.vertices x) h ≡ Some c → slice_get (read_by g.vertices y) k ≡ Some c
+  pub is_deep : (depth i j h k : ℕ) (x y : Act) (c : Copy) → slice_get (acts s) i ≡ Some x → slice_get (acts s) j ≡ Some y
+      → slice_get (made_by g.vertices x) h ≡ Some c → slice_get (read_by g.vertices y) k ≡ Some c
       → same_line x y ≡ false → depth_of (program_with depth g a s) (buffer_for g a s c) ≡ depth
   is_deep depth i j h k x y c e d m r apart = ap depth_in (S.buffers_are b c copied) ∙ S.guarded paired.0 (record { buffer = b; sequence = 0 + t }) paired.1
     where
@@ -90,13 +91,16 @@ module _ (g : Graph) (a : Architecture) (ticks : ℕ → ℕ → Option ℕ) (s 
           let at = projection_at (plain_steps g a s) (starts (steps_of g a s) (acts s) j + 0) (reading y).sequence (reading y).instr read_step in
           any_at (reads (buffer_for g a s c)) (projection (plain_steps g a s) (reading y).sequence) at.0 (reading y).instr at.1 (of_reads (buffer_for g a s c) k (reading y).instr (reads_copy y k c r))
 
-      no_write : (w : Bool) → list_any (writes (buffer_for g a s c)) (projection (plain_steps g a s) (reading y).sequence) ≡ w → not (list_any (writes (buffer_for g a s c)) (projection (plain_steps g a s) (reading y).sequence)) ≡ true
+      no_write : (w : Bool) → list_any (writes (buffer_for g a s c)) (projection (plain_steps g a s) (reading y).sequence) ≡ w
+          → not (list_any (writes (buffer_for g a s c)) (projection (plain_steps g a s) (reading y).sequence)) ≡ true
       no_write false q = ap not q
       no_write true q =
           let z = any_of (writes (buffer_for g a s c)) (projection (plain_steps g a s) (reading y).sequence) q in
           let v = writes_of (buffer_for g a s c) z.1 z.3 in
           let u = in_projection (plain_steps g a s) (reading y).sequence z.0 z.1 z.2 in
-          let one = Rattle.sequence_build_laws.proofs.Steps.written_once g a ticks s right valid u.0 (starts (steps_of g a s) (acts s) i + write_place g a s x) v.0 h (buffer_for g a s c) (step (reading y).sequence z.1) (writing g a s x) u.1 write_step v.1
+          let one = Rattle.sequence_build_laws.proofs.Steps.written_once g a ticks s right valid u.0
+          (starts (steps_of g a s) (acts s) i + write_place g a s x) v.0 h (buffer_for g a s c) (step (reading y).sequence z.1)
+          (writing g a s x) u.1 write_step v.1
           (writes_made g a s x h (buffer_for g a s c) c m refl) in
           let same : step (reading y).sequence z.1 ≡ writing g a s x = same_Some (step (reading y).sequence z.1) (writing g a s x) (sym u.1 ∙ ap (slice_get (plain_steps g a s)) one.0 ∙ write_step) in
           let seq : (writing g a s x).sequence ≡ (reading y).sequence = ap (λ (w : Step). w.sequence) (sym same) in
@@ -108,8 +112,10 @@ module _ (g : Graph) (a : Architecture) (ticks : ℕ → ℕ → Option ℕ) (s 
 
       paired : (q : ℕ) × (slice_get (pairs g a s) q ≡ Some (record { buffer = buffer_for g a s c; sequence = 0 + (reading y).sequence }))
       paired =
-          let f = to_readers 0 (plain_program g a s).seqs (buffer_for g a s c) (reading y).sequence (record { seq = reader_seq y; prologue = []; turn = projection (plain_steps g a s) (reading y).sequence }) code
+          let f = to_readers 0 (plain_program g a s).seqs (buffer_for g a s c) (reading y).sequence
+          (record { seq = reader_seq y; prologue = []; turn = projection (plain_steps g a s) (reading y).sequence }) code
           (both_true reads_it (no_write (list_any (writes (buffer_for g a s c)) (projection (plain_steps g a s) (reading y).sequence)) refl)) in
           let l = slice_get_within (copies g a s) (buffer_for g a s c) c copied in
-          in_all (readers_from 0 (plain_program g a s).seqs) (length (plain_program g a s).buffers) (buffer_for g a s c) f.0 (record { buffer = buffer_for g a s c; sequence = 0 + (reading y).sequence })
+          in_all (readers_from 0 (plain_program g a s).seqs) (length (plain_program g a s).buffers) (buffer_for g a s c) f.0
+          (record { buffer = buffer_for g a s c; sequence = 0 + (reading y).sequence })
           (let z = S.buffers_without in omega arith) f.1

@@ -35,7 +35,8 @@ module _ (depth : ℕ) (vertices : List Vertex) (xs : List Act) (ends : ℕ → 
   pub so_far_none : (lines : Ends) → AreStarted lines → SoFar 0 [] lines
   so_far_none lines s = record { count = refl; sized = All-nil (IsLong entries); each = λ j i x l e. absurd (omega arith); tables = s.tables; ended = λ h z e. s.none (line_of z) }
 
-module _ (depth : ℕ) (vertices : List Vertex) (xs : List Act) (long ends : ℕ → ℕ → ℕ) (p : Plan) (used : ℕ) (given : Given depth vertices xs long ends p.entries used) (laid : AreStepsOf vertices xs p.steps.items) where
+module _ (depth : ℕ) (vertices : List Vertex) (xs : List Act) (long ends : ℕ → ℕ → ℕ) (p : Plan) (used : ℕ)
+    (given : Given depth vertices xs long ends p.entries used) (laid : AreStepsOf vertices xs p.steps.items) where
   module _ (k : ℕ) (rows : List (List Span)) (lines : Ends) (so : SoFar depth vertices xs ends p.entries k rows lines) where
     -- the freed dates are right
     frees : (i : ℕ) (x : Act) → slice_get xs i ≡ Some x → IsFreed vertices xs ends used k i x (slice_index_or (freed_in p used rows) (entry_of vertices xs i) 0)
@@ -72,9 +73,11 @@ module _ (depth : ℕ) (vertices : List Vertex) (xs : List Act) (long ends : ℕ
 
             below : (bound : ℕ) → ((j : ℕ) (y : Act) → used ≤ k → slice_get xs j ≡ Some y → reads_from vertices y x ≡ true → ends (k - used) j ≤ bound)
                 → slice_index_or (free_all (slice_index_or rows (length rows - used) []) p.steps.items (replicate p.entries 0)) (entry_of vertices xs i) 0 ≤ bound
-            below bound h = all_below (slice_index_or rows (length rows - used) []) p.steps.items (entry_of vertices xs i) bound (replicate p.entries 0) (let z = zeros_at p.entries (entry_of vertices xs i) in omega arith) each
+            below bound h = all_below (slice_index_or rows (length rows - used) []) p.steps.items (entry_of vertices xs i) bound
+                (replicate p.entries 0) (let z = zeros_at p.entries (entry_of vertices xs i) in omega arith) each
               where
-                each : (j r : ℕ) (st : Step) → slice_get p.steps.items j ≡ Some st → slice_get st.sources r ≡ Some (entry_of vertices xs i) → end_in (slice_index_or rows (length rows - used) []) st.entry ≤ bound
+                each : (j r : ℕ) (st : Step) → slice_get p.steps.items j ≡ Some st → slice_get st.sources r ≡ Some (entry_of vertices xs i)
+                    → end_in (slice_index_or rows (length rows - used) []) st.entry ≤ bound
                 each j r st q m =
                     let within = slice_get_within p.steps.items j st q in
                     let count = laid.count in
@@ -91,16 +94,20 @@ module _ (depth : ℕ) (vertices : List Vertex) (xs : List Act) (long ends : ℕ
                     omega arith
 
         by : (b : Bool) → nat_le used (length rows) ≡ b
-            → IsFreed vertices xs ends used k i x (slice_index_or (cond b (free_all (slice_index_or rows (length rows - used) []) p.steps.items (replicate p.entries 0)) (replicate p.entries 0)) (entry_of vertices xs i) 0)
+            → IsFreed vertices xs ends used k i x
+            (slice_index_or (cond b (free_all (slice_index_or rows (length rows - used) []) p.steps.items (replicate p.entries 0))
+            (replicate p.entries 0)) (entry_of vertices xs i) 0)
         by true h = some (let l = leb-true used (length rows) h in let c = so.count in omega arith)
         by false h = none (elim (cases_lt k used) [ inl l ↦ l | inr l ↦ absurd (false≢true (sym h ∙ le-leb used (length rows) (let c = so.count in omega arith))) ])
 
     -- one reaction more
-    module _ (ticks : List ℕ) (lasts : (i : ℕ) (x : Act) → slice_get xs i ≡ Some x → slice_index_or ticks (entry_of vertices xs i) 0 ≡ long k i) (fit : (i : ℕ) (x : Act) → slice_get xs i ≡ Some x → ends k i < 2 ^ 64) where
+    module _ (ticks : List ℕ) (lasts : (i : ℕ) (x : Act) → slice_get xs i ≡ Some x → slice_index_or ticks (entry_of vertices xs i) 0
+        ≡ long k i) (fit : (i : ℕ) (x : Act) → slice_get xs i ≡ Some x → ends k i < 2 ^ 64) where
       begun : At depth vertices xs long ends p.entries used given k 0 (at_start p lines)
       begun = record { tables = so.tables; size = length-replicate p.entries no_span; row = λ j y l h. absurd (omega arith); lines = so.ended }
 
-      run : FitSteps (freed_in p used rows) ticks p.steps.items (at_start p lines) × At depth vertices xs long ends p.entries used given k (length xs) (after_steps (freed_in p used rows) ticks p.steps.items (at_start p lines))
+      run : FitSteps (freed_in p used rows) ticks p.steps.items (at_start p lines)
+          × At depth vertices xs long ends p.entries used given k (length xs) (after_steps (freed_in p used rows) ticks p.steps.items (at_start p lines))
       run = goes depth vertices xs long ends p.entries used given k (freed_in p used rows) ticks frees lasts fit p.steps.items 0 (at_start p lines)
           (let c = laid.count in omega arith)
           (λ j y h. (let q : 0 + j ≡ j = omega arith in let f = laid.each j y (ap (slice_get xs) (sym q) ∙ h) in (f.0, f.1, subst (λ (n : ℕ). IsStepOf vertices xs n y f.0) (sym q) f.2)))

@@ -82,7 +82,8 @@ all_below row [] d bound freed h l = h
 all_below row (st ∷ sts) d bound freed h l =
     all_below row sts d bound (free st.sources (end_in row st.entry) freed) (free_below st.sources (end_in row st.entry) d bound freed h (λ r q. l 0 r st refl q)) (λ j r z q m. l (suc j) r z q m)
 
-pub all_above : (row : List Span) (sts : List Step) (d j r : ℕ) (st : Step) (freed : List ℕ) → d < length freed → slice_get sts j ≡ Some st → slice_get st.sources r ≡ Some d → end_in row st.entry ≤ date_at (free_all row sts freed) d
+pub all_above : (row : List Span) (sts : List Step) (d j r : ℕ) (st : Step) (freed : List ℕ) → d < length freed → slice_get sts j ≡ Some st
+    → slice_get st.sources r ≡ Some d → end_in row st.entry ≤ date_at (free_all row sts freed) d
 all_above row [] d j r st freed l s m = absurd cc
 all_above row (z ∷ sts) d zero r st freed l s m =
     let same : z ≡ st = same_Some z st s in

@@ -18,7 +18,9 @@ none_longer g s ticks h k i x e = by (slice_get ticks k) refl
     by (Some row) q = let z = ap (λ (o : Option (List ℕ)). number_or 0 (slice_get (row_in o) (entry_of g.vertices (acts s) i))) q in let l = h k row q i x e in omega arith
 
 module _ (depth : ℕ) (vertices : List Vertex) (xs : List Act) (lasts : ℕ → ℕ → ℕ) where
-  pub chart_from : (n : ℕ) (ys : List Act) → ((i m : ℕ) (x : Act) → m ≡ n + i → slice_get ys i ≡ Some x → (start_by depth vertices xs (dates depth vertices xs lasts) 0 m x ≡ start_of x) × (dates depth vertices xs lasts 0 m ≡ end_of x))
+  pub chart_from : (n : ℕ) (ys : List Act)
+      → ((i m : ℕ) (x : Act) → m ≡ n + i → slice_get ys i ≡ Some x
+      → (start_by depth vertices xs (dates depth vertices xs lasts) 0 m x ≡ start_of x) × (dates depth vertices xs lasts 0 m ≡ end_of x))
       → dates_from depth vertices xs lasts 0 n ys ≡ map (λ x. (start_of x, end_of x)) ys
   chart_from n [] h = refl
   chart_from n (y ∷ ys) h =

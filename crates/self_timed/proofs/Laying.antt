@@ -83,11 +83,13 @@ module _ (g : Graph) (a : Architecture) (ticks : ℕ → ℕ → Option ℕ) (s 
           it = b.act;
           less = b.less;
           stands = b.stands;
-          reads = any_at (λ c. list_any (same_copy c) (made_by g.vertices b.act)) (read_by g.vertices x) r m.it m.stands (any_at (same_copy m.it) (made_by g.vertices b.act) b.inner m.it b.made (same_copy_self m.it));
+          reads = any_at (λ c. list_any (same_copy c) (made_by g.vertices b.act)) (read_by g.vertices x) r m.it m.stands
+              (any_at (same_copy m.it) (made_by g.vertices b.act) b.inner m.it b.made (same_copy_self m.it));
           is = sym m.is ∙ z;
         }
 
-    to_source : (m : ℕ) (z : Act) → slice_get (acts s) m ≡ Some z → reads_from g.vertices x z ≡ true → (r : ℕ) × (slice_get (map (maker_in l.makers) (read_by l.vertices x)) r ≡ Some (entry_of g.vertices (acts s) m))
+    to_source : (m : ℕ) (z : Act) → slice_get (acts s) m ≡ Some z → reads_from g.vertices x z ≡ true → (r : ℕ)
+        × (slice_get (map (maker_in l.makers) (read_by l.vertices x)) r ≡ Some (entry_of g.vertices (acts s) m))
     to_source m z q h =
         let c = any_of (λ c. list_any (same_copy c) (made_by g.vertices z)) (read_by g.vertices x) h in
         let d = any_of (same_copy c.1) (made_by g.vertices z) c.3 in
@@ -110,7 +112,8 @@ module _ (g : Graph) (a : Architecture) (ticks : ℕ → ℕ → Option ℕ) (s 
     makers_after j h y c less q m = elim (cases_eq j i) [
       | inl z ↦ (
           let same : y ≡ x = same_Some y x (sym q ∙ ap (slice_get (acts s)) z ∙ e) in
-          noted_all_here l.makers (made_by g.vertices x) (entry_of g.vertices (acts s) i) h c (ap (λ (w : Act). slice_get (made_by g.vertices w) h) (sym same) ∙ m) made_places ∙ ap (entry_of g.vertices (acts s)) (sym z))
+          noted_all_here l.makers (made_by g.vertices x) (entry_of g.vertices (acts s) i) h c
+          (ap (λ (w : Act). slice_get (made_by g.vertices w) h) (sym same) ∙ m) made_places ∙ ap (entry_of g.vertices (acts s)) (sym z))
       | inr n ↦ (
           let before : j < i = omega arith in
           let held = held_made g a ticks s flat archi valid j h y c q m in

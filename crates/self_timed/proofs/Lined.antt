@@ -19,7 +19,7 @@ greatest_above f (d ∷ es) zero e h = let z = ap f (same_Some d e h) in omega a
 greatest_above f (d ∷ es) (suc r) e h = let z = greatest_above f es r e h in omega arith
 
 -- the last that passes is no earlier than one that passes
-last_there : {A : Type 0} (p : A → Bool) (n : ℕ) (xs : List A) (j : ℕ) (y : A) → slice_get xs j ≡ Some y → p y ≡ true → (q : ℕ) × (last_where p n xs ≡ Some q) × (n + j ≤ q)
+pub last_there : {A : Type 0} (p : A → Bool) (n : ℕ) (xs : List A) (j : ℕ) (y : A) → slice_get xs j ≡ Some y → p y ≡ true → (q : ℕ) × (last_where p n xs ≡ Some q) × (n + j ≤ q)
 last_there p n [] j y e t = absurd cc
 last_there p n (x ∷ xs) (suc j) y e t = let r = last_there p (suc n) xs j y e t in let l = r.2 in (r.0, ap (λ (o : Option ℕ). first_of o (cond (p x) (Some n) None)) r.1, omega arith)
 last_there p n (x ∷ xs) zero y e t = by (last_where p (suc n) xs) refl
@@ -74,12 +74,14 @@ module _ (depth : ℕ) (vertices : List Vertex) (xs : List Act) (lasts ends : �
     where
       step : (i : ℕ) → ((h : ℕ) → h < i → (x : Act) → slice_get xs h ≡ Some x → (j : ℕ) (y : Act) → slice_get xs j ≡ Some y → same_line x y ≡ true → j < h → ends k j ≤ start k h x)
           → (x : Act) → slice_get xs i ≡ Some x → (j : ℕ) (y : Act) → slice_get xs j ≡ Some y → same_line x y ≡ true → j < i → ends k j ≤ start k i x
-      step i before x e j y d s l = by (last_there (same_line x) 0 (take i xs) j y (take_get xs i j y l d) s).0 (last_there (same_line x) 0 (take i xs) j y (take_get xs i j y l d) s).1 (last_there (same_line x) 0 (take i xs) j y (take_get xs i j y l d) s).2
+      step i before x e j y d s l = by (last_there (same_line x) 0 (take i xs) j y (take_get xs i j y l d) s).0
+          (last_there (same_line x) 0 (take i xs) j y (take_get xs i j y l d) s).1 (last_there (same_line x) 0 (take i xs) j y (take_get xs i j y l d) s).2
         where
           by : (q : ℕ) → last_where (same_line x) 0 (take i xs) ≡ Some q → 0 + j ≤ q → ends k j ≤ start k i x
           by q h m = elim (cases_eq j q) [
             | inl z ↦ (let a = behind_last k i q x h in let b = ap (ends k) z in omega arith)
-            | inr z ↦ (let w = is_behind i x q h in let a = behind_last k i q x h in let b = before q w.less w.it w.stands j y d (same_both x w.it y w.same s) (omega arith) in let c = ended k q w.it w.stands in omega arith)
+            | inr z ↦ (let w = is_behind i x q h in let a = behind_last k i q x h in
+                let b = before q w.less w.it w.stands j y d (same_both x w.it y w.same s) (omega arith) in let c = ended k q w.it w.stands in omega arith)
           ]
 
   pub across : (k i : ℕ) (x : Act) → slice_get xs i ≡ Some x → (j : ℕ) (y : Act) → slice_get xs j ≡ Some y → same_line x y ≡ true → ends k j ≤ start (suc k) i x
@@ -104,5 +106,6 @@ module _ (depth : ℕ) (vertices : List Vertex) (xs : List Act) (lasts ends : �
           ]
 
           by : (o : Option ℕ) → last_where (same_line x) 0 (take i xs) ≡ o → ends k j ≤ start (suc k) i x
-          by (Some q) h = let w = is_behind i x q h in let a = behind_last (suc k) i q x h in let b = before q w.less w.it w.stands j y d (same_both x w.it y w.same s) in let c = ended (suc k) q w.it w.stands in omega arith
+          by (Some q) h = let w = is_behind i x q h in let a = behind_last (suc k) i q x h in
+              let b = before q w.less w.it w.stands j y d (same_both x w.it y w.same s) in let c = ended (suc k) q w.it w.stands in omega arith
           by None h = let r = last_there (same_line x) 0 xs j y d s in latest r.0 h r.1 r.2

@@ -25,7 +25,8 @@ entry_set es k n date l true h = ap (slice_index_or (slice_set es k date) n) ref
 entry_set es k n date l false h = let other : n ≢ k = λ q. false≢true (sym h ∙ eq-eqb k n (sym q)) in get_or-set_other es k n date 0 other
 
 -- the act x has ended at the date: z's line tells so, where it is the same one
-pub noted_line : (ends : Ends) → AreTables ends → (z x : Act) → IsLine (line_of x) → (date : ℕ) → last_in (noted ends (line_of x) date) (line_of z) ≡ cond (same_line z x) date (last_in ends (line_of z))
+pub noted_line : (ends : Ends) → AreTables ends → (z x : Act) → IsLine (line_of x) → (date : ℕ)
+    → last_in (noted ends (line_of x) date) (line_of z) ≡ cond (same_line z x) date (last_in ends (line_of z))
 noted_line ends t (run d) (run b) l date = entry_set ends.operators b.operator d.operator date (let q = t.operators in omega arith) (nat_eq b.operator d.operator) refl
 noted_line ends t (carry c) (carry d) l date = entry_set ends.media d.medium c.medium date (let q = t.media in omega arith) (nat_eq d.medium c.medium) refl
 noted_line ends t (run d) (carry c) l date = refl

@@ -1,5 +1,36 @@
 -- Lists over the numbers of operations, one number more; the greatest of reactions, one reaction more.
-use Rattle.std.proofs.Common.{◌≡◌, ℕ, zero, suc, ◌+◌, ◌<◌, ◌≤◌, Bool, true, false, ◌&&◌, if◌then◌else◌, List, [], ◌∷◌, ◌++◌, map, take, max, length, Option, Some, None, refl, sym, ap, ap₂, arith, ◌∙◌, append_assoc}
+use Rattle.std.proofs.Common.{
+  ◌≡◌,
+  ℕ,
+  zero,
+  suc,
+  ◌+◌,
+  ◌<◌,
+  ◌≤◌,
+  Bool,
+  true,
+  false,
+  ◌&&◌,
+  if◌then◌else◌,
+  List,
+  [],
+  ◌∷◌,
+  ◌++◌,
+  map,
+  take,
+  max,
+  length,
+  Option,
+  Some,
+  None,
+  refl,
+  sym,
+  ap,
+  ap₂,
+  arith,
+  ◌∙◌,
+  append_assoc,
+}
 use Rattle.std.specs.Prelude.{filter, flat_map, slice_get, slice_index_or}
 use Rattle.std.specs.List.{range_with_len}
 use Rattle.std.proofs.lemmas.List.{append-nil}
@@ -60,7 +91,8 @@ pub taken_more : (f : List Span → ℕ) (rows : List (List Span)) (k : ℕ) →
 taken_more f rows k l = let one : k + 1 ≡ suc k = omega arith in ap (λ (n : ℕ). greatest (map f (take n rows))) one ∙ taken_next f rows k l
 
 -- of an operation that is there
-pub of_vertex : (vertices : List Vertex) (v : ℕ) (x : Vertex) (test : Kind → Bool) → v < length vertices → x ≡ slice_index_or vertices v x → with_vertex (slice_get vertices v) false (λ x. test x.kind) ≡ test x.kind
+pub of_vertex : (vertices : List Vertex) (v : ℕ) (x : Vertex) (test : Kind → Bool) → v < length vertices → x ≡ slice_index_or vertices v x
+    → with_vertex (slice_get vertices v) false (λ x. test x.kind) ≡ test x.kind
 of_vertex vertices v x test l is = ap (λ (o : Option Vertex). with_vertex o false (λ x. test x.kind)) (slice_get_read vertices (length vertices) v x refl l is)
 
 -- the latencies from an operation, by whether it is a sensor
@@ -70,5 +102,6 @@ from_is vertices rows v x b l is e =
     ap (λ (c : Bool). if c then map (latency rows v) (filter (is_reached vertices v) (all_operations vertices rows)) else []) (of_vertex vertices v x senses l is ∙ sym e)
 
 -- whether an operation is an actuator that depends on a sensor
-pub end_is : (vertices : List Vertex) (v w : ℕ) (x : Vertex) (leads : Bool) → w < length vertices → x ≡ slice_index_or vertices w x → leads ≡ leads_to vertices v w → is_reached vertices v w ≡ (drives x.kind && leads)
+pub end_is : (vertices : List Vertex) (v w : ℕ) (x : Vertex) (leads : Bool) → w < length vertices → x ≡ slice_index_or vertices w x → leads
+    ≡ leads_to vertices v w → is_reached vertices v w ≡ (drives x.kind && leads)
 end_is vertices v w x leads l is e = ap₂ (λ (a b : Bool). a && b) (of_vertex vertices w x drives l is) (sym e)

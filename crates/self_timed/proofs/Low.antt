@@ -39,7 +39,8 @@ module _ (depth : ℕ) (deep : 1 ≤ depth) (vertices : List Vertex) (xs : List 
   pub ends_low : (k i : ℕ) → (x : Act) → slice_get xs i ≡ Some x → ends k i ≤ (k * length xs + i) * most + most
   ends_low = by_reaction (λ k i. (x : Act) → slice_get xs i ≡ Some x → ends k i ≤ (k * length xs + i) * most + most) step
     where
-      step : (k i : ℕ) → ((j h : ℕ) → j < k → (x : Act) → slice_get xs h ≡ Some x → ends j h ≤ (j * length xs + h) * most + most) → ((h : ℕ) → h < i → (x : Act) → slice_get xs h ≡ Some x → ends k h ≤ (k * length xs + h) * most + most)
+      step : (k i : ℕ) → ((j h : ℕ) → j < k → (x : Act) → slice_get xs h ≡ Some x → ends j h ≤ (j * length xs + h) * most + most)
+          → ((h : ℕ) → h < i → (x : Act) → slice_get xs h ≡ Some x → ends k h ≤ (k * length xs + h) * most + most)
           → (x : Act) → slice_get xs i ≡ Some x → ends k i ≤ (k * length xs + i) * most + most
       step k i past now x e =
           let start = greatest_below (λ d. ends d.reaction d.act) (needs depth vertices xs k i x) ((k * length xs + i) * most) each in
@@ -59,7 +60,8 @@ module _ (depth : ℕ) (deep : 1 ≤ depth) (vertices : List Vertex) (xs : List 
                 let bound = past d.reaction d.act p.less p.it p.stands in
                 let row = row_fits d.reaction (length xs) k (length xs) p.less (omega arith) in
                 let less = slice_get_within xs d.act p.it p.stands in
-                let fits : (d.reaction * length xs + d.act) * most + most ≤ (k * length xs + i) * most = row_fits (d.reaction * length xs + d.act) most (k * length xs + i) most (omega arith) (omega arith) in
+                let fits : (d.reaction * length xs + d.act) * most + most
+                ≤ (k * length xs + i) * most = row_fits (d.reaction * length xs + d.act) most (k * length xs + i) most (omega arith) (omega arith) in
                 omega arith)
           ]
 
@@ -122,7 +124,7 @@ time_low a valid k m e = by a.media k each e
     by (x ∷ ms) zero h e =
         let same = same_Some x m e in
         let own = (and_parts (is_medium (length a.operators) x) (list_all (is_medium (length a.operators)) ms) h).0 in
-        let stand = may_stand x.multi (length x.stands) && ascends_from 0 x.stands && list_all (λ o. nat_lt o (length a.operators)) x.stands in
+        let stand = may_stand x.kind (length x.stands) && ascends_from 0 x.stands && list_all (λ o. nat_lt o (length a.operators)) x.stands in
         let p = and_parts (stand && nat_le x.fixed 1000000) (nat_le x.per 1000000) own in
         let q = and_parts stand (nat_le x.fixed 1000000) p.0 in
         let per = leb-true x.per 1000000 p.1 in
@@ -132,11 +134,13 @@ time_low a valid k m e = by a.media k each e
         ((omega arith), (omega arith))
     by (x ∷ ms) (suc k) h e = by ms k (and_parts (is_medium (length a.operators) x) (list_all (is_medium (length a.operators)) ms) h).1 e
 
-module _ (g : Graph) (a : Architecture) (t : Table) (s : Schedule) (flat : is_flat g ≡ true) (archi : is_archi a.operators a.media ≡ true) (rows : All (IsRow t.operators) t.rows) (valid : is_valid g a (entry_in t) s ≡ true) where
+module _ (g : Graph) (a : Architecture) (t : Table) (s : Schedule) (flat : is_flat g ≡ true) (archi : is_archi a.operators a.media ≡ true)
+    (rows : All (IsRow t.operators) t.rows) (valid : is_valid g a (entry_in t) s ≡ true) where
   -- no act lasts longer than 1,000,000,000 ticks
   pub stated_low : (i : ℕ) (x : Act) → slice_get (acts s) i ≡ Some x → stated x ≤ 1000000000
   stated_low i (carry c) e =
-      let parts = and_parts (is_carried (slice_get a.media c.medium) (len_of g.vertices c.source) c && have_ended (is_over c.medium) (take i (acts s)) c.start) (not (is_there g a (entry_in t) (take i (acts s)) (copy c.to c.source)))
+      let parts = and_parts (is_carried (slice_get a.media c.medium) (len_of g.vertices c.source) c
+      && have_ended (is_over c.medium) (take i (acts s)) c.start) (not (is_there g a (entry_in t) (take i (acts s)) (copy c.to c.source)))
       (right_at g a (entry_in t) s valid i (carry c) e).act in
       let first = and_parts (is_carried (slice_get a.media c.medium) (len_of g.vertices c.source) c) (have_ended (is_over c.medium) (take i (acts s)) c.start) parts.0 in
       by (slice_get a.media c.medium) refl first.0
@@ -212,7 +216,8 @@ module _ (g : Graph) (a : Architecture) (t : Table) (s : Schedule) (flat : is_fl
       omega arith
 
   -- in at most 1,000 reactions no date is above 2 ^ 62
-  module _ (depth : ℕ) (deep : 1 ≤ depth) (long ends : ℕ → ℕ → ℕ) (are : AreDates depth g.vertices (acts s) long ends) (short : (k i : ℕ) (x : Act) → slice_get (acts s) i ≡ Some x → long k i ≤ stated x) where
+  module _ (depth : ℕ) (deep : 1 ≤ depth) (long ends : ℕ → ℕ → ℕ) (are : AreDates depth g.vertices (acts s) long ends)
+      (short : (k i : ℕ) (x : Act) → slice_get (acts s) i ≡ Some x → long k i ≤ stated x) where
     pub dates_low : (k i : ℕ) (x : Act) → k < 1000 → slice_get (acts s) i ≡ Some x → ends k i < 2 ^ 62
     dates_low k i x l e =
         let bound = ends_low depth deep g.vertices (acts s) long ends are 1000000000 (λ j h y q. (let z = short j h y q in let w = stated_low h y q in omega arith)) k i x e in

@@ -23,7 +23,8 @@ pub from_last : {A : Type 0} (p : A → Bool) (n : ℕ) (xs : List A) (q : ℕ) 
 from_last p n [] q e = absurd cc
 from_last p n (x ∷ xs) q e = by (last_where p (suc n) xs) refl (p x) refl e (λ h. from_last p (suc n) xs q h)
   where
-    by : (o : Option ℕ) → last_where p (suc n) xs ≡ o → (b : Bool) → p x ≡ b → first_of o (cond b (Some n) None) ≡ Some q → (last_where p (suc n) xs ≡ Some q → FromLast p (suc n) xs q) → FromLast p n (x ∷ xs) q
+    by : (o : Option ℕ) → last_where p (suc n) xs ≡ o → (b : Bool) → p x ≡ b → first_of o (cond b (Some n) None) ≡ Some q
+        → (last_where p (suc n) xs ≡ Some q → FromLast p (suc n) xs q) → FromLast p n (x ∷ xs) q
     by (Some r) h b t e f = let l = f (h ∙ e) in record { at = suc l.at; it = l.it; stands = l.stands; passes = l.passes; is = (let z = l.is in omega arith) }
     by None h true t e f = record { at = 0; it = x; stands = refl; passes = t; is = (let z = same_Some n q e in omega arith) }
     by None h false t e f = absurd cc
@@ -50,7 +51,8 @@ module _ (depth : ℕ) (deep : 1 ≤ depth) (vertices : List Vertex) (xs : List 
   there : (i j : ℕ) (it : Act) → i ≡ j → slice_get xs j ≡ Some it → slice_get xs i ≡ Some it
   there i j it e h = ap (slice_get xs) e ∙ h
 
-  of_line : (k i : ℕ) (x : Act) (r : ℕ) (e : Event) (o l : Option ℕ) → last_where (same_line x) 0 (take i xs) ≡ o → last_where (same_line x) 0 xs ≡ l → slice_get (latest_of k o l) r ≡ Some e → Now k i x e ⊎ Past k e
+  of_line : (k i : ℕ) (x : Act) (r : ℕ) (e : Event) (o l : Option ℕ) → last_where (same_line x) 0 (take i xs) ≡ o
+      → last_where (same_line x) 0 xs ≡ l → slice_get (latest_of k o l) r ≡ Some e → Now k i x e ⊎ Past k e
   of_line k i x r e (Some j) l h q m =
       let f = from_last (same_line x) 0 (take i xs) j h in
       let t = get_take xs i f.at f.it f.stands in

@@ -48,7 +48,8 @@ module _ (vertices : List Vertex) (v : ℕ) where
 
   leads : (n w : ℕ) → IsPath vertices (suc n) v w → leads_within vertices (suc n) v w ≡ true
   leads zero w p = passes (λ u. nat_eq u v || leads_within vertices 0 v u) (reads vertices w) p.1.0 p.0 p.1.1 (or_first (nat_eq p.0 v) (leads_within vertices 0 v p.0) (eq-eqb p.0 v (sym p.2)))
-  leads (suc n) w p = passes (λ u. nat_eq u v || leads_within vertices (suc n) v u) (reads vertices w) p.1.0 p.0 p.1.1 (or_second (nat_eq p.0 v) (leads_within vertices (suc n) v p.0) (leads n p.0 p.2))
+  leads (suc n) w p = passes (λ u. nat_eq u v || leads_within vertices (suc n) v u) (reads vertices w) p.1.0 p.0 p.1.1
+      (or_second (nat_eq p.0 v) (leads_within vertices (suc n) v p.0) (leads n p.0 p.2))
 
   -- more operations lead no less far
   longer : (n m w : ℕ) → n ≤ m → leads_within vertices n v w ≡ true → leads_within vertices m v w ≡ true

@@ -103,7 +103,8 @@ started_shape vertices = record { rows = λ v x e. record { row = within vertice
     long (y ∷ vs) (suc v) x e = long vs v x e
 
 -- The copies that one act makes.
-pub noted_again : (makers : List (List ℕ)) (c d : Copy) (e : ℕ) → HasPlace makers d → HasPlace makers c → maker_in makers d ≡ e → d.operator < 16 → c.operator < 16 → maker_in (with_maker makers c e) d ≡ e
+pub noted_again : (makers : List (List ℕ)) (c d : Copy) (e : ℕ) → HasPlace makers d → HasPlace makers c → maker_in makers d ≡ e
+    → d.operator < 16 → c.operator < 16 → maker_in (with_maker makers c e) d ≡ e
 noted_again makers c d e h g is l m = elim (cases_eq d.source.vertex c.source.vertex) [
   | inl v ↦ elim (cases_eq (place d) (place c)) [
     | inl p ↦ (let same = one_place d c l m (record { vertex = v; place = p }) in ap (maker_in (with_maker makers c e)) same ∙ noted_here makers c e g)
@@ -112,13 +113,17 @@ noted_again makers c d e h g is l m = elim (cases_eq d.source.vertex c.source.ve
   | inr n ↦ noted_there makers c d e (λ s. n s.vertex) h.row ∙ is
 ]
 
-pub noted_all_still : (makers : List (List ℕ)) (cs : List Copy) (d : Copy) (e : ℕ) → HasPlace makers d → ((h : ℕ) (c : Copy) → slice_get cs h ≡ Some c → HasPlace makers c × (c.operator < 16)) → d.operator < 16 → maker_in makers d ≡ e → maker_in (with_makers makers cs e) d ≡ e
+pub noted_all_still : (makers : List (List ℕ)) (cs : List Copy) (d : Copy) (e : ℕ) → HasPlace makers d
+    → ((h : ℕ) (c : Copy) → slice_get cs h ≡ Some c → HasPlace makers c × (c.operator < 16)) → d.operator < 16 → maker_in makers d ≡ e
+    → maker_in (with_makers makers cs e) d ≡ e
 noted_all_still makers [] d e has all l is = is
 noted_all_still makers (c ∷ cs) d e has all l is =
     let one = all 0 c refl in
-    noted_all_still (with_maker makers c e) cs d e (place_kept makers c d e has) (λ h b s. let r = all (suc h) b s in (place_kept makers c b e r.0, r.1)) l (noted_again makers c d e has one.0 is l one.1)
+    noted_all_still (with_maker makers c e) cs d e (place_kept makers c d e has)
+    (λ h b s. let r = all (suc h) b s in (place_kept makers c b e r.0, r.1)) l (noted_again makers c d e has one.0 is l one.1)
 
-pub noted_all_here : (makers : List (List ℕ)) (cs : List Copy) (e k : ℕ) (d : Copy) → slice_get cs k ≡ Some d → ((h : ℕ) (c : Copy) → slice_get cs h ≡ Some c → HasPlace makers c × (c.operator < 16)) → maker_in (with_makers makers cs e) d ≡ e
+pub noted_all_here : (makers : List (List ℕ)) (cs : List Copy) (e k : ℕ) (d : Copy) → slice_get cs k ≡ Some d
+    → ((h : ℕ) (c : Copy) → slice_get cs h ≡ Some c → HasPlace makers c × (c.operator < 16)) → maker_in (with_makers makers cs e) d ≡ e
 noted_all_here makers [] e k d s all = absurd cc
 noted_all_here makers (c ∷ cs) e zero d s all =
     let one = all 0 c refl in
@@ -127,7 +132,9 @@ noted_all_here makers (c ∷ cs) e zero d s all =
     ∙ noted_all_still (with_maker makers c e) cs c e (place_kept makers c c e one.0) (λ h b s. let r = all (suc h) b s in (place_kept makers c b e r.0, r.1)) one.1 (noted_here makers c e one.0)
 noted_all_here makers (c ∷ cs) e (suc k) d s all = noted_all_here (with_maker makers c e) cs e k d s (λ h b s. let r = all (suc h) b s in (place_kept makers c b e r.0, r.1))
 
-pub noted_all_there : (makers : List (List ℕ)) (cs : List Copy) (d : Copy) (e : ℕ) → ((h : ℕ) (c : Copy) → slice_get cs h ≡ Some c → SamePlace d c → ⊥) → d.source.vertex < length makers → maker_in (with_makers makers cs e) d ≡ maker_in makers d
+pub noted_all_there : (makers : List (List ℕ)) (cs : List Copy) (d : Copy) (e : ℕ)
+    → ((h : ℕ) (c : Copy) → slice_get cs h ≡ Some c → SamePlace d c → ⊥) → d.source.vertex < length makers
+    → maker_in (with_makers makers cs e) d ≡ maker_in makers d
 noted_all_there makers [] d e apart l = refl
 noted_all_there makers (c ∷ cs) d e apart l =
     let size = length-set makers c.source.vertex (slice_set (row_at makers c.source.vertex) (place c) e) in

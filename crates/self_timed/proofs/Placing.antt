@@ -24,11 +24,13 @@ module _ (vertices : List Vertex) (makers : List (List ℕ)) (d : Decision) (x :
 
   pub guards_placed : All (λ (g : Guard). HasPlace makers (copy d.operator g.source)) x.guards
   guards_placed = subst (λ (v : Vertex). All (λ (g : Guard). HasPlace makers (copy d.operator g.source)) v.guards) it_is
-      (All-weaker (λ (g : Guard). IsHeld vertices (copy d.operator g.source)) (λ (g : Guard). HasPlace makers (copy d.operator g.source)) (λ g h. held_place vertices makers (copy d.operator g.source) shape h) placed.it.guards placed.guards)
+      (All-weaker (λ (g : Guard). IsHeld vertices (copy d.operator g.source)) (λ (g : Guard). HasPlace makers (copy d.operator g.source))
+      (λ g h. held_place vertices makers (copy d.operator g.source) shape h) placed.it.guards placed.guards)
 
   pub inputs_placed : All (λ (s : Source). HasPlace makers (copy d.operator s)) x.ins
   inputs_placed = subst (λ (v : Vertex). All (λ (s : Source). HasPlace makers (copy d.operator s)) v.ins) it_is
-      (All-weaker (λ (s : Source). IsHeld vertices (copy d.operator s)) (λ (s : Source). HasPlace makers (copy d.operator s)) (λ s h. held_place vertices makers (copy d.operator s) shape h) placed.it.ins placed.inputs)
+      (All-weaker (λ (s : Source). IsHeld vertices (copy d.operator s)) (λ (s : Source). HasPlace makers (copy d.operator s))
+      (λ s h. held_place vertices makers (copy d.operator s) shape h) placed.it.ins placed.inputs)
 
   pub row_placed : HasRow makers d.op (length x.outs)
   row_placed = subst (λ (v : Vertex). HasRow makers d.op (length v.outs)) it_is (shape.rows d.op placed.it placed.there)
@@ -73,7 +75,8 @@ run_after l m n d x sources outs there reads made first second =
 
 -- one more output
 pub output_noted : (makers : List (List ℕ)) (o v e port i : ℕ) (outs : List ℕ) → i < length outs
-    → with_makers (with_maker makers (copy o (record { vertex = v; port = port })) e) (map (copy o) (outputs_from v (port + 1) (drop (i + 1) outs))) e ≡ with_makers makers (map (copy o) (outputs_from v port (drop i outs))) e
+    → with_makers (with_maker makers (copy o (record { vertex = v; port = port })) e)
+    (map (copy o) (outputs_from v (port + 1) (drop (i + 1) outs))) e ≡ with_makers makers (map (copy o) (outputs_from v port (drop i outs))) e
 output_noted makers o v e port i outs h =
     let one : suc i ≡ i + 1 = omega arith in
     let d : drop i outs ≡ get_or outs i 0 ∷ drop (i + 1) outs = drop-cons outs i 0 h ∙ (λ j. get_or outs i 0 ∷ drop (one j) outs) in

@@ -68,7 +68,8 @@ module _ (depth : ℕ) (vertices : List Vertex) (xs : List Act) (long ends : ℕ
             ∙ sym (last_end_next xs ends k i x z e);
       }
         where
-          here : slice_set r.row st.entry (span (start_in freed ticks st r) (ended_in freed ticks st r)) ≡ slice_set r.row (entry_of vertices xs i) (span (start_by depth vertices xs ends k i x) (ends k i))
+          here : slice_set r.row st.entry (span (start_in freed ticks st r) (ended_in freed ticks st r))
+              ≡ slice_set r.row (entry_of vertices xs i) (span (start_by depth vertices xs ends k i x) (ends k i))
           here n = slice_set r.row (is.entry n) (span (start_is n) (ended_is n))
 
           rows : (j : ℕ) (y : Act) → j < suc i → slice_get xs j ≡ Some y
@@ -91,7 +92,8 @@ module _ (depth : ℕ) (vertices : List Vertex) (xs : List Act) (long ends : ℕ
           ]
 
     -- the acts from act i on
-    pub goes : (sts : List Step) (i : ℕ) (r : Running) → i + length sts ≡ length xs → ((j : ℕ) (y : Act) → slice_get xs (i + j) ≡ Some y → (st : Step) × (slice_get sts j ≡ Some st) × IsStepOf vertices xs (i + j) y st)
+    pub goes : (sts : List Step) (i : ℕ) (r : Running) → i + length sts ≡ length xs
+        → ((j : ℕ) (y : Act) → slice_get xs (i + j) ≡ Some y → (st : Step) × (slice_get sts j ≡ Some st) × IsStepOf vertices xs (i + j) y st)
         → At k i r → FitSteps freed ticks sts r × At k (length xs) (after_steps freed ticks sts r)
     goes [] i r size each at = (tt, (let q : i ≡ length xs = omega arith in subst (λ (n : ℕ). At k n r) q at))
     goes (st ∷ sts) i r size each at =

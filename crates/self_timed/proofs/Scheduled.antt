@@ -52,7 +52,8 @@ chosen_same f h p b zero same = refl
 chosen_same f h p b (suc n) same = by (p b) (same b (omega arith) (omega arith)) (chosen_same f h p (b + 1) n (λ k l m. same k (omega arith) (omega arith)))
   where
     by : (c : Bool) → f b ≡ h b → map f (filter p (range_with_len (b + 1) n)) ≡ map h (filter p (range_with_len (b + 1) n))
-        → map f (cond c (b ∷ filter p (range_with_len (b + 1) n)) (filter p (range_with_len (b + 1) n))) ≡ map h (cond c (b ∷ filter p (range_with_len (b + 1) n)) (filter p (range_with_len (b + 1) n)))
+        → map f (cond c (b ∷ filter p (range_with_len (b + 1) n)) (filter p (range_with_len (b + 1) n)))
+        ≡ map h (cond c (b ∷ filter p (range_with_len (b + 1) n)) (filter p (range_with_len (b + 1) n)))
     by true d e = λ i. d i ∷ e i
     by false d e = e
 

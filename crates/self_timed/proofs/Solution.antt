@@ -30,7 +30,8 @@ module _ (depth : ℕ) (deep : 1 ≤ depth) (vertices : List Vertex) (xs : List 
   fuel (suc f) (suc h) k i l m = by (λ x r e q. let z = lower k i x r e q in fuel f h e.reaction e.act (omega arith) (omega arith)) (slice_get xs i)
     where
       by : ((x : Act) (r : ℕ) (e : Event) → slice_get (needs depth vertices xs k i x) r ≡ Some e → within f e.reaction e.act ≡ within h e.reaction e.act)
-          → (o : Option Act) → with_act o (λ x. start_by depth vertices xs (λ j d. within f j d) k i x + lasts k i) ≡ with_act o (λ x. start_by depth vertices xs (λ j d. within h j d) k i x + lasts k i)
+          → (o : Option Act) → with_act o (λ x. start_by depth vertices xs (λ j d. within f j d) k i x + lasts k i)
+          ≡ with_act o (λ x. start_by depth vertices xs (λ j d. within h j d) k i x + lasts k i)
       by each None = refl
       by each (Some x) = ap (λ (n : ℕ). n + lasts k i) (greatest_same (λ e. within f e.reaction e.act) (λ e. within h e.reaction e.act) (needs depth vertices xs k i x) (each x))
 
@@ -44,7 +45,8 @@ module _ (depth : ℕ) (deep : 1 ≤ depth) (vertices : List Vertex) (xs : List 
   pub one_solution : (f h : ℕ → ℕ → ℕ) → AreDates depth vertices xs lasts f → AreDates depth vertices xs lasts h → (k i : ℕ) (x : Act) → slice_get xs i ≡ Some x → f k i ≡ h k i
   one_solution f h p q = by_reaction (λ k i. (x : Act) → slice_get xs i ≡ Some x → f k i ≡ h k i) step
     where
-      step : (k i : ℕ) → ((j d : ℕ) → j < k → (x : Act) → slice_get xs d ≡ Some x → f j d ≡ h j d) → ((d : ℕ) → d < i → (x : Act) → slice_get xs d ≡ Some x → f k d ≡ h k d) → (x : Act) → slice_get xs i ≡ Some x → f k i ≡ h k i
+      step : (k i : ℕ) → ((j d : ℕ) → j < k → (x : Act) → slice_get xs d ≡ Some x → f j d ≡ h j d)
+          → ((d : ℕ) → d < i → (x : Act) → slice_get xs d ≡ Some x → f k d ≡ h k d) → (x : Act) → slice_get xs i ≡ Some x → f k i ≡ h k i
       step k i past now x e = p k i x e ∙ ap (λ (n : ℕ). n + lasts k i) (greatest_same (λ e. f e.reaction e.act) (λ e. h e.reaction e.act) (needs depth vertices xs k i x) each) ∙ sym (q k i x e)
         where
           each : (r : ℕ) (d : Event) → slice_get (needs depth vertices xs k i x) r ≡ Some d → f d.reaction d.act ≡ h d.reaction d.act

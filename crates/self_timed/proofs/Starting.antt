@@ -37,7 +37,8 @@ module _ (depth : ℕ) (vertices : List Vertex) (xs : List Act) (long ends : ℕ
 
   -- acts of one line, any number of reactions apart
   pub reactions_apart : (n k i j : ℕ) (x y : Act) → slice_get xs i ≡ Some x → slice_get xs j ≡ Some y → same_line x y ≡ true → ends k j ≤ start_by depth vertices xs ends (suc n + k) i x
-  reactions_apart zero k i j x y e h l = let q : suc zero + k ≡ suc k = omega arith in let z = across depth vertices xs long ends are k i x e j y h l in let w = ap (λ (m : ℕ). start_by depth vertices xs ends m i x) q in omega arith
+  reactions_apart zero k i j x y e h l = let q : suc zero + k ≡ suc k = omega arith in
+      let z = across depth vertices xs long ends are k i x e j y h l in let w = ap (λ (m : ℕ). start_by depth vertices xs ends m i x) q in omega arith
   reactions_apart (suc n) k i j x y e h l =
       let up = reactions_apart n k j j y y h h (own x y l) in
       let lasts = are (suc n + k) j y h in
@@ -123,7 +124,8 @@ module _ (depth : ℕ) (vertices : List Vertex) (xs : List Act) (long ends : ℕ
       pub starts : last_in r.ends (line_of x) ≡ greatest (map of_event (in_line xs k i x))
           → ((j : ℕ) (y : Act) → j < i → slice_get xs j ≡ Some y → end_in r.row (entry_of vertices xs j) ≡ ends k j)
           → ((j : ℕ) (y : Act) → used ≤ k → slice_get xs j ≡ Some y → reads_from vertices y x ≡ true → ends (k - used) j ≤ slice_index_or freed (entry_of vertices xs i) 0)
-          → ((bound : ℕ) → ((j : ℕ) (y : Act) → used ≤ k → slice_get xs j ≡ Some y → reads_from vertices y x ≡ true → ends (k - used) j ≤ bound) → slice_index_or freed (entry_of vertices xs i) 0 ≤ bound)
+          → ((bound : ℕ) → ((j : ℕ) (y : Act) → used ≤ k → slice_get xs j ≡ Some y → reads_from vertices y x ≡ true → ends (k - used) j
+          ≤ bound) → slice_index_or freed (entry_of vertices xs i) 0 ≤ bound)
           → start_in freed ticks st r ≡ start_by depth vertices xs ends k i x
       starts line row above below =
           let down = no_later in

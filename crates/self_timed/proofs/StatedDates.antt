@@ -109,7 +109,8 @@ module _ (g : Graph) (a : Architecture) (s : Schedule) (valid : IsValidForSome g
             let read = ap end_of_span (get_or_from_slice_get (slice_index_or rows k []) e w.it no_span w.stands) in
             let is = w.is in
             let act = slice_get_within (acts s) y.0 y.1 y.2 in
-            let most = above (map (stated_end g a s k) (range_with_len 0 (length (acts s)))) y.0 (stated_end g a s k (0 + y.0)) (map_at (stated_end g a s k) (range_with_len 0 (length (acts s))) y.0 (0 + y.0) (range_there 0 (length (acts s)) y.0 act)) in
+            let most = above (map (stated_end g a s k) (range_with_len 0 (length (acts s)))) y.0 (stated_end g a s k (0 + y.0))
+            (map_at (stated_end g a s k) (range_with_len 0 (length (acts s))) y.0 (0 + y.0) (range_there 0 (length (acts s)) y.0 act)) in
             let none : 0 + y.0 ≡ y.0 = omega arith in
             let at_none = ap (stated_end g a s k) none in
             omega arith)
@@ -149,7 +150,8 @@ module _ (g : Graph) (a : Architecture) (s : Schedule) (valid : IsValidForSome g
         ∙ (λ j. record { ticks = first_done n all j - first_done (n / 2) half j; reactions = n - n / 2 })
 
 -- the operations of decisions are there
-pub ops_there : (g : Graph) (a : Architecture) (s : Schedule) → is_flat g ≡ true → is_archi a.operators a.media ≡ true → IsValidForSome g a s → (ds : List Decision) (vs : List Vertex) → ds ≡ s.decisions → vs ≡ g.vertices → All (λ (d : Decision). d.op < length vs) ds
+pub ops_there : (g : Graph) (a : Architecture) (s : Schedule) → is_flat g ≡ true → is_archi a.operators a.media ≡ true
+    → IsValidForSome g a s → (ds : List Decision) (vs : List Vertex) → ds ≡ s.decisions → vs ≡ g.vertices → All (λ (d : Decision). d.op < length vs) ds
 ops_there g a s flat archi valid ds vs same is = subst (λ (w : List Decision). All (λ (d : Decision). d.op < length vs) w) (sym same) (λ k d l.
     let p = (decided g a (entry_in valid.durations) s flat archi valid.valid k d l).placed in
     let z = slice_get_within g.vertices (slice_index_or s.decisions k d).op p.it p.there in

@@ -88,7 +88,8 @@ module _ (g : Graph) (a : Architecture) (ticks : ℕ → ℕ → Option ℕ) (s 
   pub row_at : (i : ℕ) (x : Act) → slice_get (acts s) i ≡ Some x → slice_get (stated_row (length g.vertices) s.decisions) (entry_of g.vertices (acts s) i) ≡ Some (stated x)
   row_at i x e = ap (slice_get (stated_row (length g.vertices) s.decisions)) (is_entry g a ticks s valid i x e) ∙ by x e
     where
-      by : (x : Act) → slice_get (acts s) i ≡ Some x → slice_get (stated_row (length g.vertices) s.decisions) (entry_at (length g.vertices) (count_by is_transfer (take i (acts s))) x) ≡ Some (stated x)
+      by : (x : Act) → slice_get (acts s) i ≡ Some x
+          → slice_get (stated_row (length g.vertices) s.decisions) (entry_at (length g.vertices) (count_by is_transfer (take i (acts s))) x) ≡ Some (stated x)
       by (run d) e =
           let r = of_run g a ticks s valid i d e in
           let low = slice_get_within g.vertices d.op r.vertex r.there in

@@ -1,5 +1,38 @@
 -- A table that is renewed says of each operation whether it depends on one.
-use Rattle.std.proofs.Common.{◌≡◌, ℕ, zero, suc, ◌+◌, ◌<◌, ◌≤◌, Bool, true, false, ◌&&◌, ◌||◌, nat_eq, List, [], ◌∷◌, ◌++◌, map, length, Option, Some, None, refl, sym, ap, ap₂, subst, arith, ◌∙◌, below_more, inl, inr}
+use Rattle.std.proofs.Common.{
+  ◌≡◌,
+  ℕ,
+  zero,
+  suc,
+  ◌+◌,
+  ◌<◌,
+  ◌≤◌,
+  Bool,
+  true,
+  false,
+  ◌&&◌,
+  ◌||◌,
+  nat_eq,
+  List,
+  [],
+  ◌∷◌,
+  ◌++◌,
+  map,
+  length,
+  Option,
+  Some,
+  None,
+  refl,
+  sym,
+  ap,
+  ap₂,
+  subst,
+  arith,
+  ◌∙◌,
+  below_more,
+  inl,
+  inr,
+}
 use Rattle.std.specs.Prelude.{slice_get, slice_index_or, slice_set}
 use Rattle.std.specs.List.{list_all, list_any, range_with_len}
 use Rattle.std.proofs.lemmas.Bool.{false≢true, and_parts, cases_eq, cases_lt}
@@ -25,7 +58,8 @@ all_front : (test : ℕ → Bool) (xs ys : List ℕ) → list_all test (xs ++ ys
 all_front test [] ys h = refl
 all_front test (x ∷ xs) ys h = let p = and_parts (test x) (list_all test (xs ++ ys)) h in ap₂ (λ (a b : Bool). a && b) p.0 (all_front test xs ys p.1)
 
-same_where : (v : ℕ) (f g : ℕ → Bool) (test : ℕ → Bool) → ((u : ℕ) → test u ≡ true → f u ≡ g u) → (us : List ℕ) → list_all test us ≡ true → list_any (λ u. nat_eq u v || f u) us ≡ list_any (λ u. nat_eq u v || g u) us
+same_where : (v : ℕ) (f g : ℕ → Bool) (test : ℕ → Bool) → ((u : ℕ) → test u ≡ true → f u ≡ g u) → (us : List ℕ) → list_all test us ≡ true
+    → list_any (λ u. nat_eq u v || f u) us ≡ list_any (λ u. nat_eq u v || g u) us
 same_where v f g test same [] h = refl
 same_where v f g test same (u ∷ us) h =
     let both = and_parts (test u) (list_all test us) h in
@@ -74,7 +108,8 @@ module _ (vertices : List Vertex) (v : ℕ) where
     leads_is w l = no_longer (length vertices) (length vertices) w (omega arith) (all_done w l)
 
     -- from what it reads, an operation's entry becomes right
-    becomes_right : (rounds : ℕ) (table : List Bool) → AreRight vertices v rounds table → (w : ℕ) → w < length vertices → is_done vertices (suc rounds) w ≡ true → renewed vertices v table w ≡ leads_to vertices v w
+    becomes_right : (rounds : ℕ) (table : List Bool) → AreRight vertices v rounds table → (w : ℕ) → w < length vertices
+        → is_done vertices (suc rounds) w ≡ true → renewed vertices v table w ≡ leads_to vertices v w
     becomes_right rounds table right w l h = after_same (at table) (leads_to vertices v) rounds w right h ∙ sym (leads_is w l)
 
     -- what a turn leaves as it is is right
@@ -84,7 +119,8 @@ module _ (vertices : List Vertex) (v : ℕ) where
         let l = within rounds vertices vertices w h in
         settled w l ∙ becomes_right rounds table (settled_is_right table settled rounds) w l h
 
-    pub turn_more : (rounds op : ℕ) (table after : List Bool) → op < length vertices → op < length table → after ≡ slice_set table op (renewed vertices v table op) → HadTurn rounds op table → HadTurn rounds (op + 1) after
+    pub turn_more : (rounds op : ℕ) (table after : List Bool) → op < length vertices → op < length table → after
+        ≡ slice_set table op (renewed vertices v table op) → HadTurn rounds op table → HadTurn rounds (op + 1) after
     turn_more rounds op table after l m is had = record {
       all = λ w h. (elim (cases_eq w op) [
         | inl e ↦ (let d = stays_done vertices rounds w h in
@@ -119,7 +155,8 @@ module _ (vertices : List Vertex) (v : ℕ) where
       set_same (x ∷ xs) (suc i) y l e = ap (λ (zs : List Bool). x ∷ zs) (set_same xs i y (omega arith) e)
 
 -- the entry of an operation that is read from a list
-pub renewed_is : (vertices : List Vertex) (v : ℕ) (table : List Bool) (op : ℕ) (x : Vertex) (is : Bool) → op < length vertices → x ≡ slice_index_or vertices op x → is ≡ list_any (λ u. nat_eq u v || at table u) (reads_of x)
+pub renewed_is : (vertices : List Vertex) (v : ℕ) (table : List Bool) (op : ℕ) (x : Vertex) (is : Bool) → op < length vertices → x
+    ≡ slice_index_or vertices op x → is ≡ list_any (λ u. nat_eq u v || at table u) (reads_of x)
     → is ≡ renewed vertices v table op
 renewed_is vertices v table op x is l at_op h =
     h ∙ sym (ap (λ (o : Option Vertex). list_any (λ u. nat_eq u v || at table u) (with_vertex o [] reads_of)) (slice_get_read vertices (length vertices) op x refl l at_op))

@@ -64,5 +64,6 @@ bus = (refl, refl, refl)
 
 -- Each sensor leads to one actuator over the same medium. In the second reaction the first one takes 5 ticks in the place
 -- of 4, since the medium is busy, and the second one 5 in the place of 6, since it senses later.
-multi : (latencies_of_schedule multi_graph multi_archi multi_schedule 1 ≡ found 0 2 4 ∷ found 1 3 6 ∷ []) × (latencies_of_schedule multi_graph multi_archi multi_schedule 2 ≡ found 0 2 5 ∷ found 1 3 6 ∷ [])
+multi : (latencies_of_schedule multi_graph multi_archi multi_schedule 1 ≡ found 0 2 4 ∷ found 1 3 6 ∷ [])
+    × (latencies_of_schedule multi_graph multi_archi multi_schedule 2 ≡ found 0 2 5 ∷ found 1 3 6 ∷ [])
 multi = (refl, refl)

@@ -47,7 +47,8 @@ abbrev pipe_schedule : Schedule
 pipe_schedule = schedule (placed 0 0 0 1 [] ∷ placed 1 0 1 11 [] ∷ placed 2 1 0 0 [] ∷ placed 4 1 0 8 [] ∷ placed 5 1 8 9 [] ∷ placed 3 1 13 13 (carried 1 0 0 1 11 13 ∷ []) ∷ [])
 
 -- the first reaction is done at 13; with one place the first function waits for the end of the transfer, with two its operator is never idle
-pipe : (period_of_schedule pipe_graph (deep 1) pipe_schedule 1 ≡ period 13 1) × (period_of_schedule pipe_graph (deep 1) pipe_schedule 2 ≡ period 12 1) × (period_of_schedule pipe_graph (deep 2) pipe_schedule 2 ≡ period 11 1)
+pipe : (period_of_schedule pipe_graph (deep 1) pipe_schedule 1 ≡ period 13 1)
+    × (period_of_schedule pipe_graph (deep 1) pipe_schedule 2 ≡ period 12 1) × (period_of_schedule pipe_graph (deep 2) pipe_schedule 2 ≡ period 11 1)
 pipe = (refl, refl, refl)
 
 -- of given spans: the last two of three reactions take from 5 to 17

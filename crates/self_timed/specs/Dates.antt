@@ -62,7 +62,7 @@ latest_of k (Some i) o = event k i ∷ []
 latest_of zero None o = []
 latest_of (suc k) None o = one_of k o
 
--- these acts, d reactions before reaction k, where there is such a reaction
+-- These acts as events of the reaction that is d before reaction k, if there is one.
 abbrev pub ago : ℕ → ℕ → List ℕ → List Event
 ago d k numbers = cond (nat_le d k) (map (event (k - d)) numbers) []
 

@@ -17,7 +17,7 @@ const MOST_OPERATORS: usize = 16;
 
 /// An act as far as dates go: its entry, its line, and the entries of the acts that make what it reads.
 #[derive(Drop)]
-pub(crate) struct Step {
+pub struct Step {
     pub entry: usize,
     pub line: Line,
     pub sources: Items<usize>,
@@ -25,13 +25,13 @@ pub(crate) struct Step {
 
 /// The acts of a schedule in their order, and how many entries there are.
 #[derive(Drop)]
-pub(crate) struct Plan {
+pub struct Plan {
     pub entries: usize,
     pub steps: Vec<Step>,
 }
 
 /// The acts of a schedule. Contracts of this file speak of the acts so far.
-pub(crate) fn plan_of(
+pub fn plan_of(
     alloc: Global,
     vertices: &[Vertex],
     decisions: &[Decision],

@@ -41,6 +41,8 @@ pub use laws::{
     buffers_have_depth, dates_are_one, entries_are_acts, entries_end_in_time,
     first_reaction_is_stated, lines_are_in_order, no_later_than_stated,
 };
+pub use layout::{Plan, Step, plan_of};
+pub use line::{Ends, Line};
 pub use period::{Period, period_of};
 pub use period_laws::one_operator_has_its_length_as_period;
 pub use stated::{schedule_period, stated_dates};
@@ -49,6 +51,6 @@ pub use stated_latencies::schedule_latencies;
 // What the clauses here speak of: schedules and programs, and what both are made for.
 pub use sequence_build_laws::{
     Archi, ArchiCause, ArchiText, Decision, DurationLine, Durations, Flat, Guard, Kind, Medium,
-    Program, Schedule, SeqCode, Source, Transfer, Vertex, accepted_are_durations, durations_fit,
-    len_of,
+    MediumKind, Program, Schedule, SeqCode, Source, Transfer, Vertex, accepted_are_durations,
+    durations_fit, len_of,
 };

@@ -7,7 +7,7 @@ ghost use Rattle.self_timed.specs.Lines.{AreStarted, IsLine, last_in, noted};
 /// Where an act stands in line: at the operator on which an operation runs, or at the medium over which
 /// a value is carried.
 #[derive(Clone, Copy, Debug, PartialEq, Eq)]
-pub(crate) enum Line {
+pub enum Line {
     Operator(u32),
     Medium(u32),
 }
@@ -18,7 +18,7 @@ type LastEnds = [u64; 16];
 /// When the last act so far has ended on each operator and over each medium, by number; 0 where there
 /// was none.
 #[derive(Drop)]
-pub(crate) struct Ends {
+pub struct Ends {
     operators: LastEnds,
     media: LastEnds,
 }

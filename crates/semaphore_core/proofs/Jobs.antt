@@ -52,7 +52,9 @@ module _ (j : JobData) (job : IsJob j) where
 
   -- the rows of all actuators are laid out
   pub rows_laid_out : is_flat j.graph ≡ true → (lens : List ℕ) → lens ≡ actuator_lens j.graph j.graph.vertices → (v : ℕ) → HasRow j lens v
-  rows_laid_out valid lens e v x a is k = subst (λ (l : List ℕ). (a < length l) × (slice_index_or l a 0 ≡ slice_index_or (lens_of j.graph.vertices x.ins) 0 0)) (sym e) (actuator_at j.graph valid v a x is k)
+  rows_laid_out valid lens e v x a is k =
+      subst (λ (l : List ℕ). (a < length l) × (slice_index_or l a 0 ≡ slice_index_or (lens_of j.graph.vertices x.ins) 0 0)) (sym e)
+      (actuator_at j.graph valid v a x is k)
 
   -- the opening cells, rows of zeros, and a place for each desk
   pub opening_ready : (k : Kept) → is_flat j.graph ≡ true → k.cells ≡ j.opening → length k.rows ≡ reactions j → length k.desks ≡ length j.graph.vertices → AreReady j k

@@ -7,7 +7,22 @@ use Rattle.executive_program.specs.declared.Kind.TheVariants.{Sensor, Actuator, 
 use Rattle.executive_program.specs.declared.Vertex.{Vertex}
 use Rattle.executive_program.specs.Graph.{Graph, with_vertex, lens_of}
 use Rattle.executive_program.specs.FlatOrder.{is_acyclic}
-use Rattle.executive_program.specs.FlatValid.{is_flat, fits, is_only, has_twin, has_set_half, has_get_half, is_set_half_of, is_set_half_by, is_get_half_of, is_get_half_by, sensors_from, actuators_from, kinds_of, is_number}
+use Rattle.executive_program.specs.FlatValid.{
+  is_flat,
+  fits,
+  is_only,
+  has_twin,
+  has_set_half,
+  has_get_half,
+  is_set_half_of,
+  is_set_half_by,
+  is_get_half_of,
+  is_get_half_by,
+  sensors_from,
+  actuators_from,
+  kinds_of,
+  is_number,
+}
 use Rattle.executive_program.specs.Meaning.{is_get, delay_number, initial_cell, initial_cells}
 use Rattle.executive_program.specs.Fire.{kind_cell_len}
 use Rattle.executive_program.proofs.Facts.{vertex_valid, fits_of, twin_of, sensors_numbered}
@@ -35,8 +50,11 @@ AllFit g xs = (v : ℕ) (x : Vertex) → slice_get xs v ≡ Some x → fits g.bo
 pub all_fit : (g : Graph) → is_flat g ≡ true → AllFit g g.vertices
 all_fit g h v x e = fits_of g v x (vertex_valid g h v x e)
 
-pub actuator_one : (g : Graph) (x : Vertex) (a : ℕ) → x.kind ≡ Actuator a → fits g.bodies x.kind (lens_of g.vertices x.ins) x.outs ≡ true → lens_of g.vertices x.ins ≡ slice_index_or (lens_of g.vertices x.ins) 0 0 ∷ []
-actuator_one g x a k h = one_is (lens_of g.vertices x.ins) (and_parts (length (lens_of g.vertices x.ins) == 1) (length x.outs == 0) (subst (λ (q : Kind). fits g.bodies q (lens_of g.vertices x.ins) x.outs ≡ true) k h)).0
+pub actuator_one : (g : Graph) (x : Vertex) (a : ℕ) → x.kind ≡ Actuator a → fits g.bodies x.kind (lens_of g.vertices x.ins) x.outs ≡ true
+    → lens_of g.vertices x.ins ≡ slice_index_or (lens_of g.vertices x.ins) 0 0 ∷ []
+actuator_one g x a k h = one_is (lens_of g.vertices x.ins)
+    (and_parts (length (lens_of g.vertices x.ins) == 1) (length x.outs == 0)
+    (subst (λ (q : Kind). fits g.bodies q (lens_of g.vertices x.ins) x.outs ≡ true) k h)).0
 
 actuator_place : (g : Graph) (n v a : ℕ) (xs : List Vertex) (x : Vertex) → AllFit g xs → actuators_from n (kinds_of xs) ≡ true → slice_get xs v ≡ Some x → x.kind ≡ Actuator a
     → Stands n a (actuator_lens g xs) (slice_index_or (lens_of g.vertices x.ins) 0 0)
@@ -51,11 +69,13 @@ actuator_place g n zero a (y ∷ ys) x f h e k =
     record { place = 0; is = (let q : a ≡ n + 0 = omega arith in q); there = (let q = ap (λ (l : List ℕ). length l) len in omega arith); same = ap (λ (l : List ℕ). slice_index_or l 0 0) len }
 actuator_place g n (suc v) a (y ∷ ys) x f h e k = by y.kind refl h (λ m h'. actuator_place g m v a ys x (λ u z. f (suc u) z) h' e k)
   where
-    by : (kind : Kind) → y.kind ≡ kind → actuators_from n (kind ∷ kinds_of ys) ≡ true → ((m : ℕ) → actuators_from m (kinds_of ys) ≡ true → Stands m a (actuator_lens g ys) (slice_index_or (lens_of g.vertices x.ins) 0 0))
+    by : (kind : Kind) → y.kind ≡ kind → actuators_from n (kind ∷ kinds_of ys) ≡ true
+        → ((m : ℕ) → actuators_from m (kinds_of ys) ≡ true → Stands m a (actuator_lens g ys) (slice_index_or (lens_of g.vertices x.ins) 0 0))
         → Stands n a (actuator_len g y kind ++ actuator_lens g ys) (slice_index_or (lens_of g.vertices x.ins) 0 0)
     by (Actuator i) q h' later =
         subst (λ (l : List ℕ). Stands n a (l ++ actuator_lens g ys) (slice_index_or (lens_of g.vertices x.ins) 0 0)) (sym (actuator_one g y i q (f 0 y refl)))
-        (behind n a (slice_index_or (lens_of g.vertices y.ins) 0 0) (actuator_lens g ys) (slice_index_or (lens_of g.vertices x.ins) 0 0) (later (n + 1) (and_parts (i == n) (actuators_from (n + 1) (kinds_of ys)) h').1))
+        (behind n a (slice_index_or (lens_of g.vertices y.ins) 0 0) (actuator_lens g ys) (slice_index_or (lens_of g.vertices x.ins) 0 0)
+        (later (n + 1) (and_parts (i == n) (actuators_from (n + 1) (kinds_of ys)) h').1))
     by (Sensor i) q h' later = later n h'
     by (Function b) q h' later = later n h'
     by (Constant z) q h' later = later n h'
@@ -73,7 +93,8 @@ actuator_at g h v a x e k = stands_first a (actuator_lens g g.vertices) (slice_i
     numbered : actuators_from 0 (kinds_of g.vertices) ≡ true
     numbered = (and_parts _ (actuators_from 0 (kinds_of g.vertices)) (and_parts _ (is_acyclic g.vertices) h).0).1
 
-sensor_place : (g : Graph) (n v i : ℕ) (xs : List Vertex) (x : Vertex) → AllFit g xs → sensors_from n (kinds_of xs) ≡ true → slice_get xs v ≡ Some x → x.kind ≡ Sensor i → Stands n i (sensor_lens xs) (slice_index_or x.outs 0 0)
+sensor_place : (g : Graph) (n v i : ℕ) (xs : List Vertex) (x : Vertex) → AllFit g xs → sensors_from n (kinds_of xs) ≡ true → slice_get xs v
+    ≡ Some x → x.kind ≡ Sensor i → Stands n i (sensor_lens xs) (slice_index_or x.outs 0 0)
 sensor_place g n v i [] x f h e k = absurd (cc)
 sensor_place g n zero i (y ∷ ys) x f h e k =
     let same : y ≡ x = cc in
@@ -134,13 +155,15 @@ pub record GetHalf (g : Graph) (v u : ℕ) (x : Vertex) : Type 0 where
   pub kind : half.kind ≡ Get values
   pub len : lens_of g.vertices x.ins ≡ length values ∷ []
 
-set_lens : (g : Graph) (v u n : ℕ) (x : Vertex) (twin : Option ℕ) → slice_get g.vertices v ≡ Some x → x.kind ≡ Set → is_number twin v ≡ true → has_set_half g.vertices u n twin ≡ true → lens_of g.vertices x.ins ≡ n ∷ []
+set_lens : (g : Graph) (v u n : ℕ) (x : Vertex) (twin : Option ℕ) → slice_get g.vertices v ≡ Some x → x.kind ≡ Set → is_number twin v
+    ≡ true → has_set_half g.vertices u n twin ≡ true → lens_of g.vertices x.ins ≡ n ∷ []
 set_lens g v u n x None is k h q = absurd (false≢true h)
 set_lens g v u n x (Some w) is k h q = only_is n (lens_of g.vertices x.ins) (and_parts (is_number x.twin u) (is_only n (lens_of g.vertices x.ins)) by_kind).1
   where
     found : is_set_half_of g.vertices u n x ≡ true
     found = subst (λ (o : Option Vertex). with_vertex o false (is_set_half_of g.vertices u n) ≡ true) is
-        (subst (λ (m : ℕ). with_vertex (slice_get g.vertices m) false (is_set_half_of g.vertices u n) ≡ true) (eqb-true w v h) (and_parts (nat_lt u w) (with_vertex (slice_get g.vertices w) false (is_set_half_of g.vertices u n)) q).1)
+        (subst (λ (m : ℕ). with_vertex (slice_get g.vertices m) false (is_set_half_of g.vertices u n) ≡ true) (eqb-true w v h)
+        (and_parts (nat_lt u w) (with_vertex (slice_get g.vertices w) false (is_set_half_of g.vertices u n)) q).1)
 
     by_kind : is_set_half_by g.vertices u n x Set ≡ true
     by_kind = subst (λ (z : Kind). is_set_half_by g.vertices u n x z ≡ true) k found
@@ -167,13 +190,15 @@ get_half g valid v u x is k h = by (slice_get g.vertices u) refl
     by (Some y) e = by_half y e y.kind refl (subst (λ (o : Option Vertex). with_vertex o false (is_get_half_of v) ≡ true) e test) (twin_of g u y (vertex_valid g valid u y e))
 
 -- The cell of the delay of which an operation is a half is there, and has its length.
-pub delay_cell : (g : Graph) → is_flat g ≡ true → (v d : ℕ) (x : Vertex) → slice_get g.vertices v ≡ Some x → delay_of g v x ≡ Some d → HasLen (map length (initial_cells g.vertices)) d (kind_cell_len x.kind (lens_of g.vertices x.ins))
+pub delay_cell : (g : Graph) → is_flat g ≡ true → (v d : ℕ) (x : Vertex) → slice_get g.vertices v ≡ Some x → delay_of g v x ≡ Some d
+    → HasLen (map length (initial_cells g.vertices)) d (kind_cell_len x.kind (lens_of g.vertices x.ins))
 delay_cell g valid v d x is e = by x.kind refl x.twin (twin_of g v x (vertex_valid g valid v x is)) e
   where
     Goal : Kind → Type 0
     Goal k = HasLen (map length (initial_cells g.vertices)) d (kind_cell_len k (lens_of g.vertices x.ins))
 
-    by_twin : x.kind ≡ Set → (twin : Option ℕ) → has_get_half g.vertices v twin ≡ true → delay_by g.vertices v Set twin ≡ Some d → HasLen (map length (initial_cells g.vertices)) d (slice_index_or (lens_of g.vertices x.ins) 0 0)
+    by_twin : x.kind ≡ Set → (twin : Option ℕ) → has_get_half g.vertices v twin ≡ true → delay_by g.vertices v Set twin ≡ Some d
+        → HasLen (map length (initial_cells g.vertices)) d (slice_index_or (lens_of g.vertices x.ins) 0 0)
     by_twin k None t e = absurd (cc)
     by_twin k (Some u) t e =
         let r = get_half g valid v u x is k t in

@@ -61,7 +61,8 @@ module _ (j : JobData) (code : List SeqSteps) (are : AreSteps j.program code) wh
       by (Some q) is = highest_fits j.graph (expanded j.program q).turn l (slice_index_or (map (room_of j.graph) code) s 0) (let e = room_at s q is in omega arith)
 
   -- with desks, cells and rows that are ready
-  pub opening_open : IsJob j → (lens : List ℕ) (desks : List (Option DeskLens)) → ((v : ℕ) → IsLaid j lens desks v) → AreReady j (record { cells = (opening j).cells; rows = (opening j).rows; lens = lens; desks = desks })
+  pub opening_open : IsJob j → (lens : List ℕ) (desks : List (Option DeskLens)) → ((v : ℕ) → IsLaid j lens desks v)
+      → AreReady j (record { cells = (opening j).cells; rows = (opening j).rows; lens = lens; desks = desks })
       → IsOpened j (record { core = opening j; steps = code; rooms = map (room_of j.graph) code; lens = lens; desks = desks })
   opening_open job lens desks laid ready = record {
     reached = ([], refl);
@@ -107,7 +108,9 @@ module _ (j : JobData) (p : Program) (same : p ≡ j.program) (code : List SeqSt
   registers_empty = at.registers ∙ ap (λ (n : ℕ). replicate n []) (ap (λ (l : List SeqSteps). length l) steps_of_job ∙ length-map j.program.seqs (expanded j.program))
 
   -- a state with these parts is open
-  pub state_open : IsJob j → (core : Core) → ((v : ℕ) → IsLaid j own.kept.lens own.kept.desks v) → core ≡ opening j → AreReady j (record { cells = core.cells; rows = core.rows; lens = own.kept.lens; desks = own.kept.desks })
+  pub state_open : IsJob j → (core : Core) → ((v : ℕ) → IsLaid j own.kept.lens own.kept.desks v) → core ≡ opening j
+      → AreReady j (record { cells = core.cells; rows = core.rows; lens = own.kept.lens; desks = own.kept.desks })
       → IsOpened j (record { core = core; steps = code; rooms = own.rooms; lens = own.kept.lens; desks = own.kept.desks })
   state_open job core laid_out e ready = subst (λ (h : Held). IsOpened j h) (λ i. record { core = sym e i; steps = code; rooms = sym at.rooms i; lens = own.kept.lens; desks = own.kept.desks })
-      (opening_open j code steps_of_job job own.kept.lens own.kept.desks laid_out (subst (λ (z : Core). AreReady j (record { cells = z.cells; rows = z.rows; lens = own.kept.lens; desks = own.kept.desks })) e ready))
+      (opening_open j code steps_of_job job own.kept.lens own.kept.desks laid_out
+      (subst (λ (z : Core). AreReady j (record { cells = z.cells; rows = z.rows; lens = own.kept.lens; desks = own.kept.desks })) e ready))

@@ -115,7 +115,8 @@ module _ (j : JobData) where
         }
           where
             within : (t : ℕ) → count z t ≤ full j t
-            within t = ⊎_elim (λ q. subst (λ (u : ℕ). count z u ≤ full j u) (sym q) (let e = at_s in let d = pending in omega arith)) (λ q. let e = at_other t q in let d = o.within t in omega arith) (cases_eq t s)
+            within t = ⊎_elim (λ q. subst (λ (u : ℕ). count z u ≤ full j u) (sym q) (let e = at_s in let d = pending in omega arith))
+                (λ q. let e = at_other t q in let d = o.within t in omega arith) (cases_eq t s)
 
       semaphores_kept : (x : ℕ) → get_or h.core.semaphores x 0 ≤ made h.core + 1
       semaphores_kept x = let d = o.semaphores_few x in omega arith
@@ -137,12 +138,20 @@ module _ (j : JobData) where
           by : (m : MicroStep) → IsReached j (done_in j h.core s k m) → IsOpened j (record { core = done_in j h.core s k m; steps = h.steps; rooms = h.rooms; lens = h.lens; desks = h.desks })
           by (Take x) r = kept_by (done_in j h.core s k (Take x)) refl refl (set_le h.core.semaphores x 0 (made h.core + 1) semaphores_kept (omega arith)) turns_kept o.ready r
           by (See x) r = kept_by (done_in j h.core s k (See x)) refl refl semaphores_kept turns_kept o.ready r
-          by (Lower x) r = kept_by (done_in j h.core s k (Lower x)) refl refl (set_le h.core.semaphores x (get_or h.core.semaphores x 0 - 1) (made h.core + 1) semaphores_kept (let d = o.semaphores_few x in omega arith)) turns_kept o.ready r
-          by (Signal x) r = kept_by (done_in j h.core s k (Signal x)) refl refl (set_le h.core.semaphores x (get_or h.core.semaphores x 0 + 1) (made h.core + 1) semaphores_kept (let d = o.semaphores_few x in omega arith)) turns_kept o.ready r
+          by (Lower x) r = kept_by (done_in j h.core s k (Lower x)) refl refl
+              (set_le h.core.semaphores x (get_or h.core.semaphores x 0 - 1) (made h.core + 1) semaphores_kept
+              (let d = o.semaphores_few x in omega arith)) turns_kept o.ready r
+          by (Signal x) r = kept_by (done_in j h.core s k (Signal x)) refl refl
+              (set_le h.core.semaphores x (get_or h.core.semaphores x 0 + 1) (made h.core + 1) semaphores_kept
+              (let d = o.semaphores_few x in omega arith)) turns_kept o.ready r
           by (Await n i l e) r = kept_by (done_in j h.core s k (Await n i l e)) refl refl semaphores_kept turns_kept o.ready r
-          by (Advance n) r = kept_by (done_in j h.core s k (Advance n)) refl refl semaphores_kept (set_le h.core.turns n (get_or h.core.turns n 0 + 1) (made h.core + 1) turns_kept (let d = o.turns_few n in omega arith)) o.ready r
-          by (Load x then) r = kept_by (done_in j h.core s k (Load x then)) refl (length-set h.core.registers s _) semaphores_kept turns_kept (absorb_ready j (kept_of h) then k (own j h.core s) (element_of j h.core x k) o.ready) r
-          by (Store x what) r = kept_by (done_in j h.core s k (Store x what)) refl (length-set h.core.registers s _) semaphores_kept turns_kept (after_ready j (kept_of h) what k (own j h.core s) o.ready) r
+          by (Advance n) r = kept_by (done_in j h.core s k (Advance n)) refl refl semaphores_kept
+              (set_le h.core.turns n (get_or h.core.turns n 0 + 1) (made h.core + 1) turns_kept (let d = o.turns_few n in omega arith)) o.ready r
+          by (Load x then) r = kept_by (done_in j h.core s k (Load x then)) refl
+              (length-set h.core.registers s _) semaphores_kept turns_kept
+              (absorb_ready j (kept_of h) then k (own j h.core s) (element_of j h.core x k) o.ready) r
+          by (Store x what) r = kept_by (done_in j h.core s k (Store x what)) refl
+              (length-set h.core.registers s _) semaphores_kept turns_kept (after_ready j (kept_of h) what k (own j h.core s) o.ready) r
 
     -- a sequence that has no next micro-step has made all
     module _ (none : next j h.core s ≡ None) where

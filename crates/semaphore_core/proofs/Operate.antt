@@ -61,7 +61,9 @@ module _ (g : Graph) (valid : is_flat g ≡ true) (v : ℕ) (x : Vertex) (is : s
         ∙ ap (λ (n : ℕ). drop n (lens_in g x)) (sym (length-replicate (length x.guards) 1)) ∙ drop-append_seam (replicate (length x.guards) 1) (lens_of g.vertices x.ins)
 
     -- its outputs have their lengths
-    pub outputs_lens : (cell seen : Vector) → length cell ≡ cell_len g v → length seen ≡ seen_len g v → map length (fired g.bodies x cell seen (conditions_in x (vectors_from row 0 (lens_in g x))) (inputs_in x (vectors_from row 0 (lens_in g x)))) ≡ out_lens g v
+    pub outputs_lens : (cell seen : Vector) → length cell ≡ cell_len g v → length seen ≡ seen_len g v
+        → map length (fired g.bodies x cell seen (conditions_in x (vectors_from row 0 (lens_in g x)))
+        (inputs_in x (vectors_from row 0 (lens_in g x)))) ≡ out_lens g v
     outputs_lens cell seen c s = by (guards_hold x.guards (conditions_in x V)) ∙ sym (out_lens_is g v x is)
       where
         I : Values
@@ -94,14 +96,16 @@ module _ (g : Graph) (valid : is_flat g ≡ true) (v : ℕ) (x : Vertex) (is : s
         by false = length-zeros x.outs
 
     -- what it keeps is as long as its cell
-    pub kept_len : (cell : Vector) → length cell ≡ cell_len g v → length (kept x cell (conditions_in x (vectors_from row 0 (lens_in g x))) (inputs_in x (vectors_from row 0 (lens_in g x)))) ≡ length cell
+    pub kept_len : (cell : Vector) → length cell ≡ cell_len g v
+        → length (kept x cell (conditions_in x (vectors_from row 0 (lens_in g x))) (inputs_in x (vectors_from row 0 (lens_in g x)))) ≡ length cell
     kept_len cell c = by x.kind refl (guards_hold x.guards (conditions_in x V))
       where
         I : Values
         I = inputs_in x V
 
         by : (k : Kind) → k ≡ x.kind → (b : Bool) → length (stored k b cell (vector_at I 0)) ≡ length cell
-        by Set e true = length-vector_at I 0 ∙ ap (λ (l : List ℕ). slice_index_or l 0 0) inputs_lens ∙ sym (c ∙ cell_len_is g v x is ∙ ap (λ (q : Kind). kind_cell_len q (lens_of g.vertices x.ins)) (sym e))
+        by Set e true = length-vector_at I 0 ∙ ap (λ (l : List ℕ). slice_index_or l 0 0) inputs_lens
+            ∙ sym (c ∙ cell_len_is g v x is ∙ ap (λ (q : Kind). kind_cell_len q (lens_of g.vertices x.ins)) (sym e))
         by Set e false = refl
         by (Sensor i) e b = refl
         by (Actuator i) e b = refl
@@ -141,8 +145,11 @@ module _ (g : Graph) (valid : is_flat g ≡ true) (v : ℕ) (x : Vertex) (is : s
       inputs_are : take (length x.ins) new ≡ inputs_in x (vectors_from row 0 (lens_in g x))
       inputs_are = ap (λ (n : ℕ). take n new) (sym k.inputs) ∙ inputs ∙ (λ i. drop (k.guards i) (vectors_from row 0 (load_is i)))
 
-      pub fired_is : (cell seen : Vector) → fired_at g v cell seen new ≡ fired g.bodies x cell seen (conditions_in x (vectors_from row 0 (lens_in g x))) (inputs_in x (vectors_from row 0 (lens_in g x)))
-      fired_is cell seen = ap (λ (o : Option Vertex). with_vertex o [] (λ y. fired g.bodies y cell seen (drop (length y.ins) new) (take (length y.ins) new))) is ∙ (λ i. fired g.bodies x cell seen (conditions_are i) (inputs_are i))
+      pub fired_is : (cell seen : Vector) → fired_at g v cell seen new
+          ≡ fired g.bodies x cell seen (conditions_in x (vectors_from row 0 (lens_in g x))) (inputs_in x (vectors_from row 0 (lens_in g x)))
+      fired_is cell seen = ap (λ (o : Option Vertex). with_vertex o []
+          (λ y. fired g.bodies y cell seen (drop (length y.ins) new) (take (length y.ins) new))) is
+          ∙ (λ i. fired g.bodies x cell seen (conditions_are i) (inputs_are i))
 
       pub kept_is : (cell : Vector) → kept_at g v cell new ≡ kept x cell (conditions_in x (vectors_from row 0 (lens_in g x))) (inputs_in x (vectors_from row 0 (lens_in g x)))
       kept_is cell = ap (λ (o : Option Vertex). with_vertex o cell (λ y. kept y cell (drop (length y.ins) new) (take (length y.ins) new))) is ∙ (λ i. kept x cell (conditions_are i) (inputs_are i))
@@ -160,7 +167,12 @@ module _ (g : Graph) (valid : is_flat g ≡ true) (v : ℕ) (x : Vertex) (is : s
         takes_row same = by x.kind refl
           where
             by : (q : Kind) → x.kind ≡ q → TakesRow (record x { kind = q }) rows_lens new
-            by (Actuator a) e = (let r = fits_row a e in (r.0, (let o = one_input a e in let c = read_count g v x is new (same ∙ k.reads) in omega arith), ap (λ (z : Vector). length z) (first_input a e) ∙ length-vector_at (inputs_in x V') 0 ∙ ap (λ (l : List ℕ). slice_index_or l 0 0) (inputs_lens row) ∙ sym r.1))
+            by (Actuator a) e = (let r = fits_row a e in (
+              r.0,
+              (let o = one_input a e in let c = read_count g v x is new (same ∙ k.reads) in omega arith),
+              ap (λ (z : Vector). length z) (first_input a e) ∙ length-vector_at (inputs_in x V') 0
+                  ∙ ap (λ (l : List ℕ). slice_index_or l 0 0) (inputs_lens row) ∙ sym r.1,
+            ))
               where
                 V' : Values
                 V' = vectors_from row 0 (lens_in g x)
@@ -207,9 +219,11 @@ module _ (g : Graph) (valid : is_flat g ≡ true) (v : ℕ) (x : Vertex) (is : s
       by (Merge z) e = none (Merge z) e refl refl
 
   -- the desk after it was read and the operation computed
-  module _ (d read made : DeskData) (k : IsDesk g v x (lens_of_desk d)) (row : List ℤ) (conditions : drop d.inputs read.read ≡ take d.guards (loaded_in d row)) (inputs : take d.inputs read.read ≡ drop d.guards (loaded_in d row))
+  module _ (d read made : DeskData) (k : IsDesk g v x (lens_of_desk d)) (row : List ℤ)
+      (conditions : drop d.inputs read.read ≡ take d.guards (loaded_in d row)) (inputs : take d.inputs read.read ≡ drop d.guards (loaded_in d row))
       (lens : map length read.read ≡ map length d.read) (rest : read ≡ record d { read = read.read }) (flat : Graph) (flat_is : flat ≡ g) (cells : Values) (seen : Vector)
-      (outs : made ≡ record read { outs = fired_at flat v (cell_at cells read.delay) seen read.read }) (cell : HasCell cells (delay_of g v x) (cell_len g v)) (seen_len_is' : length seen ≡ seen_len g v) where
+      (outs : made ≡ record read { outs = fired_at flat v (cell_at cells read.delay) seen read.read })
+      (cell : HasCell cells (delay_of g v x) (cell_len g v)) (seen_len_is' : length seen ≡ seen_len g v) where
     pub delay_is : read.delay ≡ delay_of g v x
     delay_is = ap (λ (e : DeskData). e.delay) rest ∙ k.delay
 
@@ -217,7 +231,8 @@ module _ (g : Graph) (valid : is_flat g ≡ true) (v : ℕ) (x : Vertex) (is : s
     cell_long = ap (λ (o : Option ℕ). length (cell_at cells o)) delay_is ∙ cell_fits cells (delay_of g v x) (cell_len g v) cell
 
     pub given : made.outs ≡ fired g.bodies x (cell_at cells (delay_of g v x)) seen (conditions_in x (vectors_from row 0 (lens_in g x))) (inputs_in x (vectors_from row 0 (lens_in g x)))
-    given = ap (λ (e : DeskData). e.outs) outs ∙ (λ i. fired_at (flat_is i) v (cell_at cells (delay_is i)) seen read.read) ∙ fired_is d k row read.read conditions inputs (cell_at cells (delay_of g v x)) seen
+    given = ap (λ (e : DeskData). e.outs) outs ∙ (λ i. fired_at (flat_is i) v (cell_at cells (delay_is i)) seen read.read)
+        ∙ fired_is d k row read.read conditions inputs (cell_at cells (delay_of g v x)) seen
 
     pub given_lens : map length made.outs ≡ out_lens g v
     given_lens = ap (map length) given ∙ outputs_lens row (cell_at cells (delay_of g v x)) seen (cell_fits cells (delay_of g v x) (cell_len g v) cell) seen_len_is'

@@ -82,4 +82,5 @@ needs_none (Store x what) h = absurd h
 -- the micro-steps of the prologue of s need no reaction
 pub opening_bare : (p : Program) (s m l : ℕ) (x : MicroStep) → slice_get (steps_in_list p m (opening_of p s)) l ≡ Some x → NeedsReaction x 0 0
 opening_bare p s m l x e = needs_none x
-    (each_at IsSignal (steps_in_list p m (opening_of p s)) l x (each_block IsSignal (steps_at p m (opening_of p s)) (length (opening_of p s)) (steps_signal_in p m (opening_of p s) (opening_signals_alone p s))) e)
+    (each_at IsSignal (steps_in_list p m (opening_of p s)) l x
+    (each_block IsSignal (steps_at p m (opening_of p s)) (length (opening_of p s)) (steps_signal_in p m (opening_of p s) (opening_signals_alone p s))) e)

@@ -38,7 +38,8 @@ cell_long cells (Some d) z h c = by (cases_eq c d) (cases_lt c (length cells))
   where
     by : (c ≡ d) ⊎ (c ≡ d → ⊥) → (c < length cells) ⊎ (length cells ≤ c) → length (vector_at (slice_set cells d z) c) ≡ length (vector_at cells c)
     by (inr n) p = ap (λ (v : Vector). length v) (get_or-set_other cells d c z [] n)
-    by (inl e) (inl l) = subst (λ (u : ℕ). length z ≡ length (vector_at cells u) → length (vector_at (slice_set cells u z) c) ≡ length (vector_at cells c)) e (λ q. ap (λ (v : Vector). length v) (get_or-set_same cells c z [] l) ∙ q) h
+    by (inl e) (inl l) = subst (λ (u : ℕ). length z ≡ length (vector_at cells u) → length (vector_at (slice_set cells u z) c)
+        ≡ length (vector_at cells c)) e (λ q. ap (λ (v : Vector). length v) (get_or-set_same cells c z [] l) ∙ q) h
     by (inl e) (inr l) = ap (λ (v : Vector). length v) (get_or_past (slice_set cells d z) c [] (let q = length-set cells d z in omega arith) ∙ sym (get_or_past cells c [] l))
 
 rows_count : (q : Kind) (n : ℕ) (z : Vector) (rows : List Values) → length (rows_by q n z rows) ≡ length rows
@@ -53,7 +54,8 @@ rows_count Implode n z rows = refl
 rows_count (Merge c) n z rows = refl
 
 module _ (j : JobData) (k : Kept) where
-  same_lens : (c o : Own) → length o.cells ≡ length c.cells → ((d : ℕ) → length (vector_at o.cells d) ≡ length (vector_at c.cells d)) → length o.rows ≡ length c.rows → AreReady j (with_kept k c) → AreReady j (with_kept k o)
+  same_lens : (c o : Own) → length o.cells ≡ length c.cells → ((d : ℕ) → length (vector_at o.cells d) ≡ length (vector_at c.cells d))
+      → length o.rows ≡ length c.rows → AreReady j (with_kept k c) → AreReady j (with_kept k o)
   same_lens c o n l m r = record {
     valid = r.valid;
     desks_there = r.desks_there;
@@ -63,10 +65,12 @@ module _ (j : JobData) (k : Kept) where
     sensor_fits = r.sensor_fits;
   }
 
-  compute_ready : (v n : ℕ) (regs : List ℤ) (c : Own) (o : Option Vertex) → slice_get j.graph.vertices v ≡ o → AreReady j (with_kept k c) → AreReady j (with_kept k (compute_by j.graph j.sensors v n regs c o))
+  compute_ready : (v n : ℕ) (regs : List ℤ) (c : Own) (o : Option Vertex) → slice_get j.graph.vertices v ≡ o → AreReady j (with_kept k c)
+      → AreReady j (with_kept k (compute_by j.graph j.sensors v n regs c o))
   compute_ready v n regs c None is r = same_lens c (with_registers c []) refl (λ d. refl) refl r
   compute_ready v n regs c (Some x) is r = same_lens c (compute_by j.graph j.sensors v n regs c (Some x)) (cells_count c.cells D K)
-      (cell_long c.cells D K (kept_len j.graph r.valid v x is regs (cell_at c.cells D) (cell_fits c.cells D (cell_len j.graph v) (has_cell j (with_kept k c) r v x is)))) (rows_count x.kind n (vector_at (inputs_in x V) 0) c.rows) r
+      (cell_long c.cells D K (kept_len j.graph r.valid v x is regs (cell_at c.cells D)
+      (cell_fits c.cells D (cell_len j.graph v) (has_cell j (with_kept k c) r v x is)))) (rows_count x.kind n (vector_at (inputs_in x V) 0) c.rows) r
     where
       V : Values
       V = vectors_from regs 0 (lens_in j.graph x)

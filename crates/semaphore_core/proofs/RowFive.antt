@@ -78,7 +78,8 @@ one_transfer : (transfers single 0 ≡ 1) × (sent single 0 0 ≡ Some 0) × (wi
 one_transfer = (refl, refl, refl)
 
 -- the received buffer carries output 0 of the sensor
-carries : (carried single 0 ≡ record { vertex = 0; port = 0 }) × (carried single 1 ≡ record { vertex = 1; port = 0 }) × (carried single 2 ≡ record { vertex = 0; port = 0 }) × (carried single 3 ≡ record { vertex = 2; port = 0 })
+carries : (carried single 0 ≡ record { vertex = 0; port = 0 }) × (carried single 1 ≡ record { vertex = 1; port = 0 })
+    × (carried single 2 ≡ record { vertex = 0; port = 0 }) × (carried single 3 ≡ record { vertex = 2; port = 0 })
 carries = (refl, refl, refl, refl)
 
 where_written : writing single 2 ≡ record { writer = 3; at = 1; port = 0 }

@@ -1,5 +1,35 @@
 -- One vector of a reaction is replaced, element by element; and a cell among the cells.
-use Rattle.std.proofs.Common.{◌≡◌, ℕ, ◌+◌, ◌-◌, ◌<◌, ◌≤◌, ⊎_elim, List, [], ◌∷◌, ◌++◌, map, take, drop, length, get_or, Option, Some, refl, sym, ap, subst, arith, ◌∙◌, ℤ, pos, Vec, Global, append_assoc}
+use Rattle.std.proofs.Common.{
+  ◌≡◌,
+  ℕ,
+  ◌+◌,
+  ◌-◌,
+  ◌<◌,
+  ◌≤◌,
+  ⊎_elim,
+  List,
+  [],
+  ◌∷◌,
+  ◌++◌,
+  map,
+  take,
+  drop,
+  length,
+  get_or,
+  Option,
+  Some,
+  refl,
+  sym,
+  ap,
+  subst,
+  arith,
+  ◌∙◌,
+  ℤ,
+  pos,
+  Vec,
+  Global,
+  append_assoc,
+}
 use Rattle.std.specs.Prelude.{slice_set}
 use Rattle.std.specs.Vec.{with_items}
 use Rattle.std.proofs.lemmas.Bool.{cases_lt}
@@ -60,7 +90,8 @@ module _ (rows : List Values) (k a : ℕ) (z : Vector) where
   -- one more element
   pub one_put : (j : ℕ) (v : ℤ) → k < length rows → j < length z → length z ≡ length old → v ≡ get_or z j (pos 0)
       → with_element (with_vector rows k a (half_put z (get_or (get_or rows k []) a []) j)) k a j v ≡ with_vector rows k a (half_put z (get_or (get_or rows k []) a []) (j + 1))
-  one_put j v there h e f = ap (λ (r : Values). slice_set (with_vector rows k a (half_put z old j)) k (slice_set r a (slice_set (get_or r a []) j v))) (get_or-set_same rows k (slice_set row a (half_put z old j)) [] there)
+  one_put j v there h e f = ap (λ (r : Values). slice_set (with_vector rows k a (half_put z old j)) k
+      (slice_set r a (slice_set (get_or r a []) j v))) (get_or-set_same rows k (slice_set row a (half_put z old j)) [] there)
       ∙ set-set rows k (slice_set row a (half_put z old j)) _
       ∙ ap (slice_set rows k) (ap (λ (w : Vector). slice_set (slice_set row a (half_put z old j)) a (slice_set w j v)) (get_or-set_same row a (half_put z old j) [] inside)
       ∙ set-set row a (half_put z old j) (slice_set (half_put z old j) j v) ∙ ap (slice_set row a) (half_more z old j v h (omega arith) f))
@@ -72,7 +103,8 @@ abbrev pub cells_of : List (Vec ℤ Global) → Values
 cells_of cells = map (λ (c : Vec ℤ Global). c.items) cells
 
 -- a cell that was lent has its new value
-pub cell_set : (cells : List (Vec ℤ Global)) (d : ℕ) (cell : Vec ℤ Global) (lent new : List ℤ) (o : Option ℕ) (kept : Vector → Vector) → d < length cells → cell ≡ get_or cells d cell → lent ≡ cell.items → length new ≡ cell.len → o ≡ Some d → new ≡ kept lent
+pub cell_set : (cells : List (Vec ℤ Global)) (d : ℕ) (cell : Vec ℤ Global) (lent new : List ℤ) (o : Option ℕ) (kept : Vector → Vector) → d
+    < length cells → cell ≡ get_or cells d cell → lent ≡ cell.items → length new ≡ cell.len → o ≡ Some d → new ≡ kept lent
     → cells_of (slice_set cells d (with_items cell new)) ≡ with_cell (cells_of cells) o (kept (cell_at (cells_of cells) o))
 cell_set cells d cell lent new o kept h c l n e q = map-set (λ (v : Vec ℤ Global). v.items) cells d (with_items cell new)
     ∙ ap (λ (v : Vector). slice_set (cells_of cells) d v) (with_items_is cell new n ∙ q ∙ ap kept (l ∙ sym (read_map (λ (v : Vec ℤ Global). v.items) cells d cell [] h c)))

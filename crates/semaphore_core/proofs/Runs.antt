@@ -29,6 +29,7 @@ module _ (j : JobData) where
       (subst (IsReached j) (step_is z s m is (subst (λ (i : ℕ). enabled_in z i m ≡ true) e on)) (step_reached z s r))
 
   -- the state after one more entry of a list
-  pub one_more : (z h : Held) (list : List ℕ) (i : ℕ) → i < length list → z ≡ record h { core = run_from j h.core (take i list) } → record z { core = step j z.core (get_or list i 0) } ≡ record h { core = run_from j h.core (take (i + 1) list) }
+  pub one_more : (z h : Held) (list : List ℕ) (i : ℕ) → i < length list → z ≡ record h { core = run_from j h.core (take i list) }
+      → record z { core = step j z.core (get_or list i 0) } ≡ record h { core = run_from j h.core (take (i + 1) list) }
   one_more z h list i l e = ap (λ (y : Held). record y { core = step j y.core (get_or list i 0) }) e
       ∙ ap (λ (c : Core). record h { core = c }) (sym (run_more h.core (take i list) (get_or list i 0)) ∙ ap (run_from j h.core) (sym (take_more list i 0 l)))

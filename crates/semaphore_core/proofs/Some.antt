@@ -33,7 +33,8 @@ module _ (g : Graph) (mine : ℕ → Bool) where
       record { place = 0; is = (let q : a ≡ n + 0 = omega arith in q); there = (let q = ap (λ (l : List ℕ). length l) len in omega arith); same = ap (λ (l : List ℕ). slice_index_or l 0 0) len }
   placed n (suc v) a w (y ∷ ys) x f h e k m = by y.kind refl h (λ r h'. placed r v a (w + 1) ys x (λ u z. f (suc u) z) h' e k (ap mine (let q : w + 1 + v ≡ w + suc v = omega arith in q) ∙ m))
     where
-      by : (kind : Kind) → y.kind ≡ kind → actuators_from n (kind ∷ kinds_of ys) ≡ true → ((r : ℕ) → actuators_from r (kinds_of ys) ≡ true → Stands r a (lens_for g mine (w + 1) ys) (slice_index_or (lens_of g.vertices x.ins) 0 0))
+      by : (kind : Kind) → y.kind ≡ kind → actuators_from n (kind ∷ kinds_of ys) ≡ true
+          → ((r : ℕ) → actuators_from r (kinds_of ys) ≡ true → Stands r a (lens_for g mine (w + 1) ys) (slice_index_or (lens_of g.vertices x.ins) 0 0))
           → Stands n a (len_if (mine w) (actuator_len g y kind) ++ lens_for g mine (w + 1) ys) (slice_index_or (lens_of g.vertices x.ins) 0 0)
       by (Actuator i) q h' later =
           subst (λ (l : List ℕ). Stands n a (len_if (mine w) l ++ lens_for g mine (w + 1) ys) (slice_index_or (lens_of g.vertices x.ins) 0 0)) (sym (actuator_one g y i q (f 0 y refl)))

@@ -1,5 +1,38 @@
 -- Where a sequence stands that has made n micro-steps: the next one of those that were laid out for it, and what that needs.
-use Rattle.std.proofs.Common.{◌≡◌, ℕ, zero, suc, ◌+◌, ◌-◌, ◌*◌, ◌<◌, ◌≤◌, ◌⊎◌, inl, inr, ⊎_elim, Bool, true, false, cond, ltb, List, [], ◌∷◌, length, get_or, Option, Some, None, refl, sym, ap, subst, arith, ◌∙◌}
+use Rattle.std.proofs.Common.{
+  ◌≡◌,
+  ℕ,
+  zero,
+  suc,
+  ◌+◌,
+  ◌-◌,
+  ◌*◌,
+  ◌<◌,
+  ◌≤◌,
+  ◌⊎◌,
+  inl,
+  inr,
+  ⊎_elim,
+  Bool,
+  true,
+  false,
+  cond,
+  ltb,
+  List,
+  [],
+  ◌∷◌,
+  length,
+  get_or,
+  Option,
+  Some,
+  None,
+  refl,
+  sym,
+  ap,
+  subst,
+  arith,
+  ◌∙◌,
+}
 use Rattle.std.specs.Prelude.{slice_get}
 use Rattle.std.specs.Option.{option_map}
 use Rattle.std.proofs.lemmas.Bool.{cases_lt, lt-ltb, le-ltb}
@@ -95,7 +128,9 @@ module _ (j : JobData) (s n : ℕ) where
         by (inr f) = within m (reaction_at (steps j.program s) n) (reactions j) (div_below (n - length C.prologue) (length C.turn) (reactions j) some (let e = not_past in omega arith))
           where
             some : 0 < length C.turn
-            some = ⊎_elim (λ d. d) (λ d. let z : length C.turn ≡ 0 = omega arith in let y : reactions j * length C.turn ≡ reactions j * 0 = ap (λ (n : ℕ). reactions j * n) z in let e = not_past in absurd (omega arith)) (cases_lt 0 (length C.turn))
+            some = ⊎_elim (λ d. d) (λ d. let z : length C.turn ≡ 0 = omega arith in
+                let y : reactions j * length C.turn ≡ reactions j * 0 = ap (λ (n : ℕ). reactions j * n) z in let e = not_past in
+                absurd (omega arith)) (cases_lt 0 (length C.turn))
 
   -- without a next micro-step all are made
   there_is : (xs : List MicroStep) (i : ℕ) → i < length xs → slice_get xs i ≡ None → ⊥
@@ -111,7 +146,8 @@ module _ (j : JobData) (s n : ℕ) where
       by (inr f) = there_is C.turn (place_at C n) (mod_below (n - length C.prologue) (length C.turn) some) (let q = e in rw (le-ltb n (length C.prologue) f) at q)
         where
           some : 0 < length C.turn
-          some = ⊎_elim (λ d. d) (λ d. let z : length C.turn ≡ 0 = omega arith in let y : reactions j * length C.turn ≡ reactions j * 0 = ap (λ (n : ℕ). reactions j * n) z in absurd (omega arith)) (cases_lt 0 (length C.turn))
+          some = ⊎_elim (λ d. d) (λ d. let z : length C.turn ≡ 0 = omega arith in
+              let y : reactions j * length C.turn ≡ reactions j * 0 = ap (λ (n : ℕ). reactions j * n) z in absurd (omega arith)) (cases_lt 0 (length C.turn))
 
   pub none_left : next_at ≡ None → full j s ≤ n
   none_left e = by (cases_lt n (full j s))

@@ -75,6 +75,7 @@ module _ (j : JobData) (counts semaphores turns : List ℕ) (elements : List (Li
   stored x what v home slot elements' p' e h t f q = λ i. held_of (slice_set counts s (count_is i + 1)) semaphores turns ((f ∙ (λ l. with_value elements (h l) (t l) (e l))) i) (q i) steps
 
 -- an element that was read where it lies
-pub found : (j : JobData) (z : Core) (p : Program) (x : Place) (k home slot : ℕ) (lists : List (List ℤ)) (w v : ℤ) → p ≡ j.program → lists ≡ z.elements → home ≡ home_of p x → slot ≡ slot_of p x k → w ≡ element_in lists home slot → v ≡ w
+pub found : (j : JobData) (z : Core) (p : Program) (x : Place) (k home slot : ℕ) (lists : List (List ℤ)) (w v : ℤ) → p ≡ j.program → lists
+    ≡ z.elements → home ≡ home_of p x → slot ≡ slot_of p x k → w ≡ element_in lists home slot → v ≡ w
     → v ≡ element_of j z x k
 found j z p x k home slot lists w v q e h t f g = g ∙ f ∙ (λ i. element_in (e i) (h i) (t i)) ∙ ap (λ (r : Program). element_in z.elements (home_of r x) (slot_of r x k)) q

@@ -126,7 +126,8 @@ module _ (j : JobData) where
   abbrev pub reaction : Core → ℕ → ℕ
   reaction z s = reaction_at (steps j.program s) (count z s)
 
-  -- its prologue plus the number of reactions times its loop
+  -- How many micro-steps sequence s makes in all: those of its prologue, and those of its loop in
+  -- each reaction.
   abbrev pub full : ℕ → ℕ
   full s = length (steps j.program s).prologue + reactions j * length (steps j.program s).turn
 

@@ -44,7 +44,7 @@ module _ (p : Program) (media : ℕ) where
   abbrev pub wire_at : ℕ → ℕ
   wire_at y = block_at (wire_len p) media (y - buffer_elements p)
 
-  -- its number in its buffer or wire
+  -- The number of an element within its buffer or its wire.
   abbrev pub number_at : ℕ → ℕ
   number_at y = cond (nat_lt y (buffer_elements p)) (y - sum_below (len_of p) (buffer_at y))
       (y - buffer_elements p - sum_below (wire_len p) (wire_at y))

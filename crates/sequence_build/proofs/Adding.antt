@@ -54,14 +54,22 @@ comes_first old whole s h = refl
 module _ {vertices : List Vertex} {old mid new : Made} where
   pub makes_twice : {xs ys : List Copy} → Makes vertices old mid xs → Makes vertices mid new ys → Makes vertices old new (xs ++ ys)
   makes_twice {xs} {ys} first second = record {
-    buffers = second.buffers ∙ ap (λ l. l ++ map (buffer_of vertices) ys) first.buffers ∙ append_assoc old.buffers.items (map (buffer_of vertices) xs) (map (buffer_of vertices) ys) ∙ ap (λ l. old.buffers.items ++ l) (sym (map-append (buffer_of vertices) xs ys));
-    places = second.places ∙ ap (λ l. l ++ map (place (length vertices)) ys) first.places ∙ append_assoc old.places.items (map (place (length vertices)) xs) (map (place (length vertices)) ys) ∙ ap (λ l. old.places.items ++ l) (sym (map-append (place (length vertices)) xs ys));
+    buffers = second.buffers ∙ ap (λ l. l ++ map (buffer_of vertices) ys) first.buffers
+        ∙ append_assoc old.buffers.items (map (buffer_of vertices) xs) (map (buffer_of vertices) ys)
+        ∙ ap (λ l. old.buffers.items ++ l) (sym (map-append (buffer_of vertices) xs ys));
+    places = second.places ∙ ap (λ l. l ++ map (place (length vertices)) ys) first.places
+        ∙ append_assoc old.places.items (map (place (length vertices)) xs) (map (place (length vertices)) ys)
+        ∙ ap (λ l. old.places.items ++ l) (sym (map-append (place (length vertices)) xs ys));
   }
 
   pub makes_next : {xs ys whole : List Copy} → MakesUp vertices old mid (xs ++ ys) whole → Makes vertices mid new xs → MakesUp vertices old new ys whole
   makes_next {xs} {ys} left more = record {
-    buffers = ap (λ l. l ++ map (buffer_of vertices) ys) more.buffers ∙ append_assoc mid.buffers.items (map (buffer_of vertices) xs) (map (buffer_of vertices) ys) ∙ ap (λ l. mid.buffers.items ++ l) (sym (map-append (buffer_of vertices) xs ys)) ∙ left.buffers;
-    places = ap (λ l. l ++ map (place (length vertices)) ys) more.places ∙ append_assoc mid.places.items (map (place (length vertices)) xs) (map (place (length vertices)) ys) ∙ ap (λ l. mid.places.items ++ l) (sym (map-append (place (length vertices)) xs ys)) ∙ left.places;
+    buffers = ap (λ l. l ++ map (buffer_of vertices) ys) more.buffers
+        ∙ append_assoc mid.buffers.items (map (buffer_of vertices) xs) (map (buffer_of vertices) ys)
+        ∙ ap (λ l. mid.buffers.items ++ l) (sym (map-append (buffer_of vertices) xs ys)) ∙ left.buffers;
+    places = ap (λ l. l ++ map (place (length vertices)) ys) more.places
+        ∙ append_assoc mid.places.items (map (place (length vertices)) xs) (map (place (length vertices)) ys)
+        ∙ ap (λ l. mid.places.items ++ l) (sym (map-append (place (length vertices)) xs ys)) ∙ left.places;
   }
 
 pub makes_all : {vertices : List Vertex} {old new : Made} {whole : List Copy} → MakesUp vertices old new [] whole → Makes vertices old new whole

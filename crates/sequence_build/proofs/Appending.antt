@@ -21,7 +21,8 @@ mapped f xs k d y old new whole l e n w =
     appended (y ∷ []) (map f (drop (k + 1) xs)) (map f (drop k xs)) old new whole (ap (map f) (drop_more xs k d l) ∙ (λ i. sym e i ∷ map f (drop (k + 1) xs))) n w
 
 -- one more list without elements, among others without
-pub none_more : {V Y : Type 0} (items : Option V → List Y) → items None ≡ [] → (xs : List V) (x : V) → items (Some x) ≡ [] → ((u : ℕ) → items (slice_get xs u) ≡ []) → (u : ℕ) → items (slice_get (xs ++ x ∷ []) u) ≡ []
+pub none_more : {V Y : Type 0} (items : Option V → List Y) → items None ≡ [] → (xs : List V) (x : V) → items (Some x) ≡ []
+    → ((u : ℕ) → items (slice_get xs u) ≡ []) → (u : ℕ) → items (slice_get (xs ++ x ∷ []) u) ≡ []
 none_more items none [] x e h zero = e
 none_more items none [] x e h (suc u) = none
 none_more items none (y ∷ ys) x e h zero = h 0
@@ -35,7 +36,8 @@ acts_left f ds k d l e =
     ∙ ap (flat_map f) (acts-cons d (drop (k + 1) ds)) ∙ flat_map-append f (acts_of (d ∷ [])) (acts_of (drop (k + 1) ds))
 
 -- one instruction more of a loop
-pub uses_next : {A : Type 0} (test : A → Bool) (s k : ℕ) (xs : List A) (x : A) (old new whole : List Use) → k < length xs → x ≡ get_or xs k x → new ≡ cond (test x) (noted s k old) old → uses_in test s k (drop k xs) old ≡ whole
+pub uses_next : {A : Type 0} (test : A → Bool) (s k : ℕ) (xs : List A) (x : A) (old new whole : List Use) → k < length xs → x
+    ≡ get_or xs k x → new ≡ cond (test x) (noted s k old) old → uses_in test s k (drop k xs) old ≡ whole
     → uses_in test s (k + 1) (drop (k + 1) xs) new ≡ whole
 uses_next {A = A} test s k xs x old new whole l e n w =
     (λ i. uses_in test s (add-one k i) (drop (k + 1) xs) (n i))

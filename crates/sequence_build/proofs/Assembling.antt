@@ -95,6 +95,7 @@ module _ (g : Graph) (a : Architecture) (s : Schedule) (flat : is_flat g ≡ tru
   made_is limit e none p h = record {
     is = h ∙ sym program_is;
     within = ap (λ (q : Program). program_limit q (length a.media)) (h ∙ sym program_is) ∙ sym e ∙ sym none;
-    formed = subst (λ (q : Program). Rattle.sequence_build_laws.specs.WellFormed.IsOrder q g (sequences a) (length a.media) (Rattle.sequence_build_laws.specs.Built.order_of g a s)) (program_is ∙ sym h)
+    formed = subst (λ (q : Program). Rattle.sequence_build_laws.specs.WellFormed.IsOrder q g (sequences a) (length a.media)
+        (Rattle.sequence_build_laws.specs.Built.order_of g a s)) (program_is ∙ sym h)
         (whole.built_are_well_formed g a valid.0 s flat right deep valid.1);
   }

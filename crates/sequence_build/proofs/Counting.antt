@@ -1,5 +1,41 @@
 -- The words of a program by how many sequences wait for each buffer, and by what is sent over each medium.
-use Rattle.std.proofs.Common.{◌≡◌, ℕ, zero, suc, ◌+◌, ◌*◌, ◌<◌, ◌⊎◌, Bool, true, false, ◌&&◌, ◌||◌, not, cond, max, nat_eq, get_or, List, [], ◌∷◌, ◌++◌, length, map, Option, Some, None, refl, sym, ap, inl, inr, arith, ◌∙◌, eq-eqb}
+use Rattle.std.proofs.Common.{
+  ◌≡◌,
+  ℕ,
+  zero,
+  suc,
+  ◌+◌,
+  ◌*◌,
+  ◌<◌,
+  ◌⊎◌,
+  Bool,
+  true,
+  false,
+  ◌&&◌,
+  ◌||◌,
+  not,
+  cond,
+  max,
+  nat_eq,
+  get_or,
+  List,
+  [],
+  ◌∷◌,
+  ◌++◌,
+  length,
+  map,
+  Option,
+  Some,
+  None,
+  refl,
+  sym,
+  ap,
+  inl,
+  inr,
+  arith,
+  ◌∙◌,
+  eq-eqb,
+}
 use Rattle.std.specs.Prelude.{slice_get}
 use Rattle.std.specs.List.{list_any, filter, sum_by}
 use Rattle.std.proofs.lemmas.Bool.{false≢true, eqb-true, ne_eqb, cases_eq}
@@ -54,7 +90,9 @@ module _ (steps : List Step) where
   readers_many b n [] = refl
   readers_many b n (q ∷ qs) =
       by (waits_for b (record { seq = q; prologue = []; turn = projection steps n })) (readers_from (suc n) (plain_codes (suc n) qs) b)
-      ∙ (λ i. cond (waits_are b n q i) 1 0 + (readers_many b (suc n) qs ∙ same_below (λ i. one b (suc n + i)) (λ i. one b (n + suc i)) (length qs) (λ k l. ap (one b) (let z : suc n + k ≡ n + suc k = omega arith in z))) i)
+      ∙ (λ i. cond (waits_are b n q i) 1 0 +
+      (readers_many b (suc n) qs ∙ same_below (λ i. one b (suc n + i)) (λ i. one b (n + suc i)) (length qs)
+      (λ k l. ap (one b) (let z : suc n + k ≡ n + suc k = omega arith in z))) i)
       ∙ ap (λ (k : ℕ). one b k + sum_below (λ i. one b (n + suc i)) (length qs)) (let z : n ≡ n + 0 = omega arith in z)
       ∙ sym (first_off (λ i. one b (n + i)) (length qs))
     where
@@ -96,7 +134,8 @@ module _ (steps : List Step) where
       ]
 
 -- the buffers' elements in all their places, by number
-pub buffer_sum_is : (depth : ℕ) (ns : List ℕ) (xs : List Buffer) → length ns ≡ length xs → buffer_sum depth ns xs ≡ sum_below (λ b. cond (nat_eq (get_or ns b 0) 0) 1 depth * len_in (slice_get xs b)) (length xs)
+pub buffer_sum_is : (depth : ℕ) (ns : List ℕ) (xs : List Buffer) → length ns ≡ length xs → buffer_sum depth ns xs
+    ≡ sum_below (λ b. cond (nat_eq (get_or ns b 0) 0) 1 depth * len_in (slice_get xs b)) (length xs)
 buffer_sum_is depth [] [] e = refl
 buffer_sum_is depth [] (x ∷ xs) e = absurd (omega arith)
 buffer_sum_is depth (n ∷ ns) [] e = absurd (omega arith)
@@ -140,7 +179,8 @@ module _ (p : Program) (m : ℕ) where
 
   pub longest_step-append : (medium : ℕ → Option ℕ) (xs ys : List Step) → longest_step medium (xs ++ ys) ≡ max (longest_step medium xs) (longest_step medium ys)
   longest_step-append medium [] ys = omega arith
-  longest_step-append medium (x ∷ xs) ys = ap (max (step_len medium x)) (longest_step-append medium xs ys) ∙ (let a = step_len medium x in let b = longest_step medium xs in let c = longest_step medium ys in omega arith)
+  longest_step-append medium (x ∷ xs) ys = ap (max (step_len medium x)) (longest_step-append medium xs ys)
+      ∙ (let a = step_len medium x in let b = longest_step medium xs in let c = longest_step medium ys in omega arith)
 
   none_sent : (n : ℕ) (qs : List Seq) → longest_on p (codes (λ _. []) (projection []) n qs) m ≡ 0
   none_sent n [] = refl
@@ -150,7 +190,10 @@ module _ (p : Program) (m : ℕ) where
   not_here : (n : ℕ) (qs : List Seq) (x : Step) (xs : List Step) → x.sequence < n → longest_on p (codes (λ _. []) (projection (x ∷ xs)) n qs) m ≡ longest_on p (codes (λ _. []) (projection xs) n qs) m
   not_here n [] x xs l = refl
   not_here n (q ∷ qs) x xs l =
-      λ i. max (cond (is_on m q.medium) (longest_sent p (map (λ (y : Step). y.instr) (cond (ne_eqb x.sequence n (λ e. omega arith) i) (x ∷ filter (λ (y : Step). nat_eq y.sequence n) xs) (filter (λ (y : Step). nat_eq y.sequence n) xs)))) 0)
+      λ i. max (cond (is_on m q.medium)
+      (longest_sent p (map (λ (y : Step). y.instr)
+      (cond (ne_eqb x.sequence n (λ e. omega arith) i) (x ∷ filter (λ (y : Step). nat_eq y.sequence n) xs)
+      (filter (λ (y : Step). nat_eq y.sequence n) xs)))) 0)
       (not_here (suc n) qs x xs (omega arith) i)
 
   one_step : (n : ℕ) (qs : List Seq) (x : Step) (xs : List Step) → longest_on p (codes (λ _. []) (projection (x ∷ xs)) n qs) m
@@ -166,13 +209,17 @@ module _ (p : Program) (m : ℕ) where
           → longest_on p (codes (λ _. []) (projection (x ∷ xs)) n (q ∷ qs)) m ≡ max (step_len (medium_from n (q ∷ qs)) x) (longest_on p (codes (λ _. []) (projection xs) n (q ∷ qs)) m)
       by (inl e) r =
           let t = eq-eqb x.sequence n e in
-          (λ i. max (cond (is_on m q.medium) (longest_sent p (map (λ (y : Step). y.instr) (cond (t i) (x ∷ filter (λ (y : Step). nat_eq y.sequence n) xs) (filter (λ (y : Step). nat_eq y.sequence n) xs)))) 0)
+          (λ i. max (cond (is_on m q.medium)
+          (longest_sent p (map (λ (y : Step). y.instr)
+          (cond (t i) (x ∷ filter (λ (y : Step). nat_eq y.sequence n) xs) (filter (λ (y : Step). nat_eq y.sequence n) xs)))) 0)
           (not_here (suc n) qs x xs (omega arith) i))
           ∙ max_first (is_on m q.medium) (sent_len p x.instr) (longest_sent p (projection xs n)) (longest_on p (codes (λ _. []) (projection xs) (suc n) qs) m)
           ∙ (λ i. max (cond (is_on m (cond (sym t i) q.medium (medium_from (suc n) qs x.sequence))) (sent_len p x.instr) 0) (longest_on p (codes (λ _. []) (projection xs) n (q ∷ qs)) m))
       by (inr e) r =
           let t = ne_eqb x.sequence n e in
-          (λ i. max (cond (is_on m q.medium) (longest_sent p (map (λ (y : Step). y.instr) (cond (t i) (x ∷ filter (λ (y : Step). nat_eq y.sequence n) xs) (filter (λ (y : Step). nat_eq y.sequence n) xs)))) 0) (r i))
+          (λ i. max (cond (is_on m q.medium)
+          (longest_sent p (map (λ (y : Step). y.instr)
+          (cond (t i) (x ∷ filter (λ (y : Step). nat_eq y.sequence n) xs) (filter (λ (y : Step). nat_eq y.sequence n) xs)))) 0) (r i))
           ∙ max_later (cond (is_on m q.medium) (longest_sent p (projection xs n)) 0) (step_len (medium_from (suc n) qs) x) (longest_on p (codes (λ _. []) (projection xs) (suc n) qs) m)
           ∙ (λ i. max (cond (is_on m (cond (sym t i) q.medium (medium_from (suc n) qs x.sequence))) (sent_len p x.instr) 0) (longest_on p (codes (λ _. []) (projection xs) n (q ∷ qs)) m))
 

@@ -98,7 +98,8 @@ module _ (p : Program) (once : WritesOnce p.seqs) where
               let own = eqb-true s y.reader e in
               let code : o.code ≡ q = same_Some o.code q (sym o.is_code ∙ ap (slice_get p.seqs) (sym own) ∙ there) in
               (λ i. (e i && reads y.buffer x) && not (list_any (λ z. e i && reads y.buffer z) (sym after_is i)))
-              ∙ last_is_at (reads y.buffer) 0 0 (length before) q.turn x stands ((λ i. list_any (reads y.buffer) (sym code i).turn) ∙ o.reads_it) ∙ ap (nat_eq (last_from (reads y.buffer) 0 0 q.turn)) zero_before
+              ∙ last_is_at (reads y.buffer) 0 0 (length before) q.turn x stands
+              ((λ i. list_any (reads y.buffer) (sym code i).turn) ∙ o.reads_it) ∙ ap (nat_eq (last_from (reads y.buffer) 0 0 q.turn)) zero_before
               ∙ (λ i. nat_eq (last_from (reads y.buffer) 0 0 (sym code i).turn) (length before))
               ∙ (λ i. (sym (eq-eqb y.reader s (sym own)) i) && nat_eq (sym o.last i) (length before))
 

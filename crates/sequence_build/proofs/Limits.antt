@@ -1,5 +1,40 @@
 -- The limit that is counted from the acts of a valid schedule is that of its program.
-use Rattle.std.proofs.Common.{◌≡◌, ℕ, suc, ◌+◌, ◌-◌, ◌*◌, ◌^◌, ◌<◌, ◌≤◌, ◌⊎◌, Bool, true, false, not, cond, min, max, nat_eq, get_or, List, [], ◌∷◌, length, Option, Some, None, refl, sym, ap, subst, inl, inr, arith, ◌∙◌}
+use Rattle.std.proofs.Common.{
+  ◌≡◌,
+  ℕ,
+  suc,
+  ◌+◌,
+  ◌-◌,
+  ◌*◌,
+  ◌^◌,
+  ◌<◌,
+  ◌≤◌,
+  ◌⊎◌,
+  Bool,
+  true,
+  false,
+  not,
+  cond,
+  min,
+  max,
+  nat_eq,
+  get_or,
+  List,
+  [],
+  ◌∷◌,
+  length,
+  Option,
+  Some,
+  None,
+  refl,
+  sym,
+  ap,
+  subst,
+  inl,
+  inr,
+  arith,
+  ◌∙◌,
+}
 use Rattle.std.specs.Prelude.{nat_lt, slice_get, Result, Ok, Err, IfOk}
 use Rattle.std.specs.List.{flat_map, sum_by}
 use Rattle.std.proofs.lemmas.Bool.{cases_lt}
@@ -99,7 +134,8 @@ module _ (g : Graph) (a : Architecture) (s : Schedule) (flat : is_flat g ≡ tru
   buffers_plain = length-map (copies g a s) (buffer g a s 1)
 
   pairs_are : length (program_of g a s).pairs ≡ sum_below (readers_in (plain_steps g a s) (length (sequences a))) (length (copies g a s))
-  pairs_are = length-map (pairs g a s) (λ (r : Reader). operator_of g a s r.buffer) ∙ pairs_many (plain_steps g a s) (sequences a) (length (plain_program g a s).buffers) ∙ ap (sum_below readers_at) buffers_plain
+  pairs_are = length-map (pairs g a s) (λ (r : Reader). operator_of g a s r.buffer)
+      ∙ pairs_many (plain_steps g a s) (sequences a) (length (plain_program g a s).buffers) ∙ ap (sum_below readers_at) buffers_plain
 
   guarded_is : (b : ℕ) → b < length (copies g a s) → is_guarded g a s b ≡ not (nat_eq (readers_at b) 0)
   guarded_is b l = guarded_here (plain_steps g a s) (sequences a) (length (plain_program g a s).buffers) b (let z = buffers_plain in omega arith)
@@ -144,7 +180,8 @@ module _ (g : Graph) (a : Architecture) (s : Schedule) (flat : is_flat g ≡ tru
           max_alone _ _ _ received waits
           ∙ (λ i. cond (is_on m (h t refl i)) (lens (buffer_for g a s (copy t.from t.source)) i) 0)
 
-      all_acts : (xs : List Act) → ((i : ℕ) (t : Transfer) → slice_get xs i ≡ Some (carry t) → medium_from 0 (sequences a) (number_of g a s (record { operator = t.from; medium = Some t.medium })) ≡ Some t.medium)
+      all_acts : (xs : List Act) → ((i : ℕ) (t : Transfer) → slice_get xs i ≡ Some (carry t)
+          → medium_from 0 (sequences a) (number_of g a s (record { operator = t.from; medium = Some t.medium })) ≡ Some t.medium)
           → longest_step (program_of g a s) m (medium_from 0 (sequences a)) (flat_map (steps_of g a s) xs) ≡ longest bare (buffer_for g a s) m xs
       all_acts [] h = refl
       all_acts (x ∷ xs) h =
@@ -169,10 +206,12 @@ module _ (g : Graph) (a : Architecture) (s : Schedule) (flat : is_flat g ≡ tru
       buffers_are : sum_below (λ b. depth_of (program_of g a s) b * len_of (program_of g a s) b) (length (program_of g a s).buffers) ≡ buffer_sum a.depth counts bare.buffers
       buffers_are =
           ap (sum_below (λ b. depth_of (program_of g a s) b * len_of (program_of g a s) b)) (It.buffers_many ∙ sym buffers_plain)
-          ∙ same_below (λ b. depth_of (program_of g a s) b * len_of (program_of g a s) b) (λ b. cond (nat_eq (get_or counts b 0) 0) 1 a.depth * len_in (slice_get (plain_program g a s).buffers b)) (length (plain_program g a s).buffers)
+          ∙ same_below (λ b. depth_of (program_of g a s) b * len_of (program_of g a s) b)
+          (λ b. cond (nat_eq (get_or counts b 0) 0) 1 a.depth * len_in (slice_get (plain_program g a s).buffers b)) (length (plain_program g a s).buffers)
           (λ b l. let low : b < length (copies g a s) = (let z = buffers_plain in omega arith) in
           let c = get_some (copies g a s) b low in
-          let depth_is = ap depth_in (It.buffers_are b c.0 c.1) ∙ ap (λ (t : Bool). cond t a.depth 1) (guarded_is b low) ∙ deep_or_one (nat_eq (readers_at b) 0) a.depth ∙ ap (λ (n : ℕ). cond (nat_eq n 0) 1 a.depth) (sym (counted.each b low)) in
+          let depth_is = ap depth_in (It.buffers_are b c.0 c.1) ∙ ap (λ (t : Bool). cond t a.depth 1) (guarded_is b low)
+          ∙ deep_or_one (nat_eq (readers_at b) 0) a.depth ∙ ap (λ (n : ℕ). cond (nat_eq n 0) 1 a.depth) (sym (counted.each b low)) in
           let len_is = lens b ∙ ap (λ l. len_in (slice_get l b)) same in
           λ i. depth_is i * len_is i)
           ∙ sym (buffer_sum_is a.depth counts (plain_program g a s).buffers (counted.many ∙ sym buffers_plain))

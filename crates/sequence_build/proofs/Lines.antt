@@ -117,7 +117,8 @@ module _ (p : Program) (g : Graph) (seqs : List Seq) (media : ℕ) (order : List
     all_once : (home at : ℕ → ℕ) → ((q : ℕ) → q < P → IsOnly p (home q) (at q) (line q)) → sum_below (in_loop test) S ≡ P
     all_once home at only =
         same_below (in_loop test) (λ s. sum_below (λ q. cond (nat_eq (home q) s) 1 0) P) S
-        (λ s l. summed (λ q x. cond (test q x) 1 0) P (turn p s) ∙ same_below (λ q. sum_by (λ x. cond (test q x) 1 0) (turn p s)) (λ q. cond (nat_eq (home q) s) 1 0) P (λ q k. once q (home q) (at q) s (only q k)))
+        (λ s l. summed (λ q x. cond (test q x) 1 0) P (turn p s)
+        ∙ same_below (λ q. sum_by (λ x. cond (test q x) 1 0) (turn p s)) (λ q. cond (nat_eq (home q) s) 1 0) P (λ q k. once q (home q) (at q) s (only q k)))
         ∙ swapped (λ s q. cond (nat_eq (home q) s) 1 0) S P
         ∙ same_below (λ q. sum_below (λ s. cond (nat_eq (home q) s) 1 0) S) (λ q. 1) P (λ q k. picked (λ s. 1) S (home q) (there (home q) (at q) (line q) (only q k).stands))
         ∙ constant 1 P ∙ (let z : P * 1 ≡ P = omega arith in z)
@@ -125,7 +126,9 @@ module _ (p : Program) (g : Graph) (seqs : List Seq) (media : ℕ) (order : List
   pub lines_are : sum_by (λ (q : SeqCode). sum_by line_of q.turn) p.seqs ≡ 4 * length p.pairs
   lines_are =
       sym (by_place (λ (o : Option SeqCode). sum_by line_of (turn_of o)) (λ (q : SeqCode). sum_by line_of q.turn) (λ q. refl) p.seqs)
-      ∙ same_below (λ s. sum_by line_of (turn p s)) (λ s. (in_loop takes_empty s + in_loop takes_full s) + (in_loop signals_empty s + in_loop signals_full s)) S (λ s l. list_by_pair (turn p s) (λ a x h. formed.named s a x h))
+      ∙ same_below (λ s. sum_by line_of (turn p s))
+      (λ s. (in_loop takes_empty s + in_loop takes_full s) + (in_loop signals_empty s + in_loop signals_full s)) S
+      (λ s l. list_by_pair (turn p s) (λ a x h. formed.named s a x h))
       ∙ both_below (λ s. in_loop takes_empty s + in_loop takes_full s) (λ s. in_loop signals_empty s + in_loop signals_full s) S
       ∙ (λ i. both_below (in_loop takes_empty) (in_loop takes_full) S i + both_below (in_loop signals_empty) (in_loop signals_full) S i)
       ∙ (let a = all_once takes_empty (λ q. Suc0 q) empty_taken (λ q. eq-eqb q q refl) (λ q. writer_of p order (places p) q) (λ q. (pair p q).take_empty) (λ q l. (formed.pairs q l).take_empty) in
@@ -205,7 +208,8 @@ module _ (p : Program) where
   one_more x xs n [] l h = absurd (omega arith)
   one_more x xs n (q ∷ qs) l h = by (cases_eq x.sequence n) (λ k. one_more x xs (suc n) qs k (omega arith))
     where
-      by : (x.sequence ≡ n) ⊎ (x.sequence ≡ n → ⊥) → (suc n ≤ x.sequence → coded (x ∷ xs) (suc n) qs ≡ step_core x + coded xs (suc n) qs) → coded (x ∷ xs) n (q ∷ qs) ≡ step_core x + coded xs n (q ∷ qs)
+      by : (x.sequence ≡ n) ⊎ (x.sequence ≡ n → ⊥) → (suc n ≤ x.sequence → coded (x ∷ xs) (suc n) qs ≡ step_core x + coded xs (suc n) qs)
+          → coded (x ∷ xs) n (q ∷ qs) ≡ step_core x + coded xs n (q ∷ qs)
       by (inl e) r =
           let a = coded-cons (x ∷ xs) n q qs in
           let b = coded-cons xs n q qs in
@@ -221,7 +225,8 @@ module _ (p : Program) where
           let f = r (omega arith) in
           omega arith
 
-  pub steps_coded : (xs : List Step) (qs : List Seq) → ((i : ℕ) (x : Step) → slice_get xs i ≡ Some x → x.sequence < length qs) → cores_in (codes (λ _. []) (projection xs) 0 qs) ≡ sum_by (λ (x : Step). core_of p x.instr) xs
+  pub steps_coded : (xs : List Step) (qs : List Seq) → ((i : ℕ) (x : Step) → slice_get xs i ≡ Some x → x.sequence < length qs)
+      → cores_in (codes (λ _. []) (projection xs) 0 qs) ≡ sum_by (λ (x : Step). core_of p x.instr) xs
   steps_coded [] qs h = none_coded 0 qs
   steps_coded (x ∷ xs) qs h =
       one_more x xs 0 qs (omega arith) (let l = h 0 x refl in omega arith)

@@ -51,9 +51,11 @@ module _ (p : Program) where
         let d = numbers_many (is_other t) 0 site.sequences.now in
         omega arith
 
-    pub run_is : (d : Decision) → step_micros p (steps_at site (run d)) ≡ elements_in p (map (numbering site) (read_by site.vertices.now (run d))) + elements_in p (map (numbering site) (made_by site.vertices.now (run d)))
+    pub run_is : (d : Decision) → step_micros p (steps_at site (run d))
+        ≡ elements_in p (map (numbering site) (read_by site.vertices.now (run d))) + elements_in p (map (numbering site) (made_by site.vertices.now (run d)))
     run_is d =
-        let call = step (sequence_of site.sequences.now d.operator None) (Call d.op (map (numbering site) (read_by site.vertices.now (run d))) (map (numbering site) (made_by site.vertices.now (run d)))) in
+        let call = step (sequence_of site.sequences.now d.operator None)
+        (Call d.op (map (numbering site) (read_by site.vertices.now (run d))) (map (numbering site) (made_by site.vertices.now (run d)))) in
         let a = sum_by-cons (λ (x : Step). plain_of p x.instr) call [] in omega arith
 
   pub carries_are : (f : Act → List Step) (ts : List Transfer) → step_micros p (flat_map f (map carry ts)) ≡ sum_by (λ t. step_micros p (f (carry t))) ts
@@ -76,7 +78,8 @@ module _ (p : Program) where
 module _ (p : Program) (number : Copy → ℕ) (m : ℕ) where
   longest-append : (xs ys : List Act) → longest p number m (xs ++ ys) ≡ max (longest p number m xs) (longest p number m ys)
   longest-append [] ys = omega arith
-  longest-append (x ∷ xs) ys = ap (max (carried_len p number m x)) (longest-append xs ys) ∙ (let a = carried_len p number m x in let b = longest p number m xs in let c = longest p number m ys in omega arith)
+  longest-append (x ∷ xs) ys = ap (max (carried_len p number m x)) (longest-append xs ys)
+      ∙ (let a = carried_len p number m x in let b = longest p number m xs in let c = longest p number m ys in omega arith)
 
   longest_decision : (d : Decision) (ds : List Decision) → longest p number m (acts_of (d ∷ ds)) ≡ max (longest p number m (map carry d.transfers)) (longest p number m (acts_of ds))
   longest_decision d ds = longest-append (map carry d.transfers) (run d ∷ acts_of ds) ∙ ap (max (longest p number m (map carry d.transfers))) (let n = longest p number m (acts_of ds) in omega arith)
@@ -85,5 +88,6 @@ module _ (p : Program) (number : Copy → ℕ) (m : ℕ) where
       → max now (longest p number m (acts_of (drop k ds))) ≡ whole → max new (longest p number m (acts_of (drop (k + 1) ds))) ≡ whole
   wire_more ds k d one now new whole l e h n w =
       let all : longest p number m (acts_of (drop k ds)) ≡ max (longest p number m (map carry d.transfers)) (longest p number m (acts_of (drop (k + 1) ds)))
-      = ap (λ (xs : List Decision). longest p number m (acts_of xs)) (drop_more ds k d l) ∙ ap (λ (x : Decision). longest p number m (acts_of (x ∷ drop (k + 1) ds))) (sym e) ∙ longest_decision d (drop (k + 1) ds) in
+      = ap (λ (xs : List Decision). longest p number m (acts_of xs)) (drop_more ds k d l)
+      ∙ ap (λ (x : Decision). longest p number m (acts_of (x ∷ drop (k + 1) ds))) (sym e) ∙ longest_decision d (drop (k + 1) ds) in
       omega arith

@@ -1,5 +1,38 @@
 -- The table of numbers gives each copy the number of its buffer.
-use Rattle.std.proofs.Common.{◌≡◌, ℕ, zero, suc, ◌+◌, ◌*◌, ◌/◌, ◌%◌, ◌<◌, ◌≤◌, ◌⊎◌, Bool, true, false, ◌&&◌, not, cond, nat_eq, List, [], ◌∷◌, length, map, Some, refl, sym, ap, inl, inr, arith, ◌∙◌, eq-eqb}
+use Rattle.std.proofs.Common.{
+  ◌≡◌,
+  ℕ,
+  zero,
+  suc,
+  ◌+◌,
+  ◌*◌,
+  ◌/◌,
+  ◌%◌,
+  ◌<◌,
+  ◌≤◌,
+  ◌⊎◌,
+  Bool,
+  true,
+  false,
+  ◌&&◌,
+  not,
+  cond,
+  nat_eq,
+  List,
+  [],
+  ◌∷◌,
+  length,
+  map,
+  Some,
+  refl,
+  sym,
+  ap,
+  inl,
+  inr,
+  arith,
+  ◌∙◌,
+  eq-eqb,
+}
 use Rattle.std.specs.Prelude.{slice_get, slice_index_or, nat_lt, nat_le}
 use Rattle.std.specs.List.{position_or_len}
 use Rattle.std.specs.Cmp.Derive.{both_true}

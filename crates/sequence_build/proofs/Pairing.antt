@@ -1,5 +1,39 @@
 -- The pairs that are found are the readers of the program, each with the places of its first read, its last read and its write.
-use Rattle.std.proofs.Common.{◌≡◌, ℕ, zero, suc, ◌+◌, ◌<◌, Bool, true, false, ◌&&◌, not, cond, nat_eq, List, [], ◌∷◌, ◌++◌, length, map, Option, Some, None, refl, sym, ap, subst, inl, inr, arith, ◌∙◌, eq-eqb, Vec, Global}
+use Rattle.std.proofs.Common.{
+  ◌≡◌,
+  ℕ,
+  zero,
+  suc,
+  ◌+◌,
+  ◌<◌,
+  Bool,
+  true,
+  false,
+  ◌&&◌,
+  not,
+  cond,
+  nat_eq,
+  List,
+  [],
+  ◌∷◌,
+  ◌++◌,
+  length,
+  map,
+  Option,
+  Some,
+  None,
+  refl,
+  sym,
+  ap,
+  subst,
+  inl,
+  inr,
+  arith,
+  ◌∙◌,
+  eq-eqb,
+  Vec,
+  Global,
+}
 use Rattle.std.specs.Prelude.{slice_get, is_some}
 use Rattle.std.specs.List.{list_any}
 use Rattle.std.proofs.lemmas.Bool.{false≢true, eqb-true, cases_Bool, and_parts}
@@ -41,9 +75,13 @@ readers_same b s w (q ∷ qs) h =
         ≡ cond (r && not v) (record { buffer = b; sequence = s } ∷ readers_from (suc s) qs b) (readers_from (suc s) qs b)
     by false v e h = h
     by true true e h =
-        (λ i. map reader_of (cond (e i) (pairs_with b w (all_uses (reads b) (suc s) qs)) (record { buffer = b; reader = s; first = first_from (reads b) 0 q.turn; last = last_from (reads b) 0 0 q.turn; write = w } ∷ pairs_with b w (all_uses (reads b) (suc s) qs)))) ∙ h
+        (λ i. map reader_of (cond (e i) (pairs_with b w (all_uses (reads b) (suc s) qs))
+        (record { buffer = b; reader = s; first = first_from (reads b) 0 q.turn; last = last_from (reads b) 0 0 q.turn; write = w }
+        ∷ pairs_with b w (all_uses (reads b) (suc s) qs)))) ∙ h
     by true false e h =
-        (λ i. map reader_of (cond (e i) (pairs_with b w (all_uses (reads b) (suc s) qs)) (record { buffer = b; reader = s; first = first_from (reads b) 0 q.turn; last = last_from (reads b) 0 0 q.turn; write = w } ∷ pairs_with b w (all_uses (reads b) (suc s) qs))))
+        (λ i. map reader_of (cond (e i) (pairs_with b w (all_uses (reads b) (suc s) qs))
+        (record { buffer = b; reader = s; first = first_from (reads b) 0 q.turn; last = last_from (reads b) 0 0 q.turn; write = w }
+        ∷ pairs_with b w (all_uses (reads b) (suc s) qs))))
         ∙ ap (λ (l : List Reader). record { buffer = b; sequence = s } ∷ l) h
 
 blocks-same : {A : Type 0} (f g : ℕ → List A) (n : ℕ) → ((b : ℕ) → b < n → f b ≡ g b) → blocks f n ≡ blocks g n
@@ -75,7 +113,17 @@ of_use b s (q ∷ qs) k u e = by (list_any (reads b) q.turn) refl k e (λ j d. o
         → slice_get (cond r (use_of s (first_from (reads b) 0 q.turn) (last_from (reads b) 0 0 q.turn) ∷ []) [] ++ all_uses (reads b) (suc s) qs) k ≡ Some u
         → ((j : ℕ) → slice_get (all_uses (reads b) (suc s) qs) j ≡ Some u → OfUse b (suc s) qs u) → OfUse b s (q ∷ qs) u
     by true t zero e r = let same = same_Some (use_of s (first_from (reads b) 0 q.turn) (last_from (reads b) 0 0 q.turn)) u e in
-        record { number = 0; code = q; is_code = refl; sequence = (let z = ap (λ (v : Use). v.sequence) (sym same) in omega arith); reads_it = t; first = ap (λ (v : Use). v.first) (sym same); last = ap (λ (v : Use). v.last) (sym same) }
+        record {
+          number = 0;
+          code = q;
+          is_code = refl;
+          sequence =
+              (let z = ap (λ (v : Use). v.sequence) (sym same) in omega arith);
+          reads_it = t;
+          first =
+              ap (λ (v : Use). v.first) (sym same);
+          last = ap (λ (v : Use). v.last) (sym same);
+        }
     by true t (suc k) e r = next (r k e)
     by false t k e r = next (r k e)
 
@@ -85,7 +133,8 @@ of_pairs b w [] k x e = absurd cc
 of_pairs b w (u ∷ us) k x e = by (is_in w u.sequence) k e (λ j d. of_pairs b w us j x d)
   where
     by : (t : Bool) (k : ℕ) → slice_get (cond t (pairs_with b w us) (record { buffer = b; reader = u.sequence; first = u.first; last = u.last; write = w } ∷ pairs_with b w us)) k ≡ Some x
-        → ((j : ℕ) → slice_get (pairs_with b w us) j ≡ Some x → (i : ℕ) × (v : Use) × (slice_get us i ≡ Some v) × (record { buffer = b; reader = v.sequence; first = v.first; last = v.last; write = w } ≡ x))
+        → ((j : ℕ) → slice_get (pairs_with b w us) j ≡ Some x → (i : ℕ) × (v : Use) × (slice_get us i ≡ Some v)
+        × (record { buffer = b; reader = v.sequence; first = v.first; last = v.last; write = w } ≡ x))
         → (i : ℕ) × (v : Use) × (slice_get (u ∷ us) i ≡ Some v) × (record { buffer = b; reader = v.sequence; first = v.first; last = v.last; write = w } ≡ x)
     by true k e r = let h = r k e in (suc h.0, h.1, h.2, h.3)
     by false zero e r = (0, u, refl, same_Some _ x e)

@@ -1,5 +1,39 @@
 -- Places in a loop: of the first and the last instruction that passes a test, and of what is noted of them.
-use Rattle.std.proofs.Common.{◌≡◌, ℕ, zero, suc, ◌+◌, ◌-◌, ◌≤◌, ◌⊎◌, Bool, true, false, ◌&&◌, ◌||◌, not, cond, nat_eq, List, [], ◌∷◌, ◌++◌, length, take, drop, Some, refl, sym, ap, inl, inr, arith, ◌∙◌, length-append, eq-eqb}
+use Rattle.std.proofs.Common.{
+  ◌≡◌,
+  ℕ,
+  zero,
+  suc,
+  ◌+◌,
+  ◌-◌,
+  ◌≤◌,
+  ◌⊎◌,
+  Bool,
+  true,
+  false,
+  ◌&&◌,
+  ◌||◌,
+  not,
+  cond,
+  nat_eq,
+  List,
+  [],
+  ◌∷◌,
+  ◌++◌,
+  length,
+  take,
+  drop,
+  Some,
+  refl,
+  sym,
+  ap,
+  inl,
+  inr,
+  arith,
+  ◌∙◌,
+  length-append,
+  eq-eqb,
+}
 use Rattle.std.specs.Prelude.{slice_get, slice_set}
 use Rattle.std.specs.List.{list_any}
 use Rattle.std.proofs.lemmas.Bool.{false≢true, or_cases, ne_eqb, cases_Bool}
@@ -106,7 +140,8 @@ module _ {A : Type 0} (p : A → Bool) where
   uses_are s at [] us f = sym (append-nil us)
   uses_are s at (x ∷ xs) us f = by (p x) (uses_are s (suc at) xs us f)
     where
-      by : (b : Bool) → uses_in p s (suc at) xs us ≡ us ++ use_in s (suc at) xs → uses_in p s (suc at) xs (cond b (noted s at us) us) ≡ us ++ cond (b || list_any p xs) (use_of s (cond b at (first_from p (suc at) xs)) (last_from p (cond b at 0) (suc at) xs) ∷ []) []
+      by : (b : Bool) → uses_in p s (suc at) xs us ≡ us ++ use_in s (suc at) xs → uses_in p s (suc at) xs (cond b (noted s at us) us) ≡ us
+          ++ cond (b || list_any p xs) (use_of s (cond b at (first_from p (suc at) xs)) (last_from p (cond b at 0) (suc at) xs) ∷ []) []
       by true h = ap (uses_in p s (suc at) xs) (noted_fresh s at us f) ∙ uses_on s at at (suc at) xs us
       by false h = h
 
@@ -170,10 +205,12 @@ module _ {A : Type 0} (p : A → Bool) where
   last_is_at least at zero (y ∷ xs) x e h = by (cases_Bool (list_any p xs)) (ap p (sym (same_Some y x e)))
     where
       by : (list_any p xs ≡ true) ⊎ (list_any p xs ≡ false) → p x ≡ p y → (p x && not (list_any p xs)) ≡ nat_eq (last_from p (cond (p y) at least) (suc at) xs) (at + 0)
-      by (inl a) s = (λ i. p x && not (a i)) ∙ and-false (p x) ∙ sym (ne_eqb (last_from p (cond (p y) at least) (suc at) xs) (at + 0) (let z = last_low (cond (p y) at least) (suc at) xs a in λ w. omega arith))
+      by (inl a) s = (λ i. p x && not (a i)) ∙ and-false (p x)
+          ∙ sym (ne_eqb (last_from p (cond (p y) at least) (suc at) xs) (at + 0) (let z = last_low (cond (p y) at least) (suc at) xs a in λ w. omega arith))
       by (inr a) s =
           let yes : p y ≡ true = elim (or_cases (p y) (list_any p xs) h) [ inl t ↦ t | inr t ↦ absurd (false≢true (sym a ∙ t)) ] in
-          let is : last_from p (cond (p y) at least) (suc at) xs ≡ at + 0 = last_none (cond (p y) at least) (suc at) xs a ∙ ap (λ (b : Bool). cond b at least) yes ∙ (let z : at ≡ at + 0 = omega arith in z) in
+          let is : last_from p (cond (p y) at least) (suc at) xs ≡ at + 0 = last_none (cond (p y) at least) (suc at) xs a
+          ∙ ap (λ (b : Bool). cond b at least) yes ∙ (let z : at ≡ at + 0 = omega arith in z) in
           (λ i. (s ∙ yes) i && not (a i)) ∙ sym (eq-eqb (last_from p (cond (p y) at least) (suc at) xs) (at + 0) is)
   last_is_at least at (suc n) (y ∷ xs) x e h = by (cases_Bool (list_any p xs)) (λ a. last_is_at (cond (p y) at least) (suc at) n xs x e a)
     where

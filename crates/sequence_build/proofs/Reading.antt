@@ -1,5 +1,36 @@
 -- What an operation reads and makes, part by part.
-use Rattle.std.proofs.Common.{◌≡◌, ℕ, ◌+◌, ◌<◌, true, false, cond, nat_eq, List, [], ◌∷◌, ◌++◌, length, map, drop, Option, Some, None, refl, sym, ap, ◌∙◌, append_assoc, add-one, Vec, Global, inl, inr, ◌⊎◌, eq-eqb}
+use Rattle.std.proofs.Common.{
+  ◌≡◌,
+  ℕ,
+  ◌+◌,
+  ◌<◌,
+  true,
+  false,
+  cond,
+  nat_eq,
+  List,
+  [],
+  ◌∷◌,
+  ◌++◌,
+  length,
+  map,
+  drop,
+  Option,
+  Some,
+  None,
+  refl,
+  sym,
+  ap,
+  ◌∙◌,
+  append_assoc,
+  add-one,
+  Vec,
+  Global,
+  inl,
+  inr,
+  ◌⊎◌,
+  eq-eqb,
+}
 use Rattle.std.specs.Prelude.{slice_get, slice_set, slice_index_or}
 use Rattle.std.proofs.Math.Seq.{drop-cons}
 use Rattle.std.proofs.lemmas.Bool.{false≢true, eqb-true, cases_Bool}
@@ -31,10 +62,12 @@ made_at vertices d = by (slice_get vertices d.op)
     by (Some x) = refl
 
 pub read_at : (number : Copy → ℕ) (vertices : List Vertex) (d : Decision)
-    → map number (read_by vertices (run d)) ≡ map (λ (y : Guard). number (copy d.operator y.source)) (guards_in (slice_get vertices d.op)) ++ map (λ x. number (copy d.operator x)) (ins_in (slice_get vertices d.op))
+    → map number (read_by vertices (run d)) ≡ map (λ (y : Guard). number (copy d.operator y.source)) (guards_in (slice_get vertices d.op))
+    ++ map (λ x. number (copy d.operator x)) (ins_in (slice_get vertices d.op))
 read_at number vertices d = by (slice_get vertices d.op)
   where
-    by : (o : Option Vertex) → map number (map (copy d.operator) (sources_of o)) ≡ map (λ (y : Guard). number (copy d.operator y.source)) (guards_in o) ++ map (λ x. number (copy d.operator x)) (ins_in o)
+    by : (o : Option Vertex) → map number (map (copy d.operator) (sources_of o))
+        ≡ map (λ (y : Guard). number (copy d.operator y.source)) (guards_in o) ++ map (λ x. number (copy d.operator x)) (ins_in o)
     by None = refl
     by (Some x) =
         map-map number (copy d.operator) (map (λ (y : Guard). y.source) x.guards ++ x.ins)

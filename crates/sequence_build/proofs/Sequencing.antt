@@ -69,7 +69,15 @@ module _ (p : Instr → Bool) where
         where
           here : (b : Bool) → p x ≡ b → cond b (Some (place_of s at)) w ≡ Some z → (w ≡ Some z) ⊎ FoundIn s at (x ∷ xs) z
           here true t h = let same = same_Some (place_of s at) z h in
-              inr (record { number = 0; instr = x; sequence = ap (λ (y : Place). y.sequence) (sym same); place = (let k = ap (λ (y : Place). y.at) (sym same) in omega arith); stands = refl; passes = t })
+              inr (record {
+                number = 0;
+                instr = x;
+                sequence = ap (λ (y : Place). y.sequence) (sym same);
+                place =
+                    (let k = ap (λ (y : Place). y.at) (sym same) in omega arith);
+                stands = refl;
+                passes = t;
+              })
           here false t h = inl h
 
   pub write_found : (s : ℕ) (qs : List SeqCode) (w : Option Place) (z : Place) → write_by p s qs w ≡ Some z → (w ≡ Some z) ⊎ Found s qs z
@@ -77,7 +85,16 @@ module _ (p : Instr → Bool) where
   write_found s (q ∷ qs) w z e = elim (write_found (suc s) qs (write_in p s 0 q.turn w) z e) [
     | inl h ↦ elim (write_found_in s 0 q.turn w z h) [
       | inl k ↦ inl k
-      | inr k ↦ inr (record { number = 0; code = q; instr = k.instr; is_code = refl; sequence = (let n = k.sequence in omega arith); stands = ap (slice_get q.turn) (let n = k.place in omega arith) ∙ k.stands; passes = k.passes })
+      | inr k ↦ inr (record {
+        number = 0;
+        code = q;
+        instr = k.instr;
+        is_code = refl;
+        sequence =
+            (let n = k.sequence in omega arith);
+        stands = ap (slice_get q.turn) (let n = k.place in omega arith) ∙ k.stands;
+        passes = k.passes;
+      })
     ]
     | inr h ↦ inr (record { number = suc h.number; code = h.code; instr = h.instr; is_code = h.is_code; sequence = (let n = h.sequence in omega arith); stands = h.stands; passes = h.passes })
   ]
@@ -93,7 +110,9 @@ module _ (p : Instr → Bool) where
 
   write_noted : (s at : ℕ) (xs : List Instr) (w : Option Place) (n : ℕ) (x : Instr) → slice_get xs n ≡ Some x → p x ≡ true → is_some (write_in p s at xs w) ≡ true
   write_noted s at [] w n x e t = absurd cc
-  write_noted s at (y ∷ xs) w zero x e t = ap (λ (b : Bool). is_some (write_in p s (suc at) xs (cond b (Some (place_of s at)) w))) (ap p (same_Some y x e) ∙ t) ∙ write_kept s (suc at) xs (place_of s at)
+  write_noted s at (y ∷ xs) w zero x e t =
+      ap (λ (b : Bool). is_some (write_in p s (suc at) xs (cond b (Some (place_of s at)) w))) (ap p (same_Some y x e) ∙ t)
+      ∙ write_kept s (suc at) xs (place_of s at)
   write_noted s at (y ∷ xs) w (suc n) x e t = write_noted s (suc at) xs (cond (p y) (Some (place_of s at)) w) n x e t
 
   always_kept : (s : ℕ) (qs : List SeqCode) (w : Option Place) → is_some w ≡ true → is_some (write_by p s qs w) ≡ true
@@ -104,7 +123,8 @@ module _ (p : Instr → Bool) where
       by None h = absurd (false≢true h)
       by (Some z) h = write_kept s 0 q.turn z
 
-  pub write_there : (s : ℕ) (qs : List SeqCode) (w : Option Place) (i n : ℕ) (x : Instr) (q : SeqCode) → slice_get qs i ≡ Some q → slice_get q.turn n ≡ Some x → p x ≡ true → is_some (write_by p s qs w) ≡ true
+  pub write_there : (s : ℕ) (qs : List SeqCode) (w : Option Place) (i n : ℕ) (x : Instr) (q : SeqCode) → slice_get qs i ≡ Some q
+      → slice_get q.turn n ≡ Some x → p x ≡ true → is_some (write_by p s qs w) ≡ true
   write_there s [] w i n x q e h t = absurd cc
   write_there s (r ∷ qs) w zero n x q e h t =
       always_kept (suc s) qs (write_in p s 0 r.turn w) (write_noted s 0 r.turn w n x (ap (λ (c : SeqCode). slice_get c.turn n) (same_Some r q e) ∙ h) t)

@@ -1,5 +1,42 @@
 -- Marks of who reads and writes each buffer, as they are put act by act.
-use Rattle.std.proofs.Common.{◌≡◌, ℕ, ◌+◌, ◌*◌, ◌/◌, ◌%◌, ◌<◌, ◌≤◌, ◌⊎◌, Bool, true, false, ◌&&◌, ◌||◌, not, cond, nat_eq, get_or, List, [], ◌∷◌, ◌++◌, length, map, drop, Some, None, refl, sym, ap, subst, inl, inr, arith, ◌∙◌, eq-eqb}
+use Rattle.std.proofs.Common.{
+  ◌≡◌,
+  ℕ,
+  ◌+◌,
+  ◌*◌,
+  ◌/◌,
+  ◌%◌,
+  ◌<◌,
+  ◌≤◌,
+  ◌⊎◌,
+  Bool,
+  true,
+  false,
+  ◌&&◌,
+  ◌||◌,
+  not,
+  cond,
+  nat_eq,
+  get_or,
+  List,
+  [],
+  ◌∷◌,
+  ◌++◌,
+  length,
+  map,
+  drop,
+  Some,
+  None,
+  refl,
+  sym,
+  ap,
+  subst,
+  inl,
+  inr,
+  arith,
+  ◌∙◌,
+  eq-eqb,
+}
 use Rattle.std.specs.Prelude.{nat_lt, slice_set, replicate}
 use Rattle.std.specs.List.{list_any}
 use Rattle.std.specs.Cmp.Derive.{both_true}
@@ -67,7 +104,8 @@ module _ {width : ℕ} where
         ∙ ap (λ (t : Bool). h b s || t) (first.marks b s l k) ∙ swap_or (h b s) (f b s) (mark_at width old b s);
   }
 
-  pub puts_next : {old mid new : List Bool} {f h whole left : ℕ → ℕ → Bool} → ((b s : ℕ) → left b s ≡ (f b s || h b s)) → PutsUp width old mid left whole → Puts width mid new f → PutsUp width old new h whole
+  pub puts_next : {old mid new : List Bool} {f h whole left : ℕ → ℕ → Bool} → ((b s : ℕ) → left b s ≡ (f b s || h b s))
+      → PutsUp width old mid left whole → Puts width mid new f → PutsUp width old new h whole
   puts_next {old} {mid} {new} {f} {h} e so_far more = record {
     many = more.many ∙ so_far.many;
     marks = λ b s l k.
@@ -212,12 +250,14 @@ carry_notes old new site t sender sent receiver received e h k m w r u =
       width = w;
       reads = puts_same (λ b s.
           (λ i. nat_eq (e i) s && nat_eq (h i) b)
-          ∙ sent_alone (nat_eq (sequence_of site.sequences.now t.from (Some t.medium)) s && nat_eq (numbering site (copy t.from t.source)) b) (nat_eq (sequence_of site.sequences.now t.to (Some t.medium)) s)
+          ∙ sent_alone (nat_eq (sequence_of site.sequences.now t.from (Some t.medium)) s
+          && nat_eq (numbering site (copy t.from t.source)) b) (nat_eq (sequence_of site.sequences.now t.to (Some t.medium)) s)
           (reads_in (map (λ n. step n (Sync t.from t.to)) others) b s) (waits_read b t.from t.to s others))
           (put_puts old.reads.items new.reads.items sender sent r);
       writes = puts_same (λ b s.
           (λ i. nat_eq (k i) s && nat_eq (m i) b)
-          ∙ received_alone (nat_eq (sequence_of site.sequences.now t.to (Some t.medium)) s && nat_eq (numbering site (copy t.to t.source)) b) (nat_eq (sequence_of site.sequences.now t.from (Some t.medium)) s)
+          ∙ received_alone (nat_eq (sequence_of site.sequences.now t.to (Some t.medium)) s
+          && nat_eq (numbering site (copy t.to t.source)) b) (nat_eq (sequence_of site.sequences.now t.from (Some t.medium)) s)
           (writes_in (map (λ n. step n (Sync t.from t.to)) others) b s) (waits_write b t.from t.to s others))
           (put_puts old.writes.items new.writes.items receiver received u);
     }
@@ -228,20 +268,28 @@ pub run_notes : (old new : Touched) (site : Site) (d : Decision) (sequence : ℕ
     → Puts old.width old.writes.items new.writes.items (λ b s. nat_eq sequence s && list_any (λ c. nat_eq c b) outs) → Notes old new (steps_at site (run d))
 run_notes old new site d sequence ins outs e h k w r u = record {
   width = w;
-  reads = puts_same (λ b s. (λ i. nat_eq (e i) s && list_any (λ c. nat_eq c b) (h i)) ∙ sym (or_false (nat_eq (sequence_of site.sequences.now d.operator None) s && list_any (λ c. nat_eq c b) (map (numbering site) (read_by site.vertices.now (run d)))))) r;
-  writes = puts_same (λ b s. (λ i. nat_eq (e i) s && list_any (λ c. nat_eq c b) (k i)) ∙ sym (or_false (nat_eq (sequence_of site.sequences.now d.operator None) s && list_any (λ c. nat_eq c b) (map (numbering site) (made_by site.vertices.now (run d)))))) u;
+  reads = puts_same (λ b s. (λ i. nat_eq (e i) s && list_any (λ c. nat_eq c b) (h i))
+      ∙ sym (or_false (nat_eq (sequence_of site.sequences.now d.operator None) s
+      && list_any (λ c. nat_eq c b) (map (numbering site) (read_by site.vertices.now (run d)))))) r;
+  writes = puts_same (λ b s. (λ i. nat_eq (e i) s && list_any (λ c. nat_eq c b) (k i))
+      ∙ sym (or_false (nat_eq (sequence_of site.sequences.now d.operator None) s
+      && list_any (λ c. nat_eq c b) (map (numbering site) (made_by site.vertices.now (run d)))))) u;
 }
 
 -- all that was noted
-pub noted_all : (width buffers : ℕ) (steps : List Step) (old new : Touched) → old.width ≡ width → old.reads.items ≡ replicate (buffers * width) false → old.writes.items ≡ replicate (buffers * width) false
+pub noted_all : (width buffers : ℕ) (steps : List Step) (old new : Touched) → old.width ≡ width → old.reads.items
+    ≡ replicate (buffers * width) false → old.writes.items ≡ replicate (buffers * width) false
     → Notes old new steps → IsNoted width buffers steps new
 noted_all width buffers steps old new w r u h =
     let same : new.width ≡ width = h.width ∙ w in record {
       width = same;
       each = λ b s l k.
           let low : b * width + s < buffers * width = subst (λ (n : ℕ). b * width + s < n) (mul_comm width buffers) (mul-add-lt b width s buffers l k) in
-          let many : (xs : List Bool) → xs ≡ replicate (buffers * width) false → b * width + s < length xs = λ xs e. subst (λ (n : ℕ). b * width + s < n) (sym (ap (λ (ys : List Bool). length ys) e ∙ length-replicate (buffers * width) false)) low in
-          let none : (xs : List Bool) → xs ≡ replicate (buffers * width) false → mark_at width xs b s ≡ false = λ xs e. ap (λ (ys : List Bool). mark_at width ys b s) e ∙ get_or-replicate (buffers * width) (b * width + s) false false low in
+          let many : (xs : List Bool) → xs ≡ replicate (buffers * width) false → b * width + s
+          < length xs = λ xs e. subst (λ (n : ℕ). b * width + s < n)
+          (sym (ap (λ (ys : List Bool). length ys) e ∙ length-replicate (buffers * width) false)) low in
+          let none : (xs : List Bool) → xs ≡ replicate (buffers * width) false → mark_at width xs b s
+          ≡ false = λ xs e. ap (λ (ys : List Bool). mark_at width ys b s) e ∙ get_or-replicate (buffers * width) (b * width + s) false false low in
           let reading = subst (λ (n : ℕ). Puts n old.reads.items new.reads.items (reads_in steps)) w h.reads in
           let writing = subst (λ (n : ℕ). Puts n old.writes.items new.writes.items (writes_in steps)) w h.writes in
           let read = reading.marks b s k (many old.reads.items r) ∙ ap (λ (t : Bool). reads_in steps b s || t) (none old.reads.items r) ∙ or_false (reads_in steps b s) in
@@ -250,7 +298,8 @@ noted_all width buffers steps old new w r u h =
     }
 
 -- the counts by what was noted
-pub counts_are : (width buffers : ℕ) (steps : List Step) (x : Touched) (counts : List ℕ) → IsNoted width buffers steps x → length counts ≡ buffers → ((b : ℕ) → b < buffers → get_or counts b 0 ≡ readers_of x b) → Counts width buffers steps counts
+pub counts_are : (width buffers : ℕ) (steps : List Step) (x : Touched) (counts : List ℕ) → IsNoted width buffers steps x → length counts
+    ≡ buffers → ((b : ℕ) → b < buffers → get_or counts b 0 ≡ readers_of x b) → Counts width buffers steps counts
 counts_are width buffers steps x counts noted many each = record {
   many = many;
   each = λ b l.

@@ -83,7 +83,9 @@ set_half g flat v u x z e k t =
 
 -- lists of buffers
 module _ (p : Program) (is_number : List ℕ) (w : Places) (carried : ℕ → Source) (g : Graph) (buffer : Copy → ℕ) (o : ℕ) where
-  carry_all : (xs : List Source) → ((k : ℕ) (x : Source) → slice_get xs k ≡ Some x → (buffer (copy o x) < length p.buffers) × (carried (buffer (copy o x)) ≡ x) × HasLength p is_number w carried g x (core.len_of p (buffer (copy o x))))
+  carry_all : (xs : List Source) →
+      ((k : ℕ) (x : Source) → slice_get xs k ≡ Some x → (buffer (copy o x) < length p.buffers) × (carried (buffer (copy o x)) ≡ x)
+      × HasLength p is_number w carried g x (core.len_of p (buffer (copy o x))))
       → CarryInOrder p is_number w carried g (map buffer (map (copy o) xs)) xs
   carry_all [] h = tt
   carry_all (x ∷ xs) h = let z = h 0 x refl in (z.0, z.1, z.2, carry_all xs (λ k y e. h (suc k) y e))
@@ -94,10 +96,12 @@ module _ (p : Program) (is_number : List ℕ) (w : Places) (carried : ℕ → So
   gives_all v port [] h = tt
   gives_all v port (n ∷ ns) h = let z = h 0 n _ refl refl in (z.0, z.1, gives_all v (port + 1) ns (λ k m x e f. h (suc k) m x e f))
 
-has_length : (p : Program) (is_number : List ℕ) (w : Places) (carried : ℕ → Source) (g : Graph) (x : Source) (n : ℕ) (y : Vertex) → slice_get g.vertices x.vertex ≡ Some y → slice_get y.outs x.port ≡ Some n → HasLength p is_number w carried g x n
+has_length : (p : Program) (is_number : List ℕ) (w : Places) (carried : ℕ → Source) (g : Graph) (x : Source) (n : ℕ) (y : Vertex)
+    → slice_get g.vertices x.vertex ≡ Some y → slice_get y.outs x.port ≡ Some n → HasLength p is_number w carried g x n
 has_length p is_number w carried g x n y e h = rw e h
 
-module _ (g : Graph) (a : Architecture) (ticks : ℕ → ℕ → Option ℕ) (s : Schedule) (flat : is_flat g ≡ true) (right : is_archi a.operators a.media ≡ true) (valid : is_valid g a ticks s ≡ true) (depth : ℕ) where
+module _ (g : Graph) (a : Architecture) (ticks : ℕ → ℕ → Option ℕ) (s : Schedule) (flat : is_flat g ≡ true)
+    (right : is_archi a.operators a.media ≡ true) (valid : is_valid g a ticks s ≡ true) (depth : ℕ) where
   abbrev It : Setting
   It = S g a ticks s right valid depth
 
@@ -114,7 +118,8 @@ module _ (g : Graph) (a : Architecture) (ticks : ℕ → ℕ → Option ℕ) (s 
     pub is : step u (Call v ins outs) ≡ steps.calling g a s it
     pub block : entry.block_number ≡ starts (steps_of g a s) (acts s) number + 0
 
-  kind_call : (act : Act) (j u v : ℕ) (ins outs : List ℕ) → steps.Kind g a s act j (step u (Call v ins outs)) → (d : Decision) × (act ≡ run d) × (j ≡ 0) × (step u (Call v ins outs) ≡ steps.calling g a s d)
+  kind_call : (act : Act) (j u v : ℕ) (ins outs : List ℕ) → steps.Kind g a s act j (step u (Call v ins outs)) → (d : Decision)
+      × (act ≡ run d) × (j ≡ 0) × (step u (Call v ins outs) ≡ steps.calling g a s d)
   kind_call act j u v ins outs (steps.calls d y k) = (d, refl, refl, k)
   kind_call act j u v ins outs (steps.sends t y k) = let w : Call v ins outs ≡ (steps.sending g a s t).instr = ap (λ (y : Step). y.instr) k in absurd cc
   kind_call act j u v ins outs (steps.receives t y k) = let w : Call v ins outs ≡ (steps.receiving g a s t).instr = ap (λ (y : Step). y.instr) k in absurd cc
@@ -172,10 +177,12 @@ module _ (g : Graph) (a : Architecture) (ticks : ℕ → ℕ → Option ℕ) (s 
       record {
         stands = c.stands;
         only = λ u at ins outs st. one_call u at (calling prog v).sequence (calling prog v).at v ins outs (calling prog v).ins (calling prog v).outs (of_call u at v ins outs st) c.of;
-        computes = ap (medium prog) (ap (λ (y : Step). y.sequence) c.of.is) ∙ medium_of g a ticks s right valid depth (steps.calling g a s c.of.it).sequence _ (at_there g a ticks s right valid c.of.number c.of.it c.of.act);
+        computes = ap (medium prog) (ap (λ (y : Step). y.sequence) c.of.is)
+            ∙ medium_of g a ticks s right valid depth (steps.calling g a s c.of.it).sequence _ (at_there g a ticks s right valid c.of.number c.of.it c.of.act);
         takes = subst (λ (l : List ℕ). CarryInOrder prog (order (S g a ticks s right valid depth)) (places prog) (carried prog) g l (map (λ d. d.source) x.guards ++ x.ins))
             (sym (ap (λ (z : Instr). ins_in (Some z)) instr ∙ ap (λ (o : Option Vertex). map (buffer_for g a s) (map (copy c.of.it.operator) (sources_of o))) there))
-            (carry_all prog (order (S g a ticks s right valid depth)) (places prog) (carried prog) g (buffer_for g a s) c.of.it.operator (map (λ d. d.source) x.guards ++ x.ins) (takes c.of.number c.of.it c.of.act there));
+            (carry_all prog (order (S g a ticks s right valid depth)) (places prog) (carried prog) g (buffer_for g a s) c.of.it.operator
+            (map (λ d. d.source) x.guards ++ x.ins) (takes c.of.number c.of.it c.of.act there));
         gives = subst (λ (l : List ℕ). CarryOutputs prog (order (S g a ticks s right valid depth)) (places prog) (carried prog) g v 0 l x.outs)
             (sym (ap (λ (z : Instr). outs_in (Some z)) instr ∙ (λ i. map (buffer_for g a s) (map (copy c.of.it.operator) (outputs_of (sym op i) (there i))))))
             (gives_all prog (order (S g a ticks s right valid depth)) (places prog) (carried prog) g (buffer_for g a s) c.of.it.operator v 0 x.outs (gives c.of.number c.of.it c.of.act op there));
@@ -187,7 +194,9 @@ module _ (g : Graph) (a : Architecture) (ticks : ℕ → ℕ → Option ℕ) (s 
           × HasLength prog (order (S g a ticks s right valid depth)) (places prog) (carried prog) g y (core.len_of prog (buffer_for g a s (copy d.operator y)))
       takes i d ia there k y h =
           let c = copy d.operator y in
-          let read : slice_get (read_by g.vertices (run d)) k ≡ Some (copy d.operator y) = map_at (copy d.operator) (sources_of (slice_get g.vertices d.op)) k y (ap (λ (o : Option Vertex). slice_get (sources_of o) k) there ∙ h) in
+          let read : slice_get (read_by g.vertices (run d)) k
+          ≡ Some (copy d.operator y) = map_at (copy d.operator) (sources_of (slice_get g.vertices d.op)) k y
+          (ap (λ (o : Option Vertex). slice_get (sources_of o) k) there ∙ h) in
           let b = read_buffer g a ticks s valid i k (run d) (copy d.operator y) ia read in
           let m = read_made g a ticks s valid i k (run d) (copy d.operator y) ia read in
           let o = origin g a ticks s valid m.at m.inner m.act (copy d.operator y) m.stands m.made in
@@ -196,11 +205,13 @@ module _ (g : Graph) (a : Architecture) (ticks : ℕ → ℕ → Option ℕ) (s 
           let out : slice_get r.2.outs y.port ≡ Some r.4 = ap (slice_get r.2.outs) r.1 ∙ r.5 in (
             buffer_low (buffer_for g a s (copy d.operator y)) (copy d.operator y) b,
             carries_source g a ticks s right valid depth (buffer_for g a s (copy d.operator y)) (copy d.operator y) b,
-            subst (λ (n : ℕ). HasLength prog (order (S g a ticks s right valid depth)) (places prog) (carried prog) g y n) (sym (len_at (buffer_for g a s (copy d.operator y)) (copy d.operator y) b ∙ output_len y r.2 r.4 vertex out))
+            subst (λ (n : ℕ). HasLength prog (order (S g a ticks s right valid depth)) (places prog) (carried prog) g y n)
+                (sym (len_at (buffer_for g a s (copy d.operator y)) (copy d.operator y) b ∙ output_len y r.2 r.4 vertex out))
                 (has_length prog (order (S g a ticks s right valid depth)) (places prog) (carried prog) g y r.4 r.2 vertex out),
           )
 
-      gives : (i : ℕ) (d : Decision) → slice_get (acts s) i ≡ Some (run d) → v ≡ d.op → slice_get g.vertices d.op ≡ Some x → (k n : ℕ) (y : Source) → slice_get x.outs k ≡ Some n → slice_get (outputs_from v 0 x.outs) k ≡ Some y
+      gives : (i : ℕ) (d : Decision) → slice_get (acts s) i ≡ Some (run d) → v ≡ d.op → slice_get g.vertices d.op ≡ Some x
+          → (k n : ℕ) (y : Source) → slice_get x.outs k ≡ Some n → slice_get (outputs_from v 0 x.outs) k ≡ Some y
           → (carried prog (buffer_for g a s (copy d.operator y)) ≡ y) × len_is prog (slice_get prog.buffers (buffer_for g a s (copy d.operator y))) n
       gives i d ia op there k n y h f =
           let made : slice_get (made_by g.vertices (run d)) k ≡ Some (copy d.operator y)
@@ -222,12 +233,14 @@ module _ (g : Graph) (a : Architecture) (ticks : ℕ → ℕ → Option ℕ) (s 
           let r = of_run g a ticks s valid d.of.number d.of.it d.of.act in
           let same : r.vertex ≡ half.it = same_Some r.vertex half.it (sym r.there ∙ ap (slice_get g.vertices) (sym up) ∙ half.there) in
           let follows : list_any (λ y. runs v y && is_on d.of.it.operator y) (take d.of.number (acts s)) ≡ true
-          = (λ i. follows_get (take d.of.number (acts s)) d.of.it.operator ((sym half.is_set ∙ ap (λ (y : Vertex). y.kind) (sym same)) i) ((sym half.twin ∙ ap (λ (y : Vertex). y.twin) (sym same)) i)) ∙ r.follows in
+          = (λ i. follows_get (take d.of.number (acts s)) d.of.it.operator ((sym half.is_set ∙ ap (λ (y : Vertex). y.kind) (sym same)) i)
+          ((sym half.twin ∙ ap (λ (y : Vertex). y.twin) (sym same)) i)) ∙ r.follows in
           let y = any_of (λ y. runs v y && is_on d.of.it.operator y) (take d.of.number (acts s)) follows in
           let w = get_take (acts s) d.of.number y.0 y.1 y.2 in
           go d y.0 y.1 w.0 w.1 (and_parts (runs v y.1) (is_on d.of.it.operator y.1) y.3)
         where
-          go : (d : Called u) (i : ℕ) (y : Act) → i < d.of.number → slice_get (acts s) i ≡ Some y → (runs v y ≡ true) × (is_on d.of.it.operator y ≡ true) → ((calling prog v).sequence ≡ (calling prog u).sequence) × ((calling prog v).at < (calling prog u).at)
+          go : (d : Called u) (i : ℕ) (y : Act) → i < d.of.number → slice_get (acts s) i ≡ Some y → (runs v y ≡ true)
+              × (is_on d.of.it.operator y ≡ true) → ((calling prog v).sequence ≡ (calling prog u).sequence) × ((calling prog v).at < (calling prog u).at)
           go d i (carry t) l ia h = absurd (false≢true h.0)
           go d i (run o) l ia h =
               let op : v ≡ c.of.it.op = called_op (calling prog v).sequence (calling prog v).at v (calling prog v).ins (calling prog v).outs c.of in
@@ -235,15 +248,20 @@ module _ (g : Graph) (a : Architecture) (ticks : ℕ → ℕ → Option ℕ) (s 
               let act : run o ≡ run c.of.it = same_Some (run o) (run c.of.it) (sym ia ∙ ap (slice_get (acts s)) same ∙ c.of.act) in
               let operator : c.of.it.operator ≡ d.of.it.operator = sym (ap (λ (x : Act). operator_in x) act) ∙ eqb-true o.operator d.of.it.operator h.1 in
               let seq : (calling prog v).sequence ≡ (calling prog u).sequence
-              = ap (λ (y : Step). y.sequence) c.of.is ∙ ap (λ (n : ℕ). Rattle.sequence_build_laws.specs.Serial.number_of g a s (record { operator = n; medium = None })) operator ∙ sym (ap (λ (y : Step). y.sequence) d.of.is) in
-              let rise = starts_rise (steps_of g a s) (acts s) c.of.number d.of.number 0 0 (run c.of.it) c.of.act (omega arith) (slice_get_within (steps_of g a s (run c.of.it)) 0 (steps.calling g a s c.of.it) refl) in
+              = ap (λ (y : Step). y.sequence) c.of.is
+              ∙ ap (λ (n : ℕ). Rattle.sequence_build_laws.specs.Serial.number_of g a s
+              (record { operator = n; medium = None })) operator ∙ sym (ap (λ (y : Step). y.sequence) d.of.is) in
+              let rise = starts_rise (steps_of g a s) (acts s) c.of.number d.of.number 0 0 (run c.of.it) c.of.act (omega arith)
+              (slice_get_within (steps_of g a s (run c.of.it)) 0 (steps.calling g a s c.of.it) refl) in
               (seq, in_one (calling prog v).sequence (calling prog u).sequence seq c.of.entry d.of.entry (let x = c.of.block in let z = d.of.block in omega arith))
             where
               operator_in : Act → ℕ
               operator_in (carry t) = 0
               operator_in (run d) = d.operator
 
-              in_one : (m n : ℕ) → m ≡ n → (h : Here It m (calling prog v).at (Call v (calling prog v).ins (calling prog v).outs)) (k : Here It n (calling prog u).at (Call u (calling prog u).ins (calling prog u).outs))
+              in_one : (m n : ℕ) → m ≡ n → (h : Here It m (calling prog v).at (Call v (calling prog v).ins (calling prog v).outs))
+                  (k : Here It n (calling prog u).at (Call u (calling prog u).ins (calling prog u).outs))
                   → h.block_number < k.block_number → (calling prog v).at < (calling prog u).at
-              in_one m n same = subst (λ (r : ℕ). (h : Here It m (calling prog v).at (Call v (calling prog v).ins (calling prog v).outs)) (k : Here It r (calling prog u).at (Call u (calling prog u).ins (calling prog u).outs))
+              in_one m n same = subst (λ (r : ℕ). (h : Here It m (calling prog v).at (Call v (calling prog v).ins (calling prog v).outs))
+                  (k : Here It r (calling prog u).at (Call u (calling prog u).ins (calling prog u).outs))
                   → h.block_number < k.block_number → (calling prog v).at < (calling prog u).at) same (λ h k l. earlier_here It m (calling prog v).at (calling prog u).at _ _ h k (inl l))

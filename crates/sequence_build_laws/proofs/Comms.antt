@@ -1,5 +1,36 @@
 -- Communications: each communicator of a medium has one in each transfer over it, in the order of the transfers.
-use Rattle.std.proofs.Common.{◌≡◌, ℕ, zero, suc, ◌+◌, ◌<◌, ◌≤◌, Bool, true, false, ◌&&◌, not, cond, nat_eq, List, [], ◌∷◌, ◌++◌, length, map, take, Option, Some, refl, sym, ap, arith, ◌∙◌, eq-eqb, ne_eqb}
+use Rattle.std.proofs.Common.{
+  ◌≡◌,
+  ℕ,
+  zero,
+  suc,
+  ◌+◌,
+  ◌<◌,
+  ◌≤◌,
+  Bool,
+  true,
+  false,
+  ◌&&◌,
+  not,
+  cond,
+  nat_eq,
+  List,
+  [],
+  ◌∷◌,
+  ◌++◌,
+  length,
+  map,
+  take,
+  Option,
+  Some,
+  refl,
+  sym,
+  ap,
+  arith,
+  ◌∙◌,
+  eq-eqb,
+  ne_eqb,
+}
 use Rattle.std.specs.Prelude.{slice_get}
 use Rattle.std.specs.List.{flat_map, filter, list_any}
 use Rattle.std.specs.Cmp.Derive.{both_true}
@@ -22,7 +53,24 @@ use Rattle.executive_program.specs.declared.program.Instr.TheVariants.{Suc0, Suc
 use Rattle.executive_program.specs.declared.program.Program.{Program}
 use Rattle.executive_program.specs.Instructions.{Reader, is_communication, turn, medium, operator, same_medium}
 use Rattle.executive_program.specs.WellFormed.{Stands}
-use Rattle.sequence_build_laws.specs.Serial.{Step, step, projection, numbers_where, is_other, reads_first, reads_last, is_filled, pairs_where, block, steps_at, steps_of, number_of, plain_steps, pairs, serial}
+use Rattle.sequence_build_laws.specs.Serial.{
+  Step,
+  step,
+  projection,
+  numbers_where,
+  is_other,
+  reads_first,
+  reads_last,
+  is_filled,
+  pairs_where,
+  block,
+  steps_at,
+  steps_of,
+  number_of,
+  plain_steps,
+  pairs,
+  serial,
+}
 use Rattle.sequence_build_laws.specs.Built.{program_with}
 use Rattle.sequence_build_laws.proofs.Lists.{map_at, starts, take_flat, tally, tally_yes, tally_not, tally-append, tally_grows, tally_rises, take_get}
 use Rattle.sequence_build_laws.proofs.Loops as loops
@@ -71,10 +119,12 @@ module _ (pairs : List Reader) (s : ℕ) (v : Standing Step) where
   test = comm_in s
 
   line_none : (f : ℕ → Instr) (ns : List ℕ) → ((q : ℕ) → is_communication (f q) ≡ false) → tally (comm_in s) (map (step v.it.sequence) (map f ns)) ≡ 0
-  line_none f ns h = tally-map (comm_in s) (step v.it.sequence) (map f ns) ∙ none_pass (λ (x : Instr). comm_in s (step v.it.sequence x)) f ns (λ q. and_right (nat_eq v.it.sequence s) (is_communication (f q)) (h q))
+  line_none f ns h = tally-map (comm_in s) (step v.it.sequence) (map f ns)
+      ∙ none_pass (λ (x : Instr). comm_in s (step v.it.sequence x)) f ns (λ q. and_right (nat_eq v.it.sequence s) (is_communication (f q)) (h q))
 
   tally_split : (f : Instr → Step) (xs ys : List Instr) → tally (comm_in s) (map f (xs ++ ys)) ≡ tally (comm_in s) (map f xs) + tally (comm_in s) (map f ys)
-  tally_split f xs ys = tally-map (comm_in s) f (xs ++ ys) ∙ tally-append (λ (x : Instr). comm_in s (f x)) xs ys ∙ (let e = tally-map (comm_in s) f xs in let d = tally-map (comm_in s) f ys in omega arith)
+  tally_split f xs ys = tally-map (comm_in s) f (xs ++ ys) ∙ tally-append (λ (x : Instr). comm_in s (f x)) xs ys
+      ∙ (let e = tally-map (comm_in s) f xs in let d = tally-map (comm_in s) f ys in omega arith)
 
   abbrev firsts : List Instr
   firsts = map Suc1 (pairs_where pairs (reads_first v))
@@ -115,7 +165,8 @@ module _ (pairs : List Reader) (s : ℕ) (v : Standing Step) where
       by : (t : Bool) → comm_in s v.it ≡ t → tally (comm_in s) (take (middle pairs v) (steps_at pairs v)) ≡ 0
       by true e = let g = tally_grows (comm_in s) (steps_at pairs v) (middle pairs v) (length (steps_at pairs v)) v.it there e (slice_get_within (steps_at pairs v) (middle pairs v) v.it there) in
           let w : tally (comm_in s) (steps_at pairs v) ≡ 1 = in_block ∙ ap (λ (t : Bool). cond t 1 0) e in let y = all in omega arith
-      by false e = let g = tally_rises (comm_in s) (steps_at pairs v) (middle pairs v) (length (steps_at pairs v)) (let z = slice_get_within (steps_at pairs v) (middle pairs v) v.it there in omega arith) in
+      by false e = let g = tally_rises (comm_in s) (steps_at pairs v) (middle pairs v) (length (steps_at pairs v))
+          (let z = slice_get_within (steps_at pairs v) (middle pairs v) v.it there in omega arith) in
           let w : tally (comm_in s) (steps_at pairs v) ≡ 0 = in_block ∙ ap (λ (t : Bool). cond t 1 0) e in let y = all in omega arith
 
 turn_tally : (f : Standing Step → List Step) (p : Step → Bool) (h : (v : Standing Step) → tally p (f v) ≡ cond (p v.it) 1 0) (before xs : List Step) (c : ℕ)
@@ -129,7 +180,8 @@ turn_tally f p h before (x ∷ xs) (suc c) =
     let k = h v in by (p x) k d e
   where
     by : (t : Bool) → tally p (f (record { before = before; it = x; after = xs })) ≡ cond t 1 0 → tally p (flat_map f (take c (in_turn_after (before ++ x ∷ []) xs))) ≡ tally p (take c xs)
-        → tally p (f (record { before = before; it = x; after = xs }) ++ flat_map f (take c (in_turn_after (before ++ x ∷ []) xs))) ≡ tally p (f (record { before = before; it = x; after = xs })) + tally p (flat_map f (take c (in_turn_after (before ++ x ∷ []) xs)))
+        → tally p (f (record { before = before; it = x; after = xs }) ++ flat_map f (take c (in_turn_after (before ++ x ∷ []) xs)))
+        ≡ tally p (f (record { before = before; it = x; after = xs })) + tally p (flat_map f (take c (in_turn_after (before ++ x ∷ []) xs)))
         → tally p (f (record { before = before; it = x; after = xs }) ++ flat_map f (take c (in_turn_after (before ++ x ∷ []) xs))) ≡ cond t (suc (tally p (take c xs))) (tally p (take c xs))
     by true k d e = omega arith
     by false k d e = omega arith
@@ -147,21 +199,25 @@ number_tally test n zero z (x ∷ xs) q e h = by (test x) (ap test (same_Some x 
     past m [] l = refl
     past m (y ∷ ys) l = go (test y) (past (suc m) ys (omega arith))
       where
-        go : (b : Bool) → tally (λ k. nat_eq k z && true) (numbers_where test (suc m) ys) ≡ 0 → tally (λ k. nat_eq k z && true) (cond b (m ∷ numbers_where test (suc m) ys) (numbers_where test (suc m) ys)) ≡ 0
+        go : (b : Bool) → tally (λ k. nat_eq k z && true) (numbers_where test (suc m) ys) ≡ 0
+            → tally (λ k. nat_eq k z && true) (cond b (m ∷ numbers_where test (suc m) ys) (numbers_where test (suc m) ys)) ≡ 0
         go true r = tally_not (λ k. nat_eq k z && true) m (numbers_where test (suc m) ys) (ap (λ (b : Bool). b && true) (ne_eqb m z (λ e. omega arith))) ∙ r
         go false r = r
 
     by : (b : Bool) → b ≡ test q → tally (λ k. nat_eq k z && true) (cond b (n ∷ numbers_where test (suc n) xs) (numbers_where test (suc n) xs)) ≡ cond (test q) 1 0
-    by true t = tally_yes (λ k. nat_eq k z && true) n (numbers_where test (suc n) xs) (ap (λ (b : Bool). b && true) (eq-eqb n z (omega arith))) ∙ ap (λ (k : ℕ). suc k) (past (suc n) xs (omega arith)) ∙ ap (λ (b : Bool). cond b 1 0) t
+    by true t = tally_yes (λ k. nat_eq k z && true) n (numbers_where test (suc n) xs)
+        (ap (λ (b : Bool). b && true) (eq-eqb n z (omega arith))) ∙ ap (λ (k : ℕ). suc k) (past (suc n) xs (omega arith)) ∙ ap (λ (b : Bool). cond b 1 0) t
     by false t = past (suc n) xs (omega arith) ∙ ap (λ (b : Bool). cond b 1 0) t
 number_tally test n (suc s) z (x ∷ xs) q e h = by (test x) (number_tally test (suc n) s z xs q e (omega arith))
   where
-    by : (b : Bool) → tally (λ k. nat_eq k z && true) (numbers_where test (suc n) xs) ≡ cond (test q) 1 0 → tally (λ k. nat_eq k z && true) (cond b (n ∷ numbers_where test (suc n) xs) (numbers_where test (suc n) xs)) ≡ cond (test q) 1 0
+    by : (b : Bool) → tally (λ k. nat_eq k z && true) (numbers_where test (suc n) xs) ≡ cond (test q) 1 0
+        → tally (λ k. nat_eq k z && true) (cond b (n ∷ numbers_where test (suc n) xs) (numbers_where test (suc n) xs)) ≡ cond (test q) 1 0
     by true r = tally_not (λ k. nat_eq k z && true) n (numbers_where test (suc n) xs) (ap (λ (b : Bool). b && true) (ne_eqb n z (λ e. omega arith))) ∙ r
     by false r = r
 
 -- of three, at a medium one
-one_of_three : (on from to : Bool) → (from ≡ true → to ≡ true → ⊥) → (n : ℕ) → n ≡ cond (on && not from && not to) 1 0 → cond (from && on) (suc (cond (to && on) (suc n) n)) (cond (to && on) (suc n) n) ≡ cond on 1 0
+one_of_three : (on from to : Bool) → (from ≡ true → to ≡ true → ⊥) → (n : ℕ) → n ≡ cond (on && not from && not to) 1 0
+    → cond (from && on) (suc (cond (to && on) (suc n) n)) (cond (to && on) (suc n) n) ≡ cond on 1 0
 one_of_three true true true h n e = absurd (h refl refl)
 one_of_three true true false h n e = ap (λ (k : ℕ). suc k) e
 one_of_three true false true h n e = ap (λ (k : ℕ). suc k) e
@@ -203,7 +259,8 @@ module _ (g : Graph) (a : Architecture) (ticks : ℕ → ℕ → Option ℕ) (s 
       false≢true (sym o.fresh ∙ any_at (λ y. list_any (same_copy (copy t.to t.source)) (made_by g.vertices y)) (take i (acts s)) m.at m.act (take_get (acts s) i m.at m.act m.less m.stands) there)
 
   -- whether a sequence is the communicator that was looked for
-  at_sequence : (n u : ℕ) (q : Seq) (o m : ℕ) → slice_get (sequences a) u ≡ Some q → slice_get (sequences a) n ≡ Some (record { operator = o; medium = Some m }) → nat_eq n u ≡ (nat_eq q.operator o && same_medium q.medium (Some m))
+  at_sequence : (n u : ℕ) (q : Seq) (o m : ℕ) → slice_get (sequences a) u ≡ Some q → slice_get (sequences a) n
+      ≡ Some (record { operator = o; medium = Some m }) → nat_eq n u ≡ (nat_eq q.operator o && same_medium q.medium (Some m))
   at_sequence n u q o m e h = same_bool (nat_eq n u) (nat_eq q.operator o && same_medium q.medium (Some m)) there back
     where
       there : nat_eq n u ≡ true → (nat_eq q.operator o && same_medium q.medium (Some m)) ≡ true
@@ -220,7 +277,8 @@ module _ (g : Graph) (a : Architecture) (ticks : ℕ → ℕ → Option ℕ) (s 
           eq-eqb n u (one_sequence a n u q (h ∙ ap (λ (r : Seq). Some r) (sym same)) e)
 
   -- each transfer over a medium is one communication of each of its communicators
-  pub in_act : (u m : ℕ) (q : Seq) → slice_get (sequences a) u ≡ Some q → q.medium ≡ Some m → (i : ℕ) (x : Act) → slice_get (acts s) i ≡ Some x → tally (comm_in u) (steps_of g a s x) ≡ cond (is_over m x) 1 0
+  pub in_act : (u m : ℕ) (q : Seq) → slice_get (sequences a) u ≡ Some q → q.medium ≡ Some m → (i : ℕ) (x : Act) → slice_get (acts s) i
+      ≡ Some x → tally (comm_in u) (steps_of g a s x) ≡ cond (is_over m x) 1 0
   in_act u m q e h i (run d) k = tally_not (comm_in u) (calling g a s d) [] (and_right (nat_eq (calling g a s d).sequence u) false refl)
   in_act u m q e h i (carry t) k =
       let n = number_of g a s (record { operator = t.from; medium = Some t.medium }) in
@@ -234,8 +292,11 @@ module _ (g : Graph) (a : Architecture) (ticks : ℕ → ℕ → Option ℕ) (s 
       = tally-map (comm_in u) (λ k. waiting g a s t k) ns ∙ number_tally (is_other t) 0 u u (sequences a) q e (omega arith) in
       let on : same_medium q.medium (Some t.medium) ≡ nat_eq t.medium m = ap (λ (o : Option ℕ). same_medium o (Some t.medium)) h
       ∙ same_bool (nat_eq m t.medium) (nat_eq t.medium m) (λ z. eq-eqb t.medium m (sym (eqb-true m t.medium z))) (λ z. eq-eqb m t.medium (sym (eqb-true t.medium m z))) in
-      (λ j. cond (x j) (suc (cond (y j) (suc (tally (comm_in u) (map (λ k. waiting g a s t k) (numbers_where (is_other t) 0 (sequences a))))) (tally (comm_in u) (map (λ k. waiting g a s t k) (numbers_where (is_other t) 0 (sequences a))))))
-      (cond (y j) (suc (tally (comm_in u) (map (λ k. waiting g a s t k) (numbers_where (is_other t) 0 (sequences a))))) (tally (comm_in u) (map (λ k. waiting g a s t k) (numbers_where (is_other t) 0 (sequences a))))))
+      (λ j. cond (x j) (suc (cond (y j)
+      (suc (tally (comm_in u) (map (λ k. waiting g a s t k) (numbers_where (is_other t) 0 (sequences a)))))
+      (tally (comm_in u) (map (λ k. waiting g a s t k) (numbers_where (is_other t) 0 (sequences a))))))
+      (cond (y j) (suc (tally (comm_in u) (map (λ k. waiting g a s t k) (numbers_where (is_other t) 0 (sequences a)))))
+      (tally (comm_in u) (map (λ k. waiting g a s t k) (numbers_where (is_other t) 0 (sequences a))))))
       ∙ one_of_three (same_medium q.medium (Some t.medium)) (nat_eq q.operator t.from) (nat_eq q.operator t.to)
       (λ b c. ends_differ i t k (sym (eqb-true q.operator t.from b) ∙ eqb-true q.operator t.to c))
       (tally (comm_in u) (map (λ k. waiting g a s t k) (numbers_where (is_other t) 0 (sequences a)))) w
@@ -256,7 +317,9 @@ module _ (g : Graph) (a : Architecture) (ticks : ℕ → ℕ → Option ℕ) (s 
 
     turn_of : (u : ℕ) (q : Seq) → slice_get (sequences a) u ≡ Some q → turn p u ≡ projection (serial g a s) u
     turn_of u q e = loops.turn_is p (serial g a s) S.prologues (sequences a) refl (lines.serial_low S.pairs S.plain S.program S.prologues S.seqs S.codes_are S.low) u
-        (let l = slice_get_within (sequences a) u q e in let z = loops.seqs_length p (serial g a s) S.prologues (sequences a) refl (lines.serial_low S.pairs S.plain S.program S.prologues S.seqs S.codes_are S.low) in omega arith)
+        (let l = slice_get_within (sequences a) u q e in
+        let z = loops.seqs_length p (serial g a s) S.prologues (sequences a) refl
+        (lines.serial_low S.pairs S.plain S.program S.prologues S.seqs S.codes_are S.low) in omega arith)
 
     -- the communications of a communicator in all
     pub count_all : (u m : ℕ) (q : Seq) → slice_get (sequences a) u ≡ Some q → q.medium ≡ Some m → tally is_communication (turn p u) ≡ tally (is_over m) (acts s)
@@ -266,7 +329,8 @@ module _ (g : Graph) (a : Architecture) (ticks : ℕ → ℕ → Option ℕ) (s 
         let one = turn_tally (steps_at (pairs g a s)) (comm_in u) (in_block (pairs g a s) u) [] (plain_steps g a s) (length (in_turn (plain_steps g a s))) in
         let two = flat_tally (steps_of g a s) (comm_in u) (is_over m) (acts s) (in_act u m q e h) (length (acts s)) in
         ap (tally is_communication) (turn_of u q e) ∙ comms_of u (serial g a s)
-        ∙ ap (λ (l : List (Standing Step)). tally (comm_in u) (flat_map (steps_at (pairs g a s)) l)) (sym (Rattle.std.proofs.lemmas.List.take_all (length (in_turn (plain_steps g a s))) (in_turn (plain_steps g a s)) (omega arith)))
+        ∙ ap (λ (l : List (Standing Step)). tally (comm_in u) (flat_map (steps_at (pairs g a s)) l))
+        (sym (Rattle.std.proofs.lemmas.List.take_all (length (in_turn (plain_steps g a s))) (in_turn (plain_steps g a s)) (omega arith)))
         ∙ one
         ∙ ap (tally (comm_in u)) (Rattle.std.proofs.lemmas.List.take_all (length (in_turn (plain_steps g a s))) (plain_steps g a s) (let z = turn_length [] (plain_steps g a s) in omega arith))
         ∙ ap (λ (l : List Act). tally (comm_in u) (flat_map (steps_of g a s) l)) (sym (Rattle.std.proofs.lemmas.List.take_all (length (acts s)) (acts s) (omega arith)))
@@ -280,7 +344,8 @@ module _ (g : Graph) (a : Architecture) (ticks : ℕ → ℕ → Option ℕ) (s 
     count_at u m at q x h c e k comm i j act ia st is =
         let ps = pairs g a s in
         let front : at ≡ tally (is_of u) (take h.entry.at (serial g a s)) = sym h.entry.number in
-        let place : h.entry.at ≡ starts (steps_at (pairs g a s)) (in_turn (plain_steps g a s)) h.block_number + middle (pairs g a s) h.it = h.entry_at ∙ ap (λ (n : ℕ). starts (steps_at (pairs g a s)) (in_turn (plain_steps g a s)) h.block_number + n) c.inner in
+        let place : h.entry.at ≡ starts (steps_at (pairs g a s)) (in_turn (plain_steps g a s)) h.block_number + middle (pairs g a s) h.it =
+        h.entry_at ∙ ap (λ (n : ℕ). starts (steps_at (pairs g a s)) (in_turn (plain_steps g a s)) h.block_number + n) c.inner in
         let within : middle (pairs g a s) h.it ≤ length (steps_at (pairs g a s) h.it) = (let w = h.within in let y = c.inner in omega arith) in
         let one = turn_tally (steps_at (pairs g a s)) (comm_in u) (in_block (pairs g a s) u) [] (plain_steps g a s) h.block_number in
         let none = before_middle (pairs g a s) u h.it in
@@ -325,7 +390,8 @@ module _ (g : Graph) (a : Architecture) (ticks : ℕ → ℕ → Option ℕ) (s 
     comm_plain (Pre1 q) h = h
     comm_plain _ h = refl
 
-    medium_of_kind : (i j : ℕ) (t : Transfer) (y : Step) → slice_get (acts s) i ≡ Some (carry t) → Kind g a s (carry t) j y → (q : Seq) × (slice_get (sequences a) y.sequence ≡ Some q) × (q.medium ≡ Some t.medium)
+    medium_of_kind : (i j : ℕ) (t : Transfer) (y : Step) → slice_get (acts s) i ≡ Some (carry t) → Kind g a s (carry t) j y → (q : Seq)
+        × (slice_get (sequences a) y.sequence ≡ Some q) × (q.medium ≡ Some t.medium)
     medium_of_kind i j t y e (steps.sends z w h) = (_, ap (λ (w : Step). slice_get (sequences a) w.sequence) h ∙ from_there g a ticks s right valid i z e, refl)
     medium_of_kind i j t y e (steps.receives z w h) = (_, ap (λ (w : Step). slice_get (sequences a) w.sequence) h ∙ to_there g a ticks s right valid i z e, refl)
     medium_of_kind i j t y e (steps.waits z k q r w n o h) =
@@ -333,12 +399,26 @@ module _ (g : Graph) (a : Architecture) (ticks : ℕ → ℕ → Option ℕ) (s 
         let on = and_parts (same_medium r.medium (Some z.medium)) (not (nat_eq r.operator z.from)) parts.0 in
         (r, ap (λ (w : Step). slice_get (sequences a) w.sequence) h ∙ n, medium_is_same r.medium (Some z.medium) on.0)
 
-    comm_with : (u at : ℕ) (x : Instr) (h : Here S u at x) → Core S u at x h → is_communication x ≡ true → (i j : ℕ) (act : Act) → slice_get (acts s) i ≡ Some act → slice_get (steps_of g a s act) j ≡ Some (step u x)
+    comm_with : (u at : ℕ) (x : Instr) (h : Here S u at x) → Core S u at x h → is_communication x ≡ true → (i j : ℕ) (act : Act)
+        → slice_get (acts s) i ≡ Some act → slice_get (steps_of g a s act) j ≡ Some (step u x)
         → h.block_number ≡ starts (steps_of g a s) (acts s) i + j → Comm u at x
     comm_with u at x h c comm i j (carry t) ia st is =
         let k = kind_of g a s (carry t) j (step u x) st in
         let m = medium_of_kind i j t (step u x) ia k in
-        record { entry = h; number = i; transfer = t; inner = j; act = ia; kind = k; block = is; seq = m.0; sequence = m.1; on = m.2; count = count_at u t.medium at m.0 x h c m.1 m.2 comm i j (carry t) ia st is }
+        record {
+          entry = h;
+          number = i;
+          transfer = t;
+          inner = j;
+          act = ia;
+          kind = k;
+          block = is;
+          seq = m.0;
+          sequence = m.1;
+          on =
+              m.2;
+          count = count_at u t.medium at m.0 x h c m.1 m.2 comm i j (carry t) ia st is;
+        }
     comm_with u at x h c comm i zero (run d) ia st is = absurd (false≢true (ap (λ (y : Step). is_communication y.instr) (same_Some (calling g a s d) (step u x) st) ∙ comm))
     comm_with u at x h c comm i (suc j) (run d) ia st is = absurd cc
 

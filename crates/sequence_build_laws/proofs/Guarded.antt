@@ -52,7 +52,8 @@ module _ (ps : List Reader) (s : ℕ) where
       mine : s ≡ r.sequence
       mine = eqb-true s r.sequence own
 
-      by : (b : Bool) → nat_eq x.sequence s ≡ b → list_any (reads_for r) xs ≡ list_any (reads_in ps s r) (projection xs s) → list_any (reads_for r) (x ∷ xs) ≡ list_any (reads_in ps s r) (projection (x ∷ xs) s)
+      by : (b : Bool) → nat_eq x.sequence s ≡ b → list_any (reads_for r) xs ≡ list_any (reads_in ps s r) (projection xs s)
+          → list_any (reads_for r) (x ∷ xs) ≡ list_any (reads_in ps s r) (projection (x ∷ xs) s)
       by true e ih =
           (λ i. (nat_eq (eqb-true x.sequence s e i) r.sequence && reads r.buffer x.instr) || ih i)
           ∙ ap (list_any (reads_in ps s r)) (sym (one-projected x s true e xs))
@@ -68,12 +69,15 @@ module _ (ps : List Reader) (s : ℕ) where
   global bs x xs = record { before = bs; it = x; after = xs }
 
   -- a test of an instruction and of others around it
-  around_same : (r : Reader) (x : Step) (others : List Step) → x.sequence ≡ s → (reads_for r x && not (list_any (reads_for r) others)) ≡ (reads_in ps s r x.instr && not (list_any (reads_in ps s r) (projection others s)))
+  around_same : (r : Reader) (x : Step) (others : List Step) → x.sequence ≡ s → (reads_for r x && not (list_any (reads_for r) others))
+      ≡ (reads_in ps s r x.instr && not (list_any (reads_in ps s r) (projection others s)))
   around_same r x others e = (λ i. (nat_eq (e i) r.sequence && reads r.buffer x.instr) && not (list_any (reads_for r) others)) ∙ by (nat_eq s r.sequence) refl
     where
-      by : (b : Bool) → nat_eq s r.sequence ≡ b → ((nat_eq s r.sequence && reads r.buffer x.instr) && not (list_any (reads_for r) others)) ≡ ((nat_eq s r.sequence && reads r.buffer x.instr) && not (list_any (reads_in ps s r) (projection others s)))
+      by : (b : Bool) → nat_eq s r.sequence ≡ b → ((nat_eq s r.sequence && reads r.buffer x.instr) && not (list_any (reads_for r) others))
+          ≡ ((nat_eq s r.sequence && reads r.buffer x.instr) && not (list_any (reads_in ps s r) (projection others s)))
       by true own = λ i. (nat_eq s r.sequence && reads r.buffer x.instr) && not (any_same r own others i)
-      by false own = (λ i. (own i && reads r.buffer x.instr) && not (list_any (reads_for r) others)) ∙ sym (λ i. (own i && reads r.buffer x.instr) && not (list_any (reads_in ps s r) (projection others s)))
+      by false own = (λ i. (own i && reads r.buffer x.instr) && not (list_any (reads_for r) others))
+          ∙ sym (λ i. (own i && reads r.buffer x.instr) && not (list_any (reads_in ps s r) (projection others s)))
 
   block_same : (bs : List Step) (x : Step) (xs : List Step) → x.sequence ≡ s → block ps (global bs x xs) ≡ lines_at ps s (local bs x xs)
   block_same bs x xs e = λ i.
@@ -84,8 +88,10 @@ module _ (ps : List Reader) (s : ℕ) where
   after_same bs [] = refl
   after_same bs (x ∷ xs) = projection-append (steps_at ps (global bs x xs)) (flat_map (steps_at ps) (in_turn_after (bs ++ x ∷ []) xs)) s ∙ by (nat_eq x.sequence s) refl (after_same (bs ++ x ∷ []) xs)
     where
-      by : (b : Bool) → nat_eq x.sequence s ≡ b → projection (flat_map (steps_at ps) (in_turn_after (bs ++ x ∷ []) xs)) s ≡ flat_map (lines_at ps s) (in_turn_after (projection (bs ++ x ∷ []) s) (projection xs s))
-          → projection (steps_at ps (global bs x xs)) s ++ projection (flat_map (steps_at ps) (in_turn_after (bs ++ x ∷ []) xs)) s ≡ flat_map (lines_at ps s) (in_turn_after (projection bs s) (projection (x ∷ xs) s))
+      by : (b : Bool) → nat_eq x.sequence s ≡ b → projection (flat_map (steps_at ps) (in_turn_after (bs ++ x ∷ []) xs)) s
+          ≡ flat_map (lines_at ps s) (in_turn_after (projection (bs ++ x ∷ []) s) (projection xs s))
+          → projection (steps_at ps (global bs x xs)) s ++ projection (flat_map (steps_at ps) (in_turn_after (bs ++ x ∷ []) xs)) s
+          ≡ flat_map (lines_at ps s) (in_turn_after (projection bs s) (projection (x ∷ xs) s))
       by true e ih =
           let here = steps-projected x.sequence s true e (block ps (global bs x xs)) ∙ block_same bs x xs (eqb-true x.sequence s e) in
           let past : projection (bs ++ x ∷ []) s ≡ projection bs s ++ x.instr ∷ [] = projection-append bs (x ∷ []) s ∙ ap (λ (l : List Instr). projection bs s ++ l) (one-projected x s true e []) in
@@ -93,7 +99,8 @@ module _ (ps : List Reader) (s : ℕ) where
           ∙ ap (λ (l : List Instr). flat_map (lines_at ps s) (in_turn_after (projection bs s) l)) (sym (one-projected x s true e xs))
       by false e ih =
           let here = steps-projected x.sequence s false e (block ps (global bs x xs)) in
-          let past : projection (bs ++ x ∷ []) s ≡ projection bs s = projection-append bs (x ∷ []) s ∙ (ap (λ (l : List Instr). projection bs s ++ l) (one-projected x s false e []) ∙ append-nil (projection bs s)) in
+          let past : projection (bs ++ x ∷ []) s ≡ projection bs s = projection-append bs (x ∷ []) s
+          ∙ (ap (λ (l : List Instr). projection bs s ++ l) (one-projected x s false e []) ∙ append-nil (projection bs s)) in
           (λ i. here i ++ (ih ∙ ap (λ (l : List Instr). flat_map (lines_at ps s) (in_turn_after l (projection xs s))) past) i)
           ∙ ap (λ (l : List Instr). flat_map (lines_at ps s) (in_turn_after (projection bs s) l)) (sym (one-projected x s false e xs))
 

@@ -1,5 +1,41 @@
 -- The pairs of the plain order are those of the program, each buffer is written once and read after that, and each pair guards its buffer.
-use Rattle.std.proofs.Common.{◌≡◌, ℕ, zero, suc, ◌+◌, ◌-◌, ◌<◌, ◌≤◌, ◌⊎◌, Bool, true, false, ◌&&◌, not, cond, nat_eq, List, [], ◌∷◌, ◌++◌, length, map, take, drop, Option, Some, refl, sym, ap, subst, inl, inr, arith, ◌∙◌, eq-eqb}
+use Rattle.std.proofs.Common.{
+  ◌≡◌,
+  ℕ,
+  zero,
+  suc,
+  ◌+◌,
+  ◌-◌,
+  ◌<◌,
+  ◌≤◌,
+  ◌⊎◌,
+  Bool,
+  true,
+  false,
+  ◌&&◌,
+  not,
+  cond,
+  nat_eq,
+  List,
+  [],
+  ◌∷◌,
+  ◌++◌,
+  length,
+  map,
+  take,
+  drop,
+  Option,
+  Some,
+  refl,
+  sym,
+  ap,
+  subst,
+  inl,
+  inr,
+  arith,
+  ◌∙◌,
+  eq-eqb,
+}
 use Rattle.std.specs.Prelude.{slice_get}
 use Rattle.std.specs.List.{flat_map, list_any, position_or_len, filter}
 use Rattle.std.specs.Cmp.Derive.{both_true}
@@ -24,10 +60,41 @@ use Rattle.executive_program.specs.WellFormed.{Stands, WritesAt, ReadsAt, IsOnly
 use Rattle.executive_program.proofs.Passing as passing
 use Rattle.sequence_build_laws.specs.Serial.{Step, step, projection, codes, steps_at, reads_for, reads_first, reads_last, is_filled, pairs_where, block}
 use Rattle.sequence_build_laws.specs.Built.{operator_in}
-use Rattle.sequence_build_laws.proofs.Lists.{first, take_get, get_drop, get_some, from_map, map_at, in_flat, flat_at, starts, from_filter, filter_at, tally, from_turn, turn_at, take_next, numbers-append}
+use Rattle.sequence_build_laws.proofs.Lists.{
+  first,
+  take_get,
+  get_drop,
+  get_some,
+  from_map,
+  map_at,
+  in_flat,
+  flat_at,
+  starts,
+  from_filter,
+  filter_at,
+  tally,
+  from_turn,
+  turn_at,
+  take_next,
+  numbers-append,
+}
 use Rattle.sequence_build_laws.proofs.Loops.{is_of, codes_at, codes_length, step_is, first_in, first_of_all}
 use Rattle.sequence_build_laws.proofs.Lines as lines
-use Rattle.sequence_build_laws.proofs.Lines.{is_plain, middle, Line, Pair, full_taken, empty_taken, full_signalled, empty_signalled, full_taken_there, empty_taken_there, full_signalled_there, empty_signalled_there, middle_there}
+use Rattle.sequence_build_laws.proofs.Lines.{
+  is_plain,
+  middle,
+  Line,
+  Pair,
+  full_taken,
+  empty_taken,
+  full_signalled,
+  empty_signalled,
+  full_taken_there,
+  empty_taken_there,
+  full_signalled_there,
+  empty_signalled_there,
+  middle_there,
+}
 use Rattle.sequence_build_laws.proofs.Setting.{Setting, reads_plain, writes_plain, first_one, last_one, order, Here, here, there, before_of, same_here, earlier_here, line_of, Core, core_of, placed}
 
 -- what stands in a projection stands in the order
@@ -73,14 +140,17 @@ module _ (pairs : List Reader) (plain : List Step) (test : Instr → Bool) (only
       let v = turn_at [] plain i.0 (step s a.1) i.1 in
       let t = from_turn [] plain i.0 v.0 v.1 in
       let same : v.0.it ≡ step s a.1 = same_Some v.0.it (step s a.1) (sym t.stands ∙ i.1) in
-      let there = flat_at (steps_at pairs) (in_turn plain) i.0 (middle pairs v.0) v.0 (step v.0.it.sequence v.0.it.instr) v.1 (map_at (step v.0.it.sequence) (block pairs v.0) (middle pairs v.0) v.0.it.instr (middle_there pairs v.0)) in
+      let there = flat_at (steps_at pairs) (in_turn plain) i.0 (middle pairs v.0) v.0 (step v.0.it.sequence v.0.it.instr) v.1
+      (map_at (step v.0.it.sequence) (block pairs v.0) (middle pairs v.0) v.0.it.instr (middle_there pairs v.0)) in
       let b = projection_at all_steps (starts (steps_at pairs) (in_turn plain) i.0 + middle pairs v.0) s a.1 (there ∙ ap (λ (y : Step). Some (step y.sequence y.instr)) same) in
       any_at test (projection all_steps s) b.0 a.1 b.1 a.3
 
   pub same_any : list_any test (projection all_steps s) ≡ list_any test (projection plain s)
   same_any = same_bool (list_any test (projection all_steps s)) (list_any test (projection plain s)) to_plain of_plain
 
-readers_same : (f t g u : ℕ → List Instr) (b : ℕ) → ((s : ℕ) → (list_any (reads b) (t s) && not (list_any (writes b) (t s))) ≡ (list_any (reads b) (u s) && not (list_any (writes b) (u s)))) → (s : ℕ) (qs : List Seq)
+readers_same : (f t g u : ℕ → List Instr) (b : ℕ)
+    → ((s : ℕ) → (list_any (reads b) (t s) && not (list_any (writes b) (t s)))
+    ≡ (list_any (reads b) (u s) && not (list_any (writes b) (u s)))) → (s : ℕ) (qs : List Seq)
     → readers_from s (codes f t s qs) b ≡ readers_from s (codes g u s qs) b
 readers_same f t g u b h s [] = refl
 readers_same f t g u b h s (q ∷ qs) = let here = h s in let rest = readers_same f t g u b h (suc s) qs in
@@ -149,7 +219,8 @@ module _ (S : Setting) where
   p = S.program
 
   -- the pairs are the program's
-  waits_same : (b s : ℕ) → (list_any (reads b) (projection (flat_map (steps_at S.pairs) (in_turn S.plain)) s) && not (list_any (writes b) (projection (flat_map (steps_at S.pairs) (in_turn S.plain)) s)))
+  waits_same : (b s : ℕ) → (list_any (reads b) (projection (flat_map (steps_at S.pairs) (in_turn S.plain)) s)
+      && not (list_any (writes b) (projection (flat_map (steps_at S.pairs) (in_turn S.plain)) s)))
       ≡ (list_any (reads b) (projection S.plain s) && not (list_any (writes b) (projection S.plain s)))
   waits_same b s = let x = same_any S.pairs S.plain (reads b) (reads_plain b) s in let y = same_any S.pairs S.plain (writes b) (writes_plain b) s in λ i. x i && not (y i)
 
@@ -246,7 +317,9 @@ module _ (S : Setting) where
   read_block b w c k y e r = let z = S.read_behind c k b y e r in let q = write_block b w z.0 z.2 z.1 z.4 z.5 in let l = z.3 in omega arith
 
   operator_here : (s : ℕ) (q : Seq) → slice_get S.seqs s ≡ Some q → operator p s ≡ q.operator
-  operator_here s q e = Rattle.sequence_build_laws.proofs.Loops.operator_is p (flat_map (steps_at S.pairs) (in_turn S.plain)) S.prologues S.seqs S.codes_are (lines.serial_low S.pairs S.plain S.program S.prologues S.seqs S.codes_are S.low) s q e
+  operator_here s q e = Rattle.sequence_build_laws.proofs.Loops.operator_is p
+      (flat_map (steps_at S.pairs) (in_turn S.plain)) S.prologues S.seqs S.codes_are
+      (lines.serial_low S.pairs S.plain S.program S.prologues S.seqs S.codes_are S.low) s q e
 
   near : (b s a k : ℕ) (x : Instr) → Stands p s a x → WritesAt x k b ⊎ ReadsAt x k b → operator_is p (slice_get p.buffers b) (operator p s)
   near b s a k x e t =
@@ -401,7 +474,8 @@ module _ (S : Setting) where
         by h (lines.core e k) = absurd (false≢true (ap is_plain e ∙ S.plain_only h.block_number h.it.it h.around.stands))
 
     -- two places of one line are one
-    one_place_of : (s a t b : ℕ) (x y : Instr) (h : Here S s a x) (k : Here S t b y) (place : Standing Step → ℕ) → h.block_number ≡ k.block_number → h.inner ≡ place h.it → k.inner ≡ place k.it → (s ≡ t) × (a ≡ b)
+    one_place_of : (s a t b : ℕ) (x y : Instr) (h : Here S s a x) (k : Here S t b y) (place : Standing Step → ℕ) → h.block_number
+        ≡ k.block_number → h.inner ≡ place h.it → k.inner ≡ place k.it → (s ≡ t) × (a ≡ b)
     one_place_of s a t b x y h k place e i j =
         same_here S s a t b x y h k e (i ∙ ap place (lines.same_block S.pairs S.plain S.program S.prologues S.seqs S.codes_are S.low s a t b x y h k e) ∙ sym j)
 
@@ -456,7 +530,8 @@ module _ (S : Setting) where
         let same : v.0.it ≡ f.it = same_Some v.0.it f.it (sym t.stands ∙ f.stands) in
         let reading : reads_for r v.0.it ≡ true = ap (reads_for r) same ∙ f.passes in
         let none : not (list_any (reads_for r) v.0.before) ≡ true = ap (λ (l : List Step). not (list_any (reads_for r) l)) t.before_is ∙ ap not f.alone in
-        in_loop f.at (full_taken S.pairs v.0 q) r.sequence v.0 (Suc1 q) v.1 (full_taken_there S.pairs v.0 q (record { reader = r; stands = known.stands; passes = both_true reading none })) (sequence_read v.0.it reading)
+        in_loop f.at (full_taken S.pairs v.0 q) r.sequence v.0 (Suc1 q) v.1
+        (full_taken_there S.pairs v.0 q (record { reader = r; stands = known.stands; passes = both_true reading none })) (sequence_read v.0.it reading)
 
     signals_empty_there : StandsIn r.sequence (Pre0 q)
     signals_empty_there =
@@ -466,16 +541,20 @@ module _ (S : Setting) where
         let same : v.0.it ≡ f.it = same_Some v.0.it f.it (sym t.stands ∙ f.stands) in
         let reading : reads_for r v.0.it ≡ true = ap (reads_for r) same ∙ f.passes in
         let none : not (list_any (reads_for r) v.0.after) ≡ true = ap (λ (l : List Step). not (list_any (reads_for r) l)) t.after_is ∙ ap not f.alone in
-        in_loop f.at (empty_signalled S.pairs v.0 q) r.sequence v.0 (Pre0 q) v.1 (empty_signalled_there S.pairs v.0 q (record { reader = r; stands = known.stands; passes = both_true reading none })) (sequence_read v.0.it reading)
+        in_loop f.at (empty_signalled S.pairs v.0 q) r.sequence v.0 (Pre0 q) v.1
+        (empty_signalled_there S.pairs v.0 q (record { reader = r; stands = known.stands; passes = both_true reading none })) (sequence_read v.0.it reading)
 
     takes_empty_there : StandsIn (writer_of p r.buffer) (Suc0 q)
-    takes_empty_there = in_loop w.entry.block_number (empty_taken S.pairs w.entry.it q) (writer_of p r.buffer) w.entry.it (Suc0 q) w.entry.is_it (empty_taken_there S.pairs w.entry.it q fills) w.entry.sequence
+    takes_empty_there = in_loop w.entry.block_number (empty_taken S.pairs w.entry.it q) (writer_of p r.buffer) w.entry.it
+        (Suc0 q) w.entry.is_it (empty_taken_there S.pairs w.entry.it q fills) w.entry.sequence
 
     signals_full_there : StandsIn (writer_of p r.buffer) (Pre1 q)
-    signals_full_there = in_loop w.entry.block_number (full_signalled S.pairs w.entry.it q) (writer_of p r.buffer) w.entry.it (Pre1 q) w.entry.is_it (full_signalled_there S.pairs w.entry.it q fills) w.entry.sequence
+    signals_full_there = in_loop w.entry.block_number (full_signalled S.pairs w.entry.it q) (writer_of p r.buffer) w.entry.it
+        (Pre1 q) w.entry.is_it (full_signalled_there S.pairs w.entry.it q fills) w.entry.sequence
 
     -- where it is looked for
-    only_at : (test : Instr → Bool) (s : ℕ) (x : Instr) → ((y : Instr) → test y ≡ true → y ≡ x) → test x ≡ true → ((s a t b : ℕ) → Stands p s a x → Stands p t b x → (s ≡ t) × (a ≡ b)) → StandsIn s x → IsOnly p s (position_or_len test (turn p s)) x
+    only_at : (test : Instr → Bool) (s : ℕ) (x : Instr) → ((y : Instr) → test y ≡ true → y ≡ x) → test x ≡ true
+        → ((s a t b : ℕ) → Stands p s a x → Stands p t b x → (s ≡ t) × (a ≡ b)) → StandsIn s x → IsOnly p s (position_or_len test (turn p s)) x
     only_at test s x is t one e =
         let f = first_in p test s e.0 x e.1 t in
         let h : Stands p s (position_or_len test (turn p s)) x = f.stands ∙ ap (λ (y : Instr). Some y) (is f.it f.passes) in
@@ -511,7 +590,8 @@ module _ (S : Setting) where
 
     before_write : te < written_at p r.buffer
     before_write = let h = empty_taken_in (writer_of p r.buffer) te take_empty.stands in
-        earlier_here S (writer_of p r.buffer) te (written_at p r.buffer) (Suc0 q) w.instr h.entry w.entry (inr (h.number, (let a = h.inner in let b = w.core.inner in let c = empty_first in omega arith)))
+        earlier_here S (writer_of p r.buffer) te (written_at p r.buffer) (Suc0 q) w.instr h.entry w.entry
+        (inr (h.number, (let a = h.inner in let b = w.core.inner in let c = empty_first in omega arith)))
 
     after_write : written_at p r.buffer < sf
     after_write = let h = full_signalled_in (writer_of p r.buffer) sf signal_full.stands in
@@ -536,11 +616,18 @@ module _ (S : Setting) where
         after : (h : Here S r.sequence a x) → Core S r.sequence a x h → reads_for r (step r.sequence x) ≡ true → InRead r.sequence tf (Suc1 q) first_places steps_before → tf < a
         after h c t f = earlier_here S r.sequence tf a (Suc1 q) x f.entry h (by (cases_lt f.entry.block_number h.block_number))
           where
-            by : (f.entry.block_number < h.block_number) ⊎ (h.block_number ≤ f.entry.block_number) → (f.entry.block_number < h.block_number) ⊎ ((f.entry.block_number ≡ h.block_number) × (f.entry.inner < h.inner))
+            by : (f.entry.block_number < h.block_number) ⊎ (h.block_number ≤ f.entry.block_number)
+                → (f.entry.block_number < h.block_number) ⊎ ((f.entry.block_number ≡ h.block_number) × (f.entry.inner < h.inner))
             by (inl l) = inl l
             by (inr l) = elim (cases_eq h.block_number f.entry.block_number) [
               | inl same ↦ (let it = lines.same_block S.pairs S.plain S.program S.prologues S.seqs S.codes_are S.low r.sequence tf r.sequence a (Suc1 q) x f.entry h (sym same) in
-                  let low = lines.full_before_middle S.pairs f.entry.it q (record { reader = r; stands = known.stands; passes = both_true f.reads (ap not (ap (list_any (reads_for r)) f.entry.around.before_is ∙ f.alone)) }) in
+                  let low = lines.full_before_middle S.pairs f.entry.it q
+                  (record {
+                    reader = r;
+                    stands = known.stands;
+                    passes =
+                        both_true f.reads (ap not (ap (list_any (reads_for r)) f.entry.around.before_is ∙ f.alone));
+                  }) in
                   inr (sym same, (let i = f.inner in let j = c.inner in let m = ap (λ (v : Standing Step). middle S.pairs v) it in omega arith)))
               | inr other ↦ absurd (not_before h.block_number f.entry.block_number (step r.sequence x) (omega arith) c.stands t f.alone)
             ]
@@ -548,7 +635,8 @@ module _ (S : Setting) where
         before : (h : Here S r.sequence a x) → Core S r.sequence a x h → reads_for r (step r.sequence x) ≡ true → InRead r.sequence se (Pre0 q) last_places steps_after → a < se
         before h c t f = earlier_here S r.sequence a se x (Pre0 q) h f.entry (by (cases_lt h.block_number f.entry.block_number))
           where
-            by : (h.block_number < f.entry.block_number) ⊎ (f.entry.block_number ≤ h.block_number) → (h.block_number < f.entry.block_number) ⊎ ((h.block_number ≡ f.entry.block_number) × (h.inner < f.entry.inner))
+            by : (h.block_number < f.entry.block_number) ⊎ (f.entry.block_number ≤ h.block_number)
+                → (h.block_number < f.entry.block_number) ⊎ ((h.block_number ≡ f.entry.block_number) × (h.inner < f.entry.inner))
             by (inl l) = inl l
             by (inr l) = elim (cases_eq h.block_number f.entry.block_number) [
               | inl same ↦ (let it = lines.same_block S.pairs S.plain S.program S.prologues S.seqs S.codes_are S.low r.sequence a r.sequence se x (Pre0 q) h f.entry same in
@@ -598,7 +686,8 @@ module _ (S : Setting) where
       by : (r : Reader) × (slice_get S.pairs n ≡ Some r) → blocks (signals_of p s) n ≡ flat_map (λ q. repeated (Pre0 q) S.many) (pairs_where (take n S.pairs) (λ r. nat_eq r.sequence s))
           → blocks (signals_of p s) (suc n) ≡ flat_map (λ q. repeated (Pre0 q) S.many) (pairs_where (take (suc n) S.pairs) (λ r. nat_eq r.sequence s))
       by (r, e) ih =
-          let here : signals_of p s n ≡ repeated (Pre0 n) (cond (nat_eq r.sequence s) (depth_of p r.buffer) 0) = ap (λ (x : Reader). repeated (Pre0 n) (cond (nat_eq x.sequence s) (depth_of p x.buffer) 0)) (reader_of n r e) in
+          let here : signals_of p s n ≡ repeated (Pre0 n) (cond (nat_eq r.sequence s) (depth_of p r.buffer) 0) =
+          ap (λ (x : Reader). repeated (Pre0 n) (cond (nat_eq x.sequence s) (depth_of p x.buffer) 0)) (reader_of n r e) in
           let c = get_some S.copies r.buffer (of_reader n r e).below in
           let deep : depth_of p r.buffer ≡ S.many = ap depth_in (S.buffers_are r.buffer c.0 c.1) ∙ S.guarded n r e in
           let long : length (take n S.pairs) ≡ n = length-take-le n S.pairs (omega arith) in
@@ -611,7 +700,8 @@ module _ (S : Setting) where
 
   pub opens : (s : ℕ) → s < length p.seqs → prologue p s ≡ opening_of p s
   opens s h =
-      Rattle.sequence_build_laws.proofs.Loops.prologue_is p (flat_map (steps_at S.pairs) (in_turn S.plain)) S.prologues S.seqs S.codes_are (lines.serial_low S.pairs S.plain S.program S.prologues S.seqs S.codes_are S.low) s h
+      Rattle.sequence_build_laws.proofs.Loops.prologue_is p (flat_map (steps_at S.pairs) (in_turn S.plain)) S.prologues S.seqs S.codes_are
+      (lines.serial_low S.pairs S.plain S.program S.prologues S.seqs S.codes_are S.low) s h
       ∙ S.opened s
       ∙ ap (λ (l : List Reader). flat_map (λ q. repeated (Pre0 q) S.many) (pairs_where l (λ r. nat_eq r.sequence s))) (sym (take_all (length S.pairs) S.pairs (omega arith)))
       ∙ sym (opening_is s (length S.pairs) (omega arith))

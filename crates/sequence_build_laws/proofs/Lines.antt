@@ -12,7 +12,24 @@ use Rattle.executive_program.specs.Instructions.{Reader}
 use Rattle.executive_program.specs.WellFormed.{Stands, place_in}
 use Rattle.sequence_build_laws.specs.InTurn.{Standing, in_turn}
 use Rattle.sequence_build_laws.specs.Serial.{Step, step, projection, codes, reads_first, reads_last, is_filled, pairs_where, block, steps_at}
-use Rattle.sequence_build_laws.proofs.Lists.{get_past, get_before, Past, from_append, map_at, from_map, starts, in_flat, flat_at, starts_rise, starts_order, tally, number_at, from_numbers, FromTurn, from_turn}
+use Rattle.sequence_build_laws.proofs.Lists.{
+  get_past,
+  get_before,
+  Past,
+  from_append,
+  map_at,
+  from_map,
+  starts,
+  in_flat,
+  flat_at,
+  starts_rise,
+  starts_order,
+  tally,
+  number_at,
+  from_numbers,
+  FromTurn,
+  from_turn,
+}
 use Rattle.sequence_build_laws.proofs.Loops.{order, Found, found, put, same_place, earlier}
 
 -- no semaphore line
@@ -103,11 +120,14 @@ module _ (pairs : List Reader) (v : Standing Step) where
       third (suc i) is h = last i (omega arith) (from_append (map Pre0 (numbers (reads_last v))) (map Pre1 (numbers (is_filled v))) i x h)
 
       second : (i : ℕ) → k ≡ length (numbers (reads_first v)) + i
-          → (slice_get (map Suc0 (numbers (is_filled v))) i ≡ Some x) ⊎ Past (map Suc0 (numbers (is_filled v))) (v.it.instr ∷ (map Pre0 (numbers (reads_last v)) ++ map Pre1 (numbers (is_filled v)))) i x → Line k x
+          → (slice_get (map Suc0 (numbers (is_filled v))) i ≡ Some x)
+          ⊎ Past (map Suc0 (numbers (is_filled v))) (v.it.instr ∷ (map Pre0 (numbers (reads_last v)) ++ map Pre1 (numbers (is_filled v)))) i x → Line k x
       second i is (inl h) = let r = listed (is_filled v) Suc0 i x h in let b = r.inner in takes_empty r.number r.pair r.is (let z = r.place in omega arith) (omega arith)
       second i is (inr h) = third h.at (let z = h.is in let n = list_length (is_filled v) Suc0 in omega arith) h.stands
 
-      first : (slice_get (map Suc1 (numbers (reads_first v))) k ≡ Some x) ⊎ Past (map Suc1 (numbers (reads_first v))) (map Suc0 (numbers (is_filled v)) ++ (v.it.instr ∷ (map Pre0 (numbers (reads_last v)) ++ map Pre1 (numbers (is_filled v))))) k x → Line k x
+      first : (slice_get (map Suc1 (numbers (reads_first v))) k ≡ Some x)
+          ⊎ Past (map Suc1 (numbers (reads_first v)))
+          (map Suc0 (numbers (is_filled v)) ++ (v.it.instr ∷ (map Pre0 (numbers (reads_last v)) ++ map Pre1 (numbers (is_filled v))))) k x → Line k x
       first (inl h) = let r = listed (reads_first v) Suc1 k x h in let b = r.inner in takes_full r.number r.pair r.is r.place (omega arith)
       first (inr h) = second h.at (let z = h.is in let n = list_length (reads_first v) Suc1 in omega arith)
           (from_append (map Suc0 (numbers (is_filled v))) (v.it.instr ∷ (map Pre0 (numbers (reads_last v)) ++ map Pre1 (numbers (is_filled v)))) h.at x h.stands)
@@ -129,15 +149,19 @@ module _ (pairs : List Reader) (v : Standing Step) where
       → slice_get (map Suc0 (numbers (is_filled v)) ++ (v.it.instr ∷ (map Pre0 (numbers (reads_last v)) ++ map Pre1 (numbers (is_filled v))))) i ≡ Some x → slice_get (block pairs v) n ≡ Some x
   behind_first n i x e h =
       let z : n ≡ length (map Suc1 (numbers (reads_first v))) + i = (let m = list_length (reads_first v) Suc1 in omega arith) in
-      ap (slice_get (block pairs v)) z ∙ get_past (map Suc1 (numbers (reads_first v))) (map Suc0 (numbers (is_filled v)) ++ (v.it.instr ∷ (map Pre0 (numbers (reads_last v)) ++ map Pre1 (numbers (is_filled v))))) i ∙ h
+      ap (slice_get (block pairs v)) z
+      ∙ get_past (map Suc1 (numbers (reads_first v)))
+      (map Suc0 (numbers (is_filled v)) ++ (v.it.instr ∷ (map Pre0 (numbers (reads_last v)) ++ map Pre1 (numbers (is_filled v))))) i ∙ h
 
-  behind_takes : (n i : ℕ) (x : Instr) → n ≡ middle + i → slice_get (v.it.instr ∷ (map Pre0 (numbers (reads_last v)) ++ map Pre1 (numbers (is_filled v)))) i ≡ Some x → slice_get (block pairs v) n ≡ Some x
+  behind_takes : (n i : ℕ) (x : Instr) → n ≡ middle + i
+      → slice_get (v.it.instr ∷ (map Pre0 (numbers (reads_last v)) ++ map Pre1 (numbers (is_filled v)))) i ≡ Some x → slice_get (block pairs v) n ≡ Some x
   behind_takes n i x e h =
       behind_first n (length (map Suc0 (numbers (is_filled v))) + i) x (let m = list_length (is_filled v) Suc0 in omega arith)
       (get_past (map Suc0 (numbers (is_filled v))) (v.it.instr ∷ (map Pre0 (numbers (reads_last v)) ++ map Pre1 (numbers (is_filled v)))) i ∙ h)
 
   pub empty_taken_there : (q : ℕ) → Pair (is_filled v) q → slice_get (block pairs v) (empty_taken q) ≡ Some (Suc0 q)
-  empty_taken_there q p = behind_first (empty_taken q) (rank (is_filled v) q) (Suc0 q) refl (get_before (map Suc0 (numbers (is_filled v))) _ (rank (is_filled v) q) (Suc0 q) (list_it (is_filled v) Suc0 q p))
+  empty_taken_there q p = behind_first (empty_taken q) (rank (is_filled v) q) (Suc0 q) refl
+      (get_before (map Suc0 (numbers (is_filled v))) _ (rank (is_filled v) q) (Suc0 q) (list_it (is_filled v) Suc0 q p))
 
   pub middle_there : slice_get (block pairs v) middle ≡ Some v.it.instr
   middle_there = behind_takes middle 0 v.it.instr (omega arith) refl
@@ -217,8 +241,11 @@ module _ (pairs : List Reader) (plain : List Step) (p : Program) (f : ℕ → Li
       record { at = r.at; stands = r.stands; place = r.place }
 
   -- in an earlier block, or earlier in the block
-  pub before_of : (s a t b : ℕ) (x y : Instr) (h : Here s a x) (k : Here t b y) → (h.block_number < k.block_number) ⊎ ((h.block_number ≡ k.block_number) × (h.inner < k.inner)) → place_in names s a < place_in names t b
-  before_of s a t b x y h k (inl l) = let z = starts_rise (steps_at pairs) (in_turn plain) h.block_number k.block_number h.inner k.inner h.it h.is_it l h.within in let u = h.place in let v = k.place in omega arith
+  pub before_of : (s a t b : ℕ) (x y : Instr) (h : Here s a x) (k : Here t b y) → (h.block_number < k.block_number)
+      ⊎ ((h.block_number ≡ k.block_number) × (h.inner < k.inner)) → place_in names s a < place_in names t b
+  before_of s a t b x y h k (inl l) = let z =
+      starts_rise (steps_at pairs) (in_turn plain) h.block_number k.block_number h.inner k.inner h.it h.is_it l h.within in
+      let u = h.place in let v = k.place in omega arith
   before_of s a t b x y h k (inr l) = let z = ap (λ (n : ℕ). starts (steps_at pairs) (in_turn plain) n) l.0 in let i = l.1 in let u = h.place in let v = k.place in omega arith
 
   pub same_here : (s a t b : ℕ) (x y : Instr) (h : Here s a x) (k : Here t b y) → h.block_number ≡ k.block_number → h.inner ≡ k.inner → (s ≡ t) × (a ≡ b)
@@ -229,10 +256,12 @@ module _ (pairs : List Reader) (plain : List Step) (p : Program) (f : ℕ → Li
   earlier_here s a b x y h k l = earlier p serial f qs codes_are serial_low s a b x y h.entry k.entry (let u = h.place in let v = k.place in let w = h.entry_at in let z = k.entry_at in omega arith)
 
   -- where it stands in the order tells the block
-  pub same_number : (s a : ℕ) (x : Instr) (h : Here s a x) (c : ℕ) (v : Standing Step) → slice_get (in_turn plain) c ≡ Some v → place_in names s a ≡ starts (steps_at pairs) (in_turn plain) c + middle pairs v → h.block_number ≡ c
+  pub same_number : (s a : ℕ) (x : Instr) (h : Here s a x) (c : ℕ) (v : Standing Step) → slice_get (in_turn plain) c ≡ Some v
+      → place_in names s a ≡ starts (steps_at pairs) (in_turn plain) c + middle pairs v → h.block_number ≡ c
   same_number s a x h c v e l =
       let there = map_at (step v.it.sequence) (block pairs v) (middle pairs v) v.it.instr (middle_there pairs v) in
-      (starts_order (steps_at pairs) (in_turn plain) h.block_number c h.inner (middle pairs v) h.it v h.is_it e h.within (slice_get_within (steps_at pairs v) (middle pairs v) (step v.it.sequence v.it.instr) there) (sym h.place ∙ l)).0
+      (starts_order (steps_at pairs) (in_turn plain) h.block_number c h.inner (middle pairs v) h.it v h.is_it e h.within
+      (slice_get_within (steps_at pairs v) (middle pairs v) (step v.it.sequence v.it.instr) there) (sym h.place ∙ l)).0
 
   -- the same block, where it is the same element
   pub same_block : (s a t b : ℕ) (x y : Instr) (h : Here s a x) (k : Here t b y) → h.block_number ≡ k.block_number → h.it ≡ k.it

@@ -1,5 +1,37 @@
 -- Places in lists: in joined lists, among those that pass a test, and elements with what stands round them.
-use Rattle.std.proofs.Common.{◌≡◌, ℕ, zero, suc, ◌+◌, ◌<◌, ◌≤◌, ◌⊎◌, Bool, true, false, cond, List, [], ◌∷◌, ◌++◌, length, map, take, drop, Some, refl, sym, ap, subst, inl, inr, arith, ◌∙◌, length-append, append_assoc}
+use Rattle.std.proofs.Common.{
+  ◌≡◌,
+  ℕ,
+  zero,
+  suc,
+  ◌+◌,
+  ◌<◌,
+  ◌≤◌,
+  ◌⊎◌,
+  Bool,
+  true,
+  false,
+  cond,
+  List,
+  [],
+  ◌∷◌,
+  ◌++◌,
+  length,
+  map,
+  take,
+  drop,
+  Some,
+  refl,
+  sym,
+  ap,
+  subst,
+  inl,
+  inr,
+  arith,
+  ◌∙◌,
+  length-append,
+  append_assoc,
+}
 use Rattle.std.specs.Prelude.{slice_get}
 use Rattle.std.specs.List.{flat_map, filter, list_all, position_or_len, count_by}
 use Rattle.std.proofs.lemmas.Bool.{false≢true, cases_lt, cases_eq, and_parts}
@@ -107,7 +139,8 @@ pub take_past : {A : Type 0} (xs ys : List A) (n : ℕ) → take (length xs + n)
 take_past [] ys n = rw zero-add refl
 take_past (x ∷ xs) ys n = rw suc-add (ap (λ (l : List _). x ∷ l) (take_past xs ys n))
 
-pub take_flat : {A B : Type 0} (f : A → List B) (xs : List A) (i k : ℕ) (x : A) → slice_get xs i ≡ Some x → k ≤ length (f x) → take (starts f xs i + k) (flat_map f xs) ≡ flat_map f (take i xs) ++ take k (f x)
+pub take_flat : {A B : Type 0} (f : A → List B) (xs : List A) (i k : ℕ) (x : A) → slice_get xs i ≡ Some x → k ≤ length (f x)
+    → take (starts f xs i + k) (flat_map f xs) ≡ flat_map f (take i xs) ++ take k (f x)
 take_flat f [] i k x e h = absurd cc
 take_flat f (z ∷ xs) zero k x e h = let same : z ≡ x = same_Some z x e in
     rw zero-add (subst (λ (w : _). take k (f w ++ flat_map f xs) ≡ take k (f x)) (sym same) (take-append-le k (f x) (flat_map f xs) h))
@@ -166,7 +199,8 @@ tally_grows p (y ∷ xs) (suc i) (suc j) x e t h = by (p y) (tally_grows p xs i 
     by true e = omega arith
     by false e = omega arith
 
-pub tally_same : {A : Type 0} (p : A → Bool) (xs : List A) (i j : ℕ) (x y : A) → slice_get xs i ≡ Some x → slice_get xs j ≡ Some y → p x ≡ true → p y ≡ true → tally p (take i xs) ≡ tally p (take j xs) → i ≡ j
+pub tally_same : {A : Type 0} (p : A → Bool) (xs : List A) (i j : ℕ) (x y : A) → slice_get xs i ≡ Some x → slice_get xs j ≡ Some y → p x
+    ≡ true → p y ≡ true → tally p (take i xs) ≡ tally p (take j xs) → i ≡ j
 tally_same p xs i j x y e d t u h = elim (cases_lt i j) [
   | inl l ↦ (let z = tally_grows p xs i j x e t l in absurd (omega arith))
   | inr l ↦ elim (cases_eq i j) [ inl s ↦ s | inr n ↦ (let z = tally_grows p xs j i y d u (omega arith) in absurd (omega arith)) ]
@@ -250,8 +284,26 @@ from_numbers p n (x ∷ xs) j q e = by (p x) refl j e (λ i. from_numbers p (suc
     by : (b : Bool) → p x ≡ b → (j : ℕ) → slice_get (cond b (n ∷ numbers_where p (suc n) xs) (numbers_where p (suc n) xs)) j ≡ Some q
         → ((i : ℕ) → slice_get (numbers_where p (suc n) xs) i ≡ Some q → FromNumbers p (suc n) xs i q) → FromNumbers p n (x ∷ xs) j q
     by true t zero e r = record { at = 0; it = x; stands = refl; passes = t; is = (let z = same_Some n q e in omega arith); rank = refl }
-    by true t (suc j) e r = let h = r j e in record { at = suc h.at; it = h.it; stands = h.stands; passes = h.passes; is = (let z = h.is in omega arith); rank = ap (λ (k : ℕ). suc k) h.rank ∙ sym (tally_yes p x (take h.at xs) t) }
-    by false t j e r = let h = r j e in record { at = suc h.at; it = h.it; stands = h.stands; passes = h.passes; is = (let z = h.is in omega arith); rank = h.rank ∙ sym (tally_not p x (take h.at xs) t) }
+    by true t (suc j) e r = let h = r j e in
+        record {
+          at = suc h.at;
+          it = h.it;
+          stands = h.stands;
+          passes = h.passes;
+          is = (let z = h.is in omega arith);
+          rank =
+              ap (λ (k : ℕ). suc k) h.rank ∙ sym (tally_yes p x (take h.at xs) t);
+        }
+    by false t j e r = let h = r j e in
+        record {
+          at = suc h.at;
+          it = h.it;
+          stands = h.stands;
+          passes = h.passes;
+          is = (let z = h.is in omega arith);
+          rank = h.rank
+              ∙ sym (tally_not p x (take h.at xs) t);
+        }
 
 pub all_at : {A : Type 0} (p : A → Bool) (xs : List A) → list_all p xs ≡ true → (i : ℕ) (x : A) → slice_get xs i ≡ Some x → p x ≡ true
 all_at p [] h i x e = absurd cc
@@ -285,7 +337,12 @@ pub record FromTurn {A : Type 0} (before xs : List A) (i : ℕ) (v : Standing A)
 pub from_turn : {A : Type 0} (before xs : List A) (i : ℕ) (v : Standing A) → slice_get (in_turn_after before xs) i ≡ Some v → FromTurn before xs i v
 from_turn before [] i v e = absurd cc
 from_turn before (x ∷ xs) zero v e = let same = same_Some _ v e in
-    record { stands = ap (λ (w : Standing _). Some w.it) same; before_is = ap (λ (w : Standing _). w.before) (sym same) ∙ sym (append-nil before); after_is = ap (λ (w : Standing _). w.after) (sym same) }
+    record {
+      stands = ap (λ (w : Standing _). Some w.it) same;
+      before_is = ap (λ (w : Standing _). w.before) (sym same)
+          ∙ sym (append-nil before);
+      after_is = ap (λ (w : Standing _). w.after) (sym same);
+    }
 from_turn before (x ∷ xs) (suc i) v e = let r = from_turn (before ++ x ∷ []) xs i v e in
     record { stands = r.stands; before_is = r.before_is ∙ append_assoc before (x ∷ []) (take i xs); after_is = r.after_is }
 
@@ -318,9 +375,12 @@ take_next (y ∷ xs) (suc n) x e = ap (λ (l : List _). y ∷ l) (take_next xs n
 
 pub numbers-append : {A : Type 0} (p : A → Bool) (n : ℕ) (xs ys : List A) → numbers_where p n (xs ++ ys) ≡ numbers_where p n xs ++ numbers_where p (n + length xs) ys
 numbers-append p n [] ys = ap (λ (k : ℕ). numbers_where p k ys) (let z : n ≡ n + 0 = omega arith in z)
-numbers-append p n (x ∷ xs) ys = by (p x) (numbers-append p (suc n) xs ys ∙ ap (λ (k : ℕ). numbers_where p (suc n) xs ++ numbers_where p k ys) (let z : suc n + length xs ≡ n + suc (length xs) = omega arith in z))
+numbers-append p n (x ∷ xs) ys =
+    by (p x) (numbers-append p (suc n) xs ys
+    ∙ ap (λ (k : ℕ). numbers_where p (suc n) xs ++ numbers_where p k ys) (let z : suc n + length xs ≡ n + suc (length xs) = omega arith in z))
   where
     by : (b : Bool) → numbers_where p (suc n) (xs ++ ys) ≡ numbers_where p (suc n) xs ++ numbers_where p (n + suc (length xs)) ys
-        → cond b (n ∷ numbers_where p (suc n) (xs ++ ys)) (numbers_where p (suc n) (xs ++ ys)) ≡ cond b (n ∷ numbers_where p (suc n) xs) (numbers_where p (suc n) xs) ++ numbers_where p (n + suc (length xs)) ys
+        → cond b (n ∷ numbers_where p (suc n) (xs ++ ys)) (numbers_where p (suc n) (xs ++ ys))
+        ≡ cond b (n ∷ numbers_where p (suc n) xs) (numbers_where p (suc n) xs) ++ numbers_where p (n + suc (length xs)) ys
     by true e = ap (λ (l : List ℕ). n ∷ l) e
     by false e = e

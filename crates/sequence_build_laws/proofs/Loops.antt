@@ -16,7 +16,8 @@ use Rattle.executive_program.proofs.Reading.{any_at, any_of}
 use Rattle.sequence_build_laws.specs.Serial.{Step, step, projection, codes}
 use Rattle.sequence_build_laws.proofs.Lists.{get_some, map_at, from_map, tally, tally_yes, tally_not, counts_tally, tally_grows, filter_at, from_filter, filter_length, First, first}
 
-pub codes_at : (f t : ℕ → List Instr) (n k : ℕ) (qs : List Seq) (s : ℕ) (q : Seq) → slice_get qs s ≡ Some q → k ≡ n + s → slice_get (codes f t n qs) s ≡ Some (record { seq = q; prologue = f k; turn = t k })
+pub codes_at : (f t : ℕ → List Instr) (n k : ℕ) (qs : List Seq) (s : ℕ) (q : Seq) → slice_get qs s ≡ Some q → k ≡ n + s
+    → slice_get (codes f t n qs) s ≡ Some (record { seq = q; prologue = f k; turn = t k })
 codes_at f t n k [] s q e h = absurd cc
 codes_at f t n k (x ∷ qs) zero q e h = let z : n ≡ k = omega arith in let same : x ≡ q = same_Some x q e in λ i. Some (record { seq = same i; prologue = f (z i); turn = t (z i) })
 codes_at f t n k (x ∷ qs) (suc s) q e h = codes_at f t (suc n) k qs s q e (omega arith)
@@ -93,7 +94,8 @@ module _ (p : Program) where
       let o = any_of test f.it.turn f.passes in
       first test (turn p (sequence_of test)) o.0 o.1 (ap (λ (o' : Option SeqCode). slice_get (turn_of o') o.0) f.stands ∙ o.2) o.3
 
-module _ (p : Program) (xs : List Step) (f : ℕ → List Instr) (qs : List Seq) (codes_are : p.seqs ≡ codes f (projection xs) 0 qs) (low : (i : ℕ) (y : Step) → slice_get xs i ≡ Some y → y.sequence < length qs) where
+module _ (p : Program) (xs : List Step) (f : ℕ → List Instr) (qs : List Seq) (codes_are : p.seqs ≡ codes f (projection xs) 0 qs)
+    (low : (i : ℕ) (y : Step) → slice_get xs i ≡ Some y → y.sequence < length qs) where
   abbrev pub order : List ℕ
   order = map (λ (x : Step). x.sequence) xs
 

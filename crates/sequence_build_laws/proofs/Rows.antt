@@ -1,5 +1,6 @@
 -- The definitions computed on worked examples: one operator; two operators on a bus; a relay over two media; two transfers over a medium of four operators.
 use Rattle.std.proofs.Common.{◌≡◌, ℕ, true, false, List, [], ◌∷◌, Option, Some, None, refl}
+use Rattle.schedule.specs.declared.MediumKind.TheVariants.{PointToPoint}
 use Rattle.schedule.specs.declared.Kind.TheVariants.{Sensor, Actuator, Function}
 use Rattle.schedule.specs.Expr.{element, index}
 use Rattle.schedule.specs.Graph.{Graph}
@@ -9,7 +10,33 @@ use Rattle.schedule.specs.Sequences.{sequences}
 use Rattle.schedule.specs.declared.decision.Schedule.{Schedule}
 use Rattle.schedule.specs.Acts.{length_of}
 use Rattle.schedule.specs.Valid.{is_valid}
-use Rattle.schedule.proofs.Examples.{source, vertex, medium, archi, entry, carried, placed, schedule, plain_graph, plain_archi, plain_schedule, bus_graph, bus_archi, bus_schedule, bus_ticks, relay_archi, relay_schedule, multi_graph, multi_archi, multi_schedule, multi_ticks, speed_graph, speed_archi, speed_ticks, speed_schedule}
+use Rattle.schedule.proofs.Examples.{
+  source,
+  vertex,
+  medium,
+  archi,
+  entry,
+  carried,
+  placed,
+  schedule,
+  plain_graph,
+  plain_archi,
+  plain_schedule,
+  bus_graph,
+  bus_archi,
+  bus_schedule,
+  bus_ticks,
+  relay_archi,
+  relay_schedule,
+  multi_graph,
+  multi_archi,
+  multi_schedule,
+  multi_ticks,
+  speed_graph,
+  speed_archi,
+  speed_ticks,
+  speed_schedule,
+}
 use Rattle.executive_program.specs.declared.program.Instr.{Instr}
 use Rattle.executive_program.specs.declared.program.Instr.TheVariants.{Suc0, Suc1, Pre0, Pre1, Call, Send, Recv, Sync}
 use Rattle.executive_program.specs.declared.program.Buffer.{Buffer}
@@ -49,17 +76,21 @@ bus_code depth first second = record {
       ∷ code 1 (Some 0) [] (Suc0 1 ∷ Recv 2 0 ∷ Pre1 1 ∷ []) ∷ [];
 }
 
-bus_program : (program_of bus_graph bus_archi (bus_schedule 3 13) ≡ bus_code 1 (Pre0 0 ∷ []) (Pre0 1 ∷ [])) × (program_with 2 bus_graph bus_archi (bus_schedule 3 13) ≡ bus_code 2 (Pre0 0 ∷ Pre0 0 ∷ []) (Pre0 1 ∷ Pre0 1 ∷ []))
+bus_program : (program_of bus_graph bus_archi (bus_schedule 3 13) ≡ bus_code 1 (Pre0 0 ∷ []) (Pre0 1 ∷ []))
+    × (program_with 2 bus_graph bus_archi (bus_schedule 3 13) ≡ bus_code 2 (Pre0 0 ∷ Pre0 0 ∷ []) (Pre0 1 ∷ Pre0 1 ∷ []))
 bus_program = (refl, refl)
 
 -- with two places, as the architecture says
 bus_doubled : program_of bus_graph (record bus_archi { depth = 2 }) (bus_schedule 3 13) ≡ bus_code 2 (Pre0 0 ∷ Pre0 0 ∷ []) (Pre0 1 ∷ Pre0 1 ∷ [])
 bus_doubled = refl
 
-bus_numbers : (words (program_of bus_graph bus_archi (bus_schedule 3 13)) 1 ≡ 10) × (all_prologues (program_of bus_graph bus_archi (bus_schedule 3 13)) ≡ 2) × (all_turns (program_of bus_graph bus_archi (bus_schedule 3 13)) ≡ 23)
+bus_numbers : (words (program_of bus_graph bus_archi (bus_schedule 3 13)) 1 ≡ 10)
+    × (all_prologues (program_of bus_graph bus_archi (bus_schedule 3 13)) ≡ 2) × (all_turns (program_of bus_graph bus_archi (bus_schedule 3 13)) ≡ 23)
 bus_numbers = (refl, refl, refl)
 
-relay_valid : (is_archi relay_archi.operators relay_archi.media ≡ true) × (is_valid plain_graph relay_archi (entry ((Some 1 ∷ None ∷ None ∷ []) ∷ (None ∷ None ∷ Some 1 ∷ []) ∷ [])) relay_schedule ≡ true) × (length_of relay_schedule ≡ 6)
+relay_valid : (is_archi relay_archi.operators relay_archi.media ≡ true)
+    × (is_valid plain_graph relay_archi (entry ((Some 1 ∷ None ∷ None ∷ []) ∷ (None ∷ None ∷ Some 1 ∷ []) ∷ [])) relay_schedule ≡ true)
+    × (length_of relay_schedule ≡ 6)
 relay_valid = (refl, refl, refl)
 
 relay_program : program_of plain_graph relay_archi relay_schedule ≡ record {
@@ -75,7 +106,8 @@ relay_program : program_of plain_graph relay_archi relay_schedule ≡ record {
 }
 relay_program = refl
 
-multi_valid : (is_flat multi_graph ≡ true) × (is_archi multi_archi.operators multi_archi.media ≡ true) × (is_valid multi_graph multi_archi multi_ticks multi_schedule ≡ true) × (length_of multi_schedule ≡ 6)
+multi_valid : (is_flat multi_graph ≡ true) × (is_archi multi_archi.operators multi_archi.media ≡ true)
+    × (is_valid multi_graph multi_archi multi_ticks multi_schedule ≡ true) × (length_of multi_schedule ≡ 6)
 multi_valid = (refl, refl, refl, refl)
 
 multi_program : program_of multi_graph multi_archi multi_schedule ≡ record {
@@ -101,10 +133,11 @@ star_graph = record {
 }
 
 abbrev star_archi : Architecture
-star_archi = archi ((80 ∷ []) ∷ (81 ∷ []) ∷ (82 ∷ []) ∷ []) (medium 120 false (0 ∷ 1 ∷ []) ∷ medium 121 false (0 ∷ 2 ∷ []) ∷ [])
+star_archi = archi ((80 ∷ []) ∷ (81 ∷ []) ∷ (82 ∷ []) ∷ []) (medium 120 PointToPoint (0 ∷ 1 ∷ []) ∷ medium 121 PointToPoint (0 ∷ 2 ∷ []) ∷ [])
 
 abbrev star_schedule : Schedule
-star_schedule = schedule (placed 0 0 0 1 [] ∷ placed 2 1 3 4 (carried 0 0 0 1 1 3 ∷ []) ∷ placed 3 2 3 4 (carried 0 1 0 2 1 3 ∷ []) ∷ placed 5 1 4 5 [] ∷ placed 6 2 4 5 [] ∷ placed 1 0 1 2 [] ∷ placed 4 0 2 3 [] ∷ [])
+star_schedule = schedule (placed 0 0 0 1 [] ∷ placed 2 1 3 4 (carried 0 0 0 1 1 3 ∷ []) ∷ placed 3 2 3 4 (carried 0 1 0 2 1 3 ∷ [])
+    ∷ placed 5 1 4 5 [] ∷ placed 6 2 4 5 [] ∷ placed 1 0 1 2 [] ∷ placed 4 0 2 3 [] ∷ [])
 
 abbrev star_ticks : ℕ → ℕ → Option ℕ
 star_ticks v o = Some 1
@@ -119,7 +152,8 @@ star_loop = refl
 star_well_formed : IsOrder (program_of star_graph star_archi star_schedule) star_graph (sequences star_archi) 2 (order_of star_graph star_archi star_schedule)
 star_well_formed = built_are_well_formed star_graph star_archi star_ticks star_schedule refl refl refl refl
 
-speed_valid : (is_flat speed_graph ≡ true) × (is_archi speed_archi.operators speed_archi.media ≡ true) × (is_valid speed_graph speed_archi speed_ticks speed_schedule ≡ true) × (length_of speed_schedule ≡ 27)
+speed_valid : (is_flat speed_graph ≡ true) × (is_archi speed_archi.operators speed_archi.media ≡ true)
+    × (is_valid speed_graph speed_archi speed_ticks speed_schedule ≡ true) × (length_of speed_schedule ≡ 27)
 speed_valid = (refl, refl, refl, refl)
 
 abbrev pub one : ℕ → Buffer
@@ -139,5 +173,6 @@ speed_program : program_of speed_graph speed_archi speed_schedule ≡ record {
 }
 speed_program = refl
 
-speed_numbers : (words (program_of speed_graph speed_archi speed_schedule) 1 ≡ 37) × (all_prologues (program_of speed_graph speed_archi speed_schedule) ≡ 4) × (all_turns (program_of speed_graph speed_archi speed_schedule) ≡ 97)
+speed_numbers : (words (program_of speed_graph speed_archi speed_schedule) 1 ≡ 37)
+    × (all_prologues (program_of speed_graph speed_archi speed_schedule) ≡ 4) × (all_turns (program_of speed_graph speed_archi speed_schedule) ≡ 97)
 speed_numbers = (refl, refl, refl)

@@ -35,7 +35,8 @@ seq_is : (q r : Seq) → q.operator ≡ r.operator → q.medium ≡ r.medium →
 seq_is q r e h = λ i. record { operator = e i; medium = h i }
 
 same_seq_is : (q r : Seq) → same_seq q r ≡ true → q ≡ r
-same_seq_is q r h = let parts = and_parts (nat_eq q.operator r.operator) (same_medium q.medium r.medium) h in seq_is q r (eqb-true q.operator r.operator parts.0) (same_medium_is q.medium r.medium parts.1)
+same_seq_is q r h = let parts = and_parts (nat_eq q.operator r.operator) (same_medium q.medium r.medium) h in
+    seq_is q r (eqb-true q.operator r.operator parts.0) (same_medium_is q.medium r.medium parts.1)
 
 same_seq_self : (q : Seq) → same_seq q q ≡ true
 same_seq_self q = both_true (eq-eqb q.operator q.operator refl) (same_medium_self q.medium)
@@ -96,7 +97,8 @@ once o n (m ∷ media) k h q e d = by (stands_at m o) k h e d (λ i j. once o (n
     by true (suc k) (suc h) e d r = ap (λ (n : ℕ). suc n) (r k h e d)
     by false k h e d r = r k h e d
 
-communicator_there : (o n : ℕ) (media : List Medium) (i : ℕ) (m : Medium) → slice_get media i ≡ Some m → stands_at m o ≡ true → (k : ℕ) × (slice_get (communicators o n media) k ≡ Some (communicator o (n + i)))
+communicator_there : (o n : ℕ) (media : List Medium) (i : ℕ) (m : Medium) → slice_get media i ≡ Some m → stands_at m o ≡ true → (k : ℕ)
+    × (slice_get (communicators o n media) k ≡ Some (communicator o (n + i)))
 communicator_there o n [] i m e h = absurd cc
 communicator_there o n (x ∷ media) zero m e h = by (stands_at x o) (ap (λ (z : Medium). stands_at z o) (same_Some x m e) ∙ h)
   where
@@ -146,7 +148,9 @@ module _ (a : Architecture) where
   found : (s : ℕ) (q : Seq) → slice_get (sequences a) s ≡ Some q → slice_get (sequences a) (position_or_len (same_seq q) (sequences a)) ≡ Some q
   found s q e = let f = first (same_seq q) (sequences a) s q e (same_seq_self q) in f.stands ∙ ap (λ (r : Seq). Some r) (sym (same_seq_is q f.it f.passes))
 
-  pub computation_there : (o : ℕ) → o < length a.operators → slice_get (sequences a) (position_or_len (same_seq (record { operator = o; medium = None })) (sequences a)) ≡ Some (record { operator = o; medium = None })
+  pub computation_there : (o : ℕ) → o < length a.operators
+      → slice_get (sequences a) (position_or_len (same_seq (record { operator = o; medium = None })) (sequences a))
+      ≡ Some (record { operator = o; medium = None })
   computation_there o h =
       let at : slice_get operators o ≡ Some o = range_there 0 (length a.operators) o h ∙ ap (λ (k : ℕ). Some k) (let z : 0 + o ≡ o = omega arith in z) in
       found (starts (sequences_of a.media) operators o + 0) (computation o) (flat_at (sequences_of a.media) operators o 0 o (computation o) at refl)
@@ -171,7 +175,8 @@ module _ (a : Architecture) where
   -- who stands at a valid architecture's medium is an operator
   pub stands_low : is_archi a.operators a.media ≡ true → (m o : ℕ) (x : Medium) → slice_get a.media m ≡ Some x → stands_at x o ≡ true → o < length a.operators
   stands_low h m o x e t =
-      let first = and_parts (are_bounded a.operators a.media && list_all (is_medium (length a.operators)) a.media && are_distinct (names_of a.operators a.media)) (are_joined (length a.operators) a.media) h in
+      let first = and_parts (are_bounded a.operators a.media && list_all (is_medium (length a.operators)) a.media
+      && are_distinct (names_of a.operators a.media)) (are_joined (length a.operators) a.media) h in
       let second = and_parts (are_bounded a.operators a.media && list_all (is_medium (length a.operators)) a.media) (are_distinct (names_of a.operators a.media)) first.0 in
       let media = (and_parts (are_bounded a.operators a.media) (list_all (is_medium (length a.operators)) a.media) second.0).1 in
       let right = all_at (is_medium (length a.operators)) a.media media m x e in

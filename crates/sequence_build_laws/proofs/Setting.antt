@@ -48,7 +48,8 @@ pub record Setting : Type 0 where
   pub written : (b : ℕ) → b < length copies → (c : ℕ) × (y : Step) × (k : ℕ) × (slice_get plain c ≡ Some y) × WritesAt y.instr k b
   pub written_once : (c e k h b : ℕ) (y z : Step) → slice_get plain c ≡ Some y → slice_get plain e ≡ Some z → WritesAt y.instr k b → WritesAt z.instr h b → (c ≡ e) × (k ≡ h)
   pub read_behind : (c k b : ℕ) (y : Step) → slice_get plain c ≡ Some y → ReadsAt y.instr k b → (e : ℕ) × (z : Step) × (h : ℕ) × (e < c) × (slice_get plain e ≡ Some z) × WritesAt z.instr h b
-  pub near : (c k b : ℕ) (y : Step) → slice_get plain c ≡ Some y → WritesAt y.instr k b ⊎ ReadsAt y.instr k b → (it : Copy) × (q : Seq) × (slice_get copies b ≡ Some it) × (slice_get seqs y.sequence ≡ Some q) × (q.operator ≡ it.operator)
+  pub near : (c k b : ℕ) (y : Step) → slice_get plain c ≡ Some y → WritesAt y.instr k b ⊎ ReadsAt y.instr k b → (it : Copy) × (q : Seq)
+      × (slice_get copies b ≡ Some it) × (slice_get seqs y.sequence ≡ Some q) × (q.operator ≡ it.operator)
 
 pub reads_plain : (b : ℕ) (x : Instr) → reads b x ≡ true → is_plain x ≡ true
 reads_plain b (Suc0 q) h = h
@@ -125,7 +126,8 @@ module _ (S : Setting) where
   pub there : (c k : ℕ) (v : Standing Step) (x : Instr) → slice_get (in_turn S.plain) c ≡ Some v → slice_get (block S.pairs v) k ≡ Some x → There c k v x
   there c k v x e h = lines.there S.pairs S.plain S.program S.prologues S.seqs S.codes_are S.low c k v x e h
 
-  pub before_of : (s a t b : ℕ) (x y : Instr) (h : Here s a x) (k : Here t b y) → (h.block_number < k.block_number) ⊎ ((h.block_number ≡ k.block_number) × (h.inner < k.inner)) → place_in order s a < place_in order t b
+  pub before_of : (s a t b : ℕ) (x y : Instr) (h : Here s a x) (k : Here t b y) → (h.block_number < k.block_number)
+      ⊎ ((h.block_number ≡ k.block_number) × (h.inner < k.inner)) → place_in order s a < place_in order t b
   before_of s a t b x y h k l = lines.before_of S.pairs S.plain S.program S.prologues S.seqs S.codes_are S.low s a t b x y h k l
 
   pub same_here : (s a t b : ℕ) (x y : Instr) (h : Here s a x) (k : Here t b y) → h.block_number ≡ k.block_number → h.inner ≡ k.inner → (s ≡ t) × (a ≡ b)
@@ -166,7 +168,8 @@ module _ (S : Setting) where
     pub entry : Here y.sequence at y.instr
     pub number : entry.block_number ≡ c
 
-  same_number : (s a : ℕ) (x : Instr) (h : Here s a x) (c : ℕ) (v : Standing Step) → slice_get (in_turn S.plain) c ≡ Some v → place_in order s a ≡ lines.place_of S.pairs S.plain c + middle S.pairs v → h.block_number ≡ c
+  same_number : (s a : ℕ) (x : Instr) (h : Here s a x) (c : ℕ) (v : Standing Step) → slice_get (in_turn S.plain) c ≡ Some v
+      → place_in order s a ≡ lines.place_of S.pairs S.plain c + middle S.pairs v → h.block_number ≡ c
   same_number s a x h c v e p = lines.same_number S.pairs S.plain S.program S.prologues S.seqs S.codes_are S.low s a x h c v e p
 
   pub placed : (c : ℕ) (y : Step) → slice_get S.plain c ≡ Some y → Placed c y

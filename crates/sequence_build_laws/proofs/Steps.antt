@@ -36,7 +36,8 @@ module _ (g : Graph) (a : Architecture) (s : Schedule) where
   waiting t q = step q (Sync t.from t.to)
 
   abbrev pub calling : Decision → Step
-  calling d = step (number_of g a s (record { operator = d.operator; medium = None })) (Call d.op (map (buffer_for g a s) (read_by g.vertices (run d))) (map (buffer_for g a s) (made_by g.vertices (run d))))
+  calling d = step (number_of g a s (record { operator = d.operator; medium = None }))
+      (Call d.op (map (buffer_for g a s) (read_by g.vertices (run d))) (map (buffer_for g a s) (made_by g.vertices (run d))))
 
   -- what step j of an act is
   pub data Kind : Act → ℕ → Step → Type 0 where
@@ -70,7 +71,8 @@ module _ (g : Graph) (a : Architecture) (s : Schedule) where
   of_step c y e = let r = in_flat (steps_of g a s) (acts s) c y e in
       record { at = r.at; act = r.it; inner = r.inner; is_act = r.is_it; stands = r.stands; is = r.is; kind = kind_of r.it r.inner y r.stands }
 
-  pub step_at : (i j : ℕ) (x : Act) (y : Step) → slice_get (acts s) i ≡ Some x → slice_get (steps_of g a s x) j ≡ Some y → slice_get (plain_steps g a s) (starts (steps_of g a s) (acts s) i + j) ≡ Some y
+  pub step_at : (i j : ℕ) (x : Act) (y : Step) → slice_get (acts s) i ≡ Some x → slice_get (steps_of g a s x) j ≡ Some y
+      → slice_get (plain_steps g a s) (starts (steps_of g a s) (acts s) i + j) ≡ Some y
   step_at i j x y e h = flat_at (steps_of g a s) (acts s) i j x y e h
 
   -- the step of an act that writes
@@ -93,13 +95,18 @@ module _ (g : Graph) (a : Architecture) (s : Schedule) where
 
 module _ (g : Graph) (a : Architecture) (ticks : ℕ → ℕ → Option ℕ) (s : Schedule) (right : is_archi a.operators a.media ≡ true) (valid : is_valid g a ticks s ≡ true) where
   -- the sequences that an act's steps name are there
-  pub from_there : (i : ℕ) (t : Transfer) → slice_get (acts s) i ≡ Some (carry t) → slice_get (sequences a) (number_of g a s (record { operator = t.from; medium = Some t.medium })) ≡ Some (record { operator = t.from; medium = Some t.medium })
+  pub from_there : (i : ℕ) (t : Transfer) → slice_get (acts s) i ≡ Some (carry t)
+      → slice_get (sequences a) (number_of g a s (record { operator = t.from; medium = Some t.medium }))
+      ≡ Some (record { operator = t.from; medium = Some t.medium })
   from_there i t e = let o = of_transfer g a ticks s valid i t e in communicator_of a t.from t.medium o.medium (stands_low a right t.medium t.from o.medium o.there o.from) o.there o.from
 
-  pub to_there : (i : ℕ) (t : Transfer) → slice_get (acts s) i ≡ Some (carry t) → slice_get (sequences a) (number_of g a s (record { operator = t.to; medium = Some t.medium })) ≡ Some (record { operator = t.to; medium = Some t.medium })
+  pub to_there : (i : ℕ) (t : Transfer) → slice_get (acts s) i ≡ Some (carry t)
+      → slice_get (sequences a) (number_of g a s (record { operator = t.to; medium = Some t.medium }))
+      ≡ Some (record { operator = t.to; medium = Some t.medium })
   to_there i t e = let o = of_transfer g a ticks s valid i t e in communicator_of a t.to t.medium o.medium (stands_low a right t.medium t.to o.medium o.there o.to) o.there o.to
 
-  pub at_there : (i : ℕ) (d : Decision) → slice_get (acts s) i ≡ Some (run d) → slice_get (sequences a) (number_of g a s (record { operator = d.operator; medium = None })) ≡ Some (record { operator = d.operator; medium = None })
+  pub at_there : (i : ℕ) (d : Decision) → slice_get (acts s) i ≡ Some (run d)
+      → slice_get (sequences a) (number_of g a s (record { operator = d.operator; medium = None })) ≡ Some (record { operator = d.operator; medium = None })
   at_there i d e = computation_there a d.operator (of_run g a ticks s valid i d e).low
 
   pub sequence_there : (i j : ℕ) (x : Act) (y : Step) → slice_get (acts s) i ≡ Some x → Kind g a s x j y → (q : Seq) × (slice_get (sequences a) y.sequence ≡ Some q)
@@ -228,7 +235,8 @@ module _ (g : Graph) (a : Architecture) (ticks : ℕ → ℕ → Option ℕ) (s 
       let r = in_flat (made_by g.vertices) (acts s) b c.0 c.1 in
       written_by r.at r.inner b r.it c.0 r.is_it r.stands (buffer_is g a ticks s valid b c.0 c.1)
 
-  pub written_once : (c e k h b : ℕ) (y z : Step) → slice_get (plain_steps g a s) c ≡ Some y → slice_get (plain_steps g a s) e ≡ Some z → WritesAt y.instr k b → WritesAt z.instr h b → (c ≡ e) × (k ≡ h)
+  pub written_once : (c e k h b : ℕ) (y z : Step) → slice_get (plain_steps g a s) c ≡ Some y → slice_get (plain_steps g a s) e ≡ Some z
+      → WritesAt y.instr k b → WritesAt z.instr h b → (c ≡ e) × (k ≡ h)
   written_once c e k h b y z m n v w =
       let x = writes_of c k b y m v in
       let u = writes_of e h b z n w in
@@ -239,15 +247,18 @@ module _ (g : Graph) (a : Architecture) (ticks : ℕ → ℕ → Option ℕ) (s 
       let act : x.act ≡ u.act = same_Some x.act u.act (sym x.is_act ∙ ap (slice_get (acts s)) o.0 ∙ u.is_act) in
       (x.number ∙ (λ i. starts (steps_of g a s) (acts s) (o.0 i) + write_place g a s (act i)) ∙ sym u.number, o.1)
 
-  pub read_behind : (c k b : ℕ) (y : Step) → slice_get (plain_steps g a s) c ≡ Some y → ReadsAt y.instr k b → (e : ℕ) × (z : Step) × (h : ℕ) × (e < c) × (slice_get (plain_steps g a s) e ≡ Some z) × WritesAt z.instr h b
+  pub read_behind : (c k b : ℕ) (y : Step) → slice_get (plain_steps g a s) c ≡ Some y → ReadsAt y.instr k b → (e : ℕ) × (z : Step)
+      × (h : ℕ) × (e < c) × (slice_get (plain_steps g a s) e ≡ Some z) × WritesAt z.instr h b
   read_behind c k b y e r =
       let x = reads_of c k b y e r in
       let m = read_made g a ticks s valid x.at k x.act x.it x.is_act x.read in
-      let l = starts_rise (steps_of g a s) (acts s) m.at x.at (write_place g a s m.act) 0 m.act m.stands m.less (slice_get_within (steps_of g a s m.act) (write_place g a s m.act) (writing g a s m.act) (writes_there g a s m.act)) in
+      let l = starts_rise (steps_of g a s) (acts s) m.at x.at (write_place g a s m.act) 0 m.act m.stands m.less
+      (slice_get_within (steps_of g a s m.act) (write_place g a s m.act) (writing g a s m.act) (writes_there g a s m.act)) in
       let w = written_by m.at m.inner b m.act x.it m.stands m.made x.buffer in
       (w.0, w.1, w.2, (let n = x.number in omega arith), w.3, w.4)
 
-  pub near : (c k b : ℕ) (y : Step) → slice_get (plain_steps g a s) c ≡ Some y → WritesAt y.instr k b ⊎ ReadsAt y.instr k b → (it : Copy) × (q : Seq) × (slice_get (copies g a s) b ≡ Some it) × (slice_get (sequences a) y.sequence ≡ Some q) × (q.operator ≡ it.operator)
+  pub near : (c k b : ℕ) (y : Step) → slice_get (plain_steps g a s) c ≡ Some y → WritesAt y.instr k b ⊎ ReadsAt y.instr k b → (it : Copy)
+      × (q : Seq) × (slice_get (copies g a s) b ≡ Some it) × (slice_get (sequences a) y.sequence ≡ Some q) × (q.operator ≡ it.operator)
   near c k b y e (inl w) = let x = writes_of c k b y e w in
       (x.it, x.seq, ap (slice_get (copies g a s)) (sym x.buffer) ∙ made_buffer g a ticks s valid x.at k x.act x.it x.is_act x.made, x.sequence, x.operator)
   near c k b y e (inr r) = let x = reads_of c k b y e r in
@@ -258,7 +269,9 @@ module _ (g : Graph) (a : Architecture) (ticks : ℕ → ℕ → Option ℕ) (s 
   buffers_length depth b [] = refl
   buffers_length depth b (c ∷ cs) = ap (λ (n : ℕ). suc n) (buffers_length depth (suc b) cs)
 
-  pub buffer_at : (depth n k b : ℕ) (cs : List Copy) (c : Copy) → slice_get cs b ≡ Some c → k ≡ n + b → slice_get (buffers_from depth g a s n cs) b ≡ Some (record { operator = c.operator; len = len_of g.vertices c.source; depth = cond (is_guarded g a s k) depth 1 })
+  pub buffer_at : (depth n k b : ℕ) (cs : List Copy) (c : Copy) → slice_get cs b ≡ Some c → k ≡ n + b
+      → slice_get (buffers_from depth g a s n cs) b
+      ≡ Some (record { operator = c.operator; len = len_of g.vertices c.source; depth = cond (is_guarded g a s k) depth 1 })
   buffer_at depth n k b [] c e h = absurd cc
   buffer_at depth n k zero (x ∷ cs) c e h = let z : n ≡ k = omega arith in let same = same_Some x c e in
       λ i. Some (record { operator = (same i).operator; len = len_of g.vertices (same i).source; depth = cond (is_guarded g a s (z i)) depth 1 })

@@ -22,7 +22,23 @@ use Rattle.executive_program.specs.declared.program.Program.{Program}
 use Rattle.executive_program.specs.Instructions.{is_communication, turn, turn_of, medium, medium_in, operator, communications}
 use Rattle.executive_program.specs.Instructions as core
 use Rattle.executive_program.specs.MicroSteps.{is_on, sent_in, sent_by, sent, first_of, transfers, transfers_on}
-use Rattle.executive_program.specs.Places.{places, sequence_where, Writing, writing, writer_of, written_at, communication_at, is_send, is_receive, buffer_in, transfer, carried, carried_within, source_by, sent_source}
+use Rattle.executive_program.specs.Places.{
+  places,
+  sequence_where,
+  Writing,
+  writing,
+  writer_of,
+  written_at,
+  communication_at,
+  is_send,
+  is_receive,
+  buffer_in,
+  transfer,
+  carried,
+  carried_within,
+  source_by,
+  sent_source,
+}
 use Rattle.executive_program.specs.WellFormed.{Stands, WritesAt, Communicates, IsTransfer, place_in}
 use Rattle.executive_program.proofs.Passing.{on_is, is_on_it}
 use Rattle.sequence_build_laws.specs.Serial.{Step, step, steps_of, buffer_for, copies, serial}
@@ -47,7 +63,8 @@ number_is : (xs : List Instr) (t : ℕ) (x : Instr) → slice_get xs (communicat
 number_is [] t x e = absurd cc
 number_is (y ∷ ys) t x e = by (is_communication y) refl t e (λ u. number_is ys u x)
   where
-    by : (b : Bool) → is_communication y ≡ b → (t : ℕ) → slice_get (y ∷ ys) (communication_at (y ∷ ys) t) ≡ Some x → ((u : ℕ) → slice_get ys (communication_at ys u) ≡ Some x → AtNumber ys u x) → AtNumber (y ∷ ys) t x
+    by : (b : Bool) → is_communication y ≡ b → (t : ℕ) → slice_get (y ∷ ys) (communication_at (y ∷ ys) t) ≡ Some x
+        → ((u : ℕ) → slice_get ys (communication_at ys u) ≡ Some x → AtNumber ys u x) → AtNumber (y ∷ ys) t x
     by true c zero e r =
         let at : communication_at (y ∷ ys) 0 ≡ 0 = ap (λ (b : Bool). cond b 0 (suc (communication_at ys 0))) c in
         let same : y ≡ x = same_Some y x (ap (slice_get (y ∷ ys)) (sym at) ∙ e) in
@@ -59,7 +76,11 @@ number_is (y ∷ ys) t x e = by (is_communication y) refl t e (λ u. number_is y
     by true c (suc t) e r =
         let at : communication_at (y ∷ ys) (suc t) ≡ suc (communication_at ys t) = ap (λ (b : Bool). suc (communication_at ys (cond b t (suc t)))) c in
         let q = r t (ap (slice_get (y ∷ ys)) (sym at) ∙ e) in
-        record { is_one = q.is_one; number = ap (λ (n : ℕ). tally is_communication (take n (y ∷ ys))) at ∙ tally_yes is_communication y (take (communication_at ys t) ys) c ∙ ap (λ (n : ℕ). suc n) q.number }
+        record {
+          is_one = q.is_one;
+          number = ap (λ (n : ℕ). tally is_communication (take n (y ∷ ys))) at
+              ∙ tally_yes is_communication y (take (communication_at ys t) ys) c ∙ ap (λ (n : ℕ). suc n) q.number;
+        }
     by false c (suc t) e r =
         let at : communication_at (y ∷ ys) (suc t) ≡ suc (communication_at ys (suc t)) = ap (λ (b : Bool). suc (communication_at ys (cond b t (suc t)))) c in
         let q = r (suc t) (ap (slice_get (y ∷ ys)) (sym at) ∙ e) in
@@ -71,7 +92,8 @@ found_at (y ∷ ys) zero zero x e c n = ap (λ (b : Bool). cond b 0 (suc (commun
 found_at (y ∷ ys) zero (suc t) x e c n = absurd cc
 found_at (y ∷ ys) (suc at) t x e c n = by (is_communication y) refl t n (λ u m. found_at ys at u x e c m)
   where
-    by : (b : Bool) → is_communication y ≡ b → (t : ℕ) → tally is_communication (y ∷ take at ys) ≡ t → ((u : ℕ) → tally is_communication (take at ys) ≡ u → communication_at ys u ≡ at) → communication_at (y ∷ ys) t ≡ suc at
+    by : (b : Bool) → is_communication y ≡ b → (t : ℕ) → tally is_communication (y ∷ take at ys) ≡ t
+        → ((u : ℕ) → tally is_communication (take at ys) ≡ u → communication_at ys u ≡ at) → communication_at (y ∷ ys) t ≡ suc at
     by true d zero n r = let z = tally_yes is_communication y (take at ys) d in absurd (omega arith)
     by true d (suc t) n r = ap (λ (b : Bool). suc (communication_at ys (cond b t (suc t)))) d ∙ ap (λ (k : ℕ). suc k) (r t (let z = tally_yes is_communication y (take at ys) d in omega arith))
     by false d zero n r = ap (λ (b : Bool). cond b 0 (suc (communication_at ys 0))) d ∙ ap (λ (k : ℕ). suc k) (r 0 (let z = tally_not is_communication y (take at ys) d in omega arith))
@@ -136,7 +158,8 @@ transfers_are : (qs : List SeqCode) (m n k : ℕ) (q : SeqCode) → slice_get qs
 transfers_are [] m n k q e o h = absurd cc
 transfers_are (x ∷ qs) m n k q e o h = by (is_on m x.seq.medium) refl k e (λ j d. transfers_are qs m n j q d o (λ i r. h (suc i) r))
   where
-    by : (d : Bool) → is_on m x.seq.medium ≡ d → (k : ℕ) → slice_get (x ∷ qs) k ≡ Some q → ((j : ℕ) → slice_get qs j ≡ Some q → transfers_on qs m ≡ n) → cond d (count_by is_communication x.turn) (transfers_on qs m) ≡ n
+    by : (d : Bool) → is_on m x.seq.medium ≡ d → (k : ℕ) → slice_get (x ∷ qs) k ≡ Some q
+        → ((j : ℕ) → slice_get qs j ≡ Some q → transfers_on qs m ≡ n) → cond d (count_by is_communication x.turn) (transfers_on qs m) ≡ n
     by true on k e r = h 0 x refl on
     by false on zero e r = absurd (false≢true (sym on ∙ ap (λ (y : SeqCode). is_on m y.seq.medium) (same_Some x q e) ∙ o))
     by false on (suc k) e r = r k e
@@ -145,7 +168,8 @@ transfers_there : (qs : List SeqCode) (m t : ℕ) → t < transfers_on qs m → 
 transfers_there [] m t h = absurd (omega arith)
 transfers_there (x ∷ qs) m t h = by (is_on m x.seq.medium) refl h (transfers_there qs m t)
   where
-    by : (d : Bool) → is_on m x.seq.medium ≡ d → t < cond d (count_by is_communication x.turn) (transfers_on qs m) → (t < transfers_on qs m → (k : ℕ) × (q : SeqCode) × (slice_get qs k ≡ Some q) × (is_on m q.seq.medium ≡ true))
+    by : (d : Bool) → is_on m x.seq.medium ≡ d → t < cond d (count_by is_communication x.turn) (transfers_on qs m)
+        → (t < transfers_on qs m → (k : ℕ) × (q : SeqCode) × (slice_get qs k ≡ Some q) × (is_on m q.seq.medium ≡ true))
         → (k : ℕ) × (q : SeqCode) × (slice_get (x ∷ qs) k ≡ Some q) × (is_on m q.seq.medium ≡ true)
     by true on h r = (0, x, refl, on)
     by false on h r = let z = r h in (suc z.0, z.1, z.2, z.3)
@@ -163,13 +187,15 @@ module _ (g : Graph) (a : Architecture) (s : Schedule) where
   kind_receive t j u b o (steps.waits x i q v y d f k) = let w : Recv b o ≡ Sync x.from x.to = ap (λ (y : Step). y.instr) k in absurd cc
 
   -- in a sequence that is neither the sender nor the receiver
-  kind_wait : (t : Transfer) (j u : ℕ) (x : Instr) → (u ≡ (sending g a s t).sequence → ⊥) → (u ≡ (receiving g a s t).sequence → ⊥) → Kind g a s (carry t) j (step u x) → (1 < j) × (x ≡ Sync t.from t.to)
+  kind_wait : (t : Transfer) (j u : ℕ) (x : Instr) → (u ≡ (sending g a s t).sequence → ⊥) → (u ≡ (receiving g a s t).sequence → ⊥)
+      → Kind g a s (carry t) j (step u x) → (1 < j) × (x ≡ Sync t.from t.to)
   kind_wait t j u x n r (steps.sends z y k) = absurd (n (ap (λ (y : Step). y.sequence) k))
   kind_wait t j u x n r (steps.receives z y k) = absurd (r (ap (λ (y : Step). y.sequence) k))
   kind_wait t j u x n r (steps.waits z i q v y d f k) = (omega arith, ap (λ (y : Step). y.instr) k)
 
 -- what a received buffer carries, by its transfer
-source_received : (p : Program) (inner : ℕ → Source) (w : Writing) (b o m c : ℕ) → medium p w.writer ≡ Some m → sent p m (communications p w.writer w.at) ≡ Some c → source_by p inner w (Some (Recv b o)) ≡ inner c
+source_received : (p : Program) (inner : ℕ → Source) (w : Writing) (b o m c : ℕ) → medium p w.writer ≡ Some m
+    → sent p m (communications p w.writer w.at) ≡ Some c → source_by p inner w (Some (Recv b o)) ≡ inner c
 source_received p inner w b o m c e h = rw e (ap (sent_source p inner) h)
 
 module _ (g : Graph) (a : Architecture) (ticks : ℕ → ℕ → Option ℕ) (s : Schedule) (right : is_archi a.operators a.media ≡ true) (valid : is_valid g a ticks s ≡ true) (depth : ℕ) where
@@ -244,12 +270,15 @@ module _ (g : Graph) (a : Architecture) (ticks : ℕ → ℕ → Option ℕ) (s 
     pub kind : Kind g a s (carry n.it) inner (step u x)
     pub block : entry.block_number ≡ starts (steps_of g a s) (acts s) n.number + inner
 
-  pub belongs : (m t : ℕ) (n : Numbered m t) (u at : ℕ) (x : Instr) → medium prog u ≡ Some m → Stands prog u at x → is_communication x ≡ true → tally is_communication (take at (turn prog u)) ≡ t → Belongs m t n u at x
+  pub belongs : (m t : ℕ) (n : Numbered m t) (u at : ℕ) (x : Instr) → medium prog u ≡ Some m → Stands prog u at x → is_communication x
+      ≡ true → tally is_communication (take at (turn prog u)) ≡ t → Belongs m t n u at x
   belongs m t n u at x on e h z =
       let c = comm_of g a ticks s right valid depth u at x e h in
       let medium : c.transfer.medium ≡ m = same_Some c.transfer.medium m (sym (medium_of g a ticks s right valid depth u c.seq c.sequence ∙ c.on) ∙ on) in
       let count : tally (is_over m) (take c.number (acts s)) ≡ t = ap (λ (k : ℕ). tally (is_over k) (take c.number (acts s))) (sym medium) ∙ sym c.count ∙ z in
-      let same : c.number ≡ n.number = tally_same (is_over m) (acts s) c.number n.number (carry c.transfer) (carry n.it) c.act n.act (eq-eqb c.transfer.medium m medium) (eq-eqb n.it.medium m n.over) (count ∙ sym n.count) in
+      let same : c.number ≡ n.number =
+      tally_same (is_over m) (acts s) c.number n.number (carry c.transfer) (carry n.it) c.act n.act (eq-eqb c.transfer.medium m medium)
+      (eq-eqb n.it.medium m n.over) (count ∙ sym n.count) in
       let act : carry c.transfer ≡ carry n.it = same_Some (carry c.transfer) (carry n.it) (sym c.act ∙ ap (slice_get (acts s)) same ∙ n.act) in
       record {
         entry = c.entry;
@@ -305,7 +334,8 @@ module _ (g : Graph) (a : Architecture) (ticks : ℕ → ℕ → Option ℕ) (s 
             buffer = ap buffer_in own_st;
           }
 
-      end_there : slice_get (steps_of g a s (carry n.it)) j ≡ Some y → is_communication y.instr ≡ true → test (Some y.instr) ≡ true → ((o : Option Instr) → test o ≡ true → (z : Instr) × (o ≡ Some z) × IsOfIt z) → End
+      end_there : slice_get (steps_of g a s (carry n.it)) j ≡ Some y → is_communication y.instr ≡ true → test (Some y.instr) ≡ true
+          → ((o : Option Instr) → test o ≡ true → (z : Instr) × (o ≡ Some z) × IsOfIt z) → End
       end_there made comm passes picks =
           let o = onto g a ticks s right valid depth n.number j n.it y n.act made comm in
           let on : medium prog y.sequence ≡ Some m = medium_of g a ticks s right valid depth y.sequence _ there ∙ ap (λ (k : ℕ). Some k) n.over in
@@ -371,16 +401,34 @@ module _ (g : Graph) (a : Architecture) (ticks : ℕ → ℕ → Option ℕ) (s 
       let x = sends m t n in
       let y = receives m t n in
       record {
-        sends = record { on = x.on; stands = x.stands ∙ (λ i. Some (Send (sym x.buffer i) (sym y.operator i))); is_one = refl; number = counts_tally is_communication (take (transfer prog m t).send_at (turn prog (transfer prog m t).sender)) ∙ x.count };
-        receives = record { on = y.on; stands = y.stands ∙ (λ i. Some (Recv (sym y.buffer i) (sym x.operator i))); is_one = refl; number = counts_tally is_communication (take (transfer prog m t).receive_at (turn prog (transfer prog m t).receiver)) ∙ y.count };
+        sends = record {
+          on = x.on;
+          stands = x.stands
+              ∙ (λ i. Some (Send (sym x.buffer i) (sym y.operator i)));
+          is_one = refl;
+          number =
+              counts_tally is_communication (take (transfer prog m t).send_at (turn prog (transfer prog m t).sender)) ∙ x.count;
+        };
+        receives = record {
+          on = y.on;
+          stands = y.stands
+              ∙ (λ i. Some (Recv (sym y.buffer i) (sym x.operator i)));
+          is_one = refl;
+          number =
+              counts_tally is_communication (take (transfer prog m t).receive_at (turn prog (transfer prog m t).receiver)) ∙ y.count;
+        };
         others = λ u at z c not_sender not_receiver. others n x y u at z c not_sender not_receiver;
-        in_order = before_of Set (transfer prog m t).sender (transfer prog m t).send_at (transfer prog m t).receiver (transfer prog m t).receive_at _ _ x.entry y.entry (inl (let i = x.block in let j = y.block in omega arith));
+        in_order = before_of Set (transfer prog m t).sender (transfer prog m t).send_at (transfer prog m t).receiver
+            (transfer prog m t).receive_at _ _ x.entry y.entry (inl (let i = x.block in let j = y.block in omega arith));
         next = λ l. next n y (counted m (t + 1) l) (sends m (t + 1) (counted m (t + 1) l));
         lengths = len_at (transfer prog m t).received _ (received_copy m t n) ∙ sym (len_at (transfer prog m t).sent _ (sent_copy m t n));
       }
     where
-      others : (n : Numbered m t) (x : Sends m t n) (y : Receives m t n) (u at : ℕ) (z : Instr) → Communicates prog m t u at z → (u ≡ (transfer prog m t).sender → ⊥) → (u ≡ (transfer prog m t).receiver → ⊥)
-          → (z ≡ Sync (core.operator prog (transfer prog m t).sender) (core.operator prog (transfer prog m t).receiver)) × (place_in (order (S g a ticks s right valid depth)) (transfer prog m t).receiver (transfer prog m t).receive_at < place_in (order (S g a ticks s right valid depth)) u at)
+      others : (n : Numbered m t) (x : Sends m t n) (y : Receives m t n) (u at : ℕ) (z : Instr) → Communicates prog m t u at z
+          → (u ≡ (transfer prog m t).sender → ⊥) → (u ≡ (transfer prog m t).receiver → ⊥)
+          → (z ≡ Sync (core.operator prog (transfer prog m t).sender) (core.operator prog (transfer prog m t).receiver))
+          × (place_in (order (S g a ticks s right valid depth)) (transfer prog m t).receiver (transfer prog m t).receive_at
+          < place_in (order (S g a ticks s right valid depth)) u at)
       others n x y u at z c ns nr =
           let r = belongs m t n u at z c.on c.stands c.is_one (sym (counts_tally is_communication (take at (turn prog u))) ∙ c.number) in
           let k = kind_wait g a s n.it r.inner u z (λ e. ns (e ∙ sym x.sequence)) (λ e. nr (e ∙ sym y.sequence)) r.kind in (
@@ -389,11 +437,13 @@ module _ (g : Graph) (a : Architecture) (ticks : ℕ → ℕ → Option ℕ) (s 
           )
 
       next : (n : Numbered m t) (y : Receives m t n) (o : Numbered m (t + 1)) (x : Sends m (t + 1) o)
-          → place_in (order (S g a ticks s right valid depth)) (transfer prog m t).receiver (transfer prog m t).receive_at < place_in (order (S g a ticks s right valid depth)) (transfer prog m (t + 1)).sender (transfer prog m (t + 1)).send_at
+          → place_in (order (S g a ticks s right valid depth)) (transfer prog m t).receiver (transfer prog m t).receive_at
+          < place_in (order (S g a ticks s right valid depth)) (transfer prog m (t + 1)).sender (transfer prog m (t + 1)).send_at
       next n y o x =
           let l = tally_earlier (is_over m) (acts s) n.number o.number (let i = n.count in let j = o.count in omega arith) in
           let z = starts_rise (steps_of g a s) (acts s) n.number o.number 1 0 (carry n.it) n.act l (let w = slice_get_within (steps_of g a s (carry n.it)) 1 (receiving g a s n.it) refl in w) in
-          before_of Set (transfer prog m t).receiver (transfer prog m t).receive_at (transfer prog m (t + 1)).sender (transfer prog m (t + 1)).send_at _ _ y.entry x.entry (inl (let i = y.block in let j = x.block in omega arith))
+          before_of Set (transfer prog m t).receiver (transfer prog m t).receive_at (transfer prog m (t + 1)).sender
+          (transfer prog m (t + 1)).send_at _ _ y.entry x.entry (inl (let i = y.block in let j = x.block in omega arith))
 
   -- What buffers carry.
   sent_of : (m t : ℕ) (n : Numbered m t) → sent prog m t ≡ Some (buffer_for g a s (copy n.it.from n.it.source))
@@ -433,12 +483,14 @@ module _ (g : Graph) (a : Architecture) (ticks : ℕ → ℕ → Option ℕ) (s 
         act = c.act;
         buffer = ap (λ (y : Instr). buffer_in (Some y)) instr;
         comes = λ inner k. source_received prog inner (record { writer = u; at = at; port = k }) b o c.transfer.medium (buffer_for g a s (copy c.transfer.from c.transfer.source)) on
-            (ap (λ (t : ℕ). sent prog c.transfer.medium t) (counts_tally is_communication (take at (turn prog u)) ∙ c.count) ∙ sent_of c.transfer.medium (tally (is_over c.transfer.medium) (take c.number (acts s))) n);
+            (ap (λ (t : ℕ). sent prog c.transfer.medium t) (counts_tally is_communication (take at (turn prog u)) ∙ c.count)
+            ∙ sent_of c.transfer.medium (tally (is_over c.transfer.medium) (take c.number (acts s))) n);
       }
 
   -- what writes a buffer
   data Writer (x : Instr) (k b : ℕ) : Type 0 where
-    by_call : (i : ℕ) (d : Decision) (c : Copy) → slice_get (acts s) i ≡ Some (run d) → slice_get (made_by g.vertices (run d)) k ≡ Some c → buffer_for g a s c ≡ b → (ins outs : List ℕ) → x ≡ Call d.op ins outs → Writer x k b
+    by_call : (i : ℕ) (d : Decision) (c : Copy) → slice_get (acts s) i ≡ Some (run d) → slice_get (made_by g.vertices (run d)) k ≡ Some c
+        → buffer_for g a s c ≡ b → (ins outs : List ℕ) → x ≡ Call d.op ins outs → Writer x k b
     by_receive : (c o : ℕ) → x ≡ Recv c o → c ≡ b → Writer x k b
 
   writer_of_kind : (i j k b : ℕ) (act : Act) (y : Step) → slice_get (acts s) i ≡ Some act → Kind g a s act j y → WritesAt y.instr k b → Writer y.instr k b
@@ -458,7 +510,8 @@ module _ (g : Graph) (a : Architecture) (ticks : ℕ → ℕ → Option ℕ) (s 
       ap (source_by prog (carried_within prog hops) (writing prog b)) w.stands
       ∙ by w.instr w.stands (writer_of_kind o.at o.inner (writing prog b).port b o.act (step (writer_of prog b) w.instr) o.is_act o.kind w.port) (λ b c. carried_is hops b c)
     where
-      by : (x : Instr) → Stands prog (writer_of prog b) (written_at prog b) x → Writer x (writing prog b).port b → ((b : ℕ) (c : Copy) → b < hops → slice_get (copies g a s) b ≡ Some c → carried_within prog hops b ≡ c.source)
+      by : (x : Instr) → Stands prog (writer_of prog b) (written_at prog b) x → Writer x (writing prog b).port b
+          → ((b : ℕ) (c : Copy) → b < hops → slice_get (copies g a s) b ≡ Some c → carried_within prog hops b ≡ c.source)
           → source_by prog (carried_within prog hops) (writing prog b) (Some x) ≡ c.source
       by x st (by_call i d m ia made is ins outs call) inner =
           let y = from_map (copy d.operator) (outputs_of d.op (slice_get g.vertices d.op)) (writing prog b).port m made in

@@ -45,7 +45,8 @@ plain_pairs (Pre0 q) h = absurd (false≢true h)
 plain_pairs (Pre1 q) h = absurd (false≢true h)
 plain_pairs _ h = refl
 
-module _ (g : Graph) (a : Architecture) (ticks : ℕ → ℕ → Option ℕ) (s : Schedule) (flat : is_flat g ≡ true) (right : is_archi a.operators a.media ≡ true) (valid : is_valid g a ticks s ≡ true) (depth : ℕ) where
+module _ (g : Graph) (a : Architecture) (ticks : ℕ → ℕ → Option ℕ) (s : Schedule) (flat : is_flat g ≡ true)
+    (right : is_archi a.operators a.media ≡ true) (valid : is_valid g a ticks s ≡ true) (depth : ℕ) where
   abbrev It : Setting
   It = S g a ticks s right valid depth
 

@@ -26,7 +26,8 @@ output_from v port [] k x e = absurd cc
 output_from v port (n ∷ ns) zero x e = let z = same_Some _ x e in (ap (λ (y : Source). y.vertex) (sym z), (let y = ap (λ (y : Source). y.port) z in omega arith), n, refl)
 output_from v port (n ∷ ns) (suc k) x e = let r = output_from v (port + 1) ns k x e in (r.0, (let z = r.1 in omega arith), r.2, r.3)
 
-pub output_of : (v : ℕ) (o : Option Vertex) (k : ℕ) (x : Source) → slice_get (outputs_of v o) k ≡ Some x → (x.vertex ≡ v) × (x.port ≡ k) × (y : Vertex) × (o ≡ Some y) × (n : ℕ) × (slice_get y.outs k ≡ Some n)
+pub output_of : (v : ℕ) (o : Option Vertex) (k : ℕ) (x : Source) → slice_get (outputs_of v o) k ≡ Some x → (x.vertex ≡ v) × (x.port ≡ k)
+    × (y : Vertex) × (o ≡ Some y) × (n : ℕ) × (slice_get y.outs k ≡ Some n)
 output_of v None k x e = absurd cc
 output_of v (Some y) k x e = let r = output_from v 0 y.outs k x e in (r.0, (let z = r.1 in omega arith), y, refl, r.2, r.3)
 
@@ -49,7 +50,8 @@ module _ (g : Graph) (a : Architecture) (ticks : ℕ → ℕ → Option ℕ) (s 
   right_behind before (y ∷ xs) zero x h e =
       (λ j. is_right g a ticks (append-nil before j) (sym (same_Some y x e) j)) ∙ (and_parts (is_right g a ticks before y) (are_right g a ticks (before ++ y ∷ []) xs) h).0
   right_behind before (y ∷ xs) (suc i) x h e =
-      ap (λ (l : List Act). is_right g a ticks l x) (sym (append_assoc before (y ∷ []) (take i xs))) ∙ right_behind (before ++ y ∷ []) xs i x (and_parts (is_right g a ticks before y) (are_right g a ticks (before ++ y ∷ []) xs) h).1 e
+      ap (λ (l : List Act). is_right g a ticks l x) (sym (append_assoc before (y ∷ []) (take i xs)))
+      ∙ right_behind (before ++ y ∷ []) xs i x (and_parts (is_right g a ticks before y) (are_right g a ticks (before ++ y ∷ []) xs) h).1 e
 
   pub right_at : (i : ℕ) (x : Act) → slice_get (acts s) i ≡ Some x → Right i x
   right_at i x e =
@@ -123,11 +125,13 @@ module _ (g : Graph) (a : Architecture) (ticks : ℕ → ℕ → Option ℕ) (s 
   pub of_transfer : (i : ℕ) (t : Transfer) → slice_get (acts s) i ≡ Some (carry t) → OfTransfer i t
   of_transfer i t e =
       let r = (right_at i (carry t) e).act in
-      let parts = and_parts (is_carried (slice_get a.media t.medium) (len_of g.vertices t.source) t && have_ended (is_over t.medium) (take i (acts s)) t.start) (not (is_there g a ticks (take i (acts s)) (copy t.to t.source))) r in
+      let parts = and_parts (is_carried (slice_get a.media t.medium) (len_of g.vertices t.source) t
+      && have_ended (is_over t.medium) (take i (acts s)) t.start) (not (is_there g a ticks (take i (acts s)) (copy t.to t.source))) r in
       let first = and_parts (is_carried (slice_get a.media t.medium) (len_of g.vertices t.source) t) (have_ended (is_over t.medium) (take i (acts s)) t.start) parts.0 in
       by (slice_get a.media t.medium) refl first.0 (not-true (is_there g a ticks (take i (acts s)) (copy t.to t.source)) parts.1)
     where
-      by : (o : Option Medium) → slice_get a.media t.medium ≡ o → is_carried o (len_of g.vertices t.source) t ≡ true → is_there g a ticks (take i (acts s)) (copy t.to t.source) ≡ false → OfTransfer i t
+      by : (o : Option Medium) → slice_get a.media t.medium ≡ o → is_carried o (len_of g.vertices t.source) t ≡ true
+          → is_there g a ticks (take i (acts s)) (copy t.to t.source) ≡ false → OfTransfer i t
       by None e h f = absurd (false≢true h)
       by (Some m) e h f =
           let ends = and_parts (stands_at m t.from && stands_at m t.to) _ h in
@@ -151,7 +155,9 @@ module _ (g : Graph) (a : Architecture) (ticks : ℕ → ℕ → Option ℕ) (s 
       let low = and_parts (with_vertex (slice_get g.vertices d.op) false (λ x. follows_get (take i (acts s)) d.operator x.kind x.twin)) (nat_lt d.operator (length a.operators)) long.0 in
       by (slice_get g.vertices d.op) refl low.0 (ltb-true d.operator (length a.operators) low.1) (not-true (list_any (runs d.op) (take i (acts s))) new.1)
     where
-      by : (o : Option Vertex) → slice_get g.vertices d.op ≡ o → with_vertex o false (λ x. follows_get (take i (acts s)) d.operator x.kind x.twin) ≡ true → d.operator < length a.operators → list_any (runs d.op) (take i (acts s)) ≡ false → OfRun i d
+      by : (o : Option Vertex) → slice_get g.vertices d.op ≡ o
+          → with_vertex o false (λ x. follows_get (take i (acts s)) d.operator x.kind x.twin) ≡ true → d.operator < length a.operators
+          → list_any (runs d.op) (take i (acts s)) ≡ false → OfRun i d
       by None e h l f = absurd (false≢true h)
       by (Some x) e h l f = record { vertex = x; there = e; follows = h; low = l; fresh = f }
 
@@ -166,7 +172,8 @@ module _ (g : Graph) (a : Architecture) (ticks : ℕ → ℕ → Option ℕ) (s 
   ]
 
   -- no act makes what an earlier one made
-  none_again : (i j h k : ℕ) (x y : Act) (c : Copy) → i < j → slice_get (acts s) i ≡ Some x → slice_get (acts s) j ≡ Some y → slice_get (made_by g.vertices x) h ≡ Some c → slice_get (made_by g.vertices y) k ≡ Some c → ⊥
+  none_again : (i j h k : ℕ) (x y : Act) (c : Copy) → i < j → slice_get (acts s) i ≡ Some x → slice_get (acts s) j ≡ Some y
+      → slice_get (made_by g.vertices x) h ≡ Some c → slice_get (made_by g.vertices y) k ≡ Some c → ⊥
   none_again i j h zero x (carry t) c l e d m n =
       let same : copy t.to t.source ≡ c = same_Some (copy t.to t.source) c n in
       let there = any_at (same_copy (copy t.to t.source)) (made_by g.vertices x) h c m (ap (same_copy (copy t.to t.source)) (sym same) ∙ same_copy_self (copy t.to t.source)) in
@@ -175,7 +182,8 @@ module _ (g : Graph) (a : Architecture) (ticks : ℕ → ℕ → Option ℕ) (s 
   none_again i j h k x (run d') c l e d m n =
       let o = origin i h x c e m in
       let r = from_map (copy d'.operator) (outputs_of d'.op (slice_get g.vertices d'.op)) k c n in
-      let v : o.it.op ≡ d'.op = sym (output_of o.it.op (slice_get g.vertices o.it.op) o.output c.source o.is).0 ∙ ap (λ (z : Copy). z.source.vertex) (sym r.is) ∙ (output_of d'.op (slice_get g.vertices d'.op) k r.it r.stands).0 in
+      let v : o.it.op ≡ d'.op = sym (output_of o.it.op (slice_get g.vertices o.it.op) o.output c.source o.is).0
+      ∙ ap (λ (z : Copy). z.source.vertex) (sym r.is) ∙ (output_of d'.op (slice_get g.vertices d'.op) k r.it r.stands).0 in
       let low = o.no_later in
       let z = one_run o.at j o.it d' o.stands d v in
       omega arith
@@ -190,7 +198,8 @@ module _ (g : Graph) (a : Architecture) (ticks : ℕ → ℕ → Option ℕ) (s 
       sym (output_of d.op (slice_get g.vertices d.op) h x.it x.stands).1 ∙ ap (λ (z : Copy). z.source.port) (x.is ∙ sym y.is) ∙ (output_of d.op (slice_get g.vertices d.op) k y.it y.stands).1
 
   -- each copy is made once
-  pub one_maker : (i j h k : ℕ) (x y : Act) (c : Copy) → slice_get (acts s) i ≡ Some x → slice_get (acts s) j ≡ Some y → slice_get (made_by g.vertices x) h ≡ Some c → slice_get (made_by g.vertices y) k ≡ Some c → (i ≡ j) × (h ≡ k)
+  pub one_maker : (i j h k : ℕ) (x y : Act) (c : Copy) → slice_get (acts s) i ≡ Some x → slice_get (acts s) j ≡ Some y
+      → slice_get (made_by g.vertices x) h ≡ Some c → slice_get (made_by g.vertices y) k ≡ Some c → (i ≡ j) × (h ≡ k)
   one_maker i j h k x y c e d m n = elim (cases_lt i j) [
     | inl l ↦ absurd (none_again i j h k x y c l e d m n)
     | inr l ↦ elim (cases_eq i j) [
@@ -200,7 +209,8 @@ module _ (g : Graph) (a : Architecture) (ticks : ℕ → ℕ → Option ℕ) (s 
   ]
 
   -- The copies, by number.
-  pub copy_at : (i h : ℕ) (x : Act) (c : Copy) → slice_get (acts s) i ≡ Some x → slice_get (made_by g.vertices x) h ≡ Some c → slice_get (copies g a s) (starts (made_by g.vertices) (acts s) i + h) ≡ Some c
+  pub copy_at : (i h : ℕ) (x : Act) (c : Copy) → slice_get (acts s) i ≡ Some x → slice_get (made_by g.vertices x) h ≡ Some c
+      → slice_get (copies g a s) (starts (made_by g.vertices) (acts s) i + h) ≡ Some c
   copy_at i h x c e m = flat_at (made_by g.vertices) (acts s) i h x c e m
 
   one_copy : (b e : ℕ) (c : Copy) → slice_get (copies g a s) b ≡ Some c → slice_get (copies g a s) e ≡ Some c → b ≡ e
@@ -223,7 +233,8 @@ module _ (g : Graph) (a : Architecture) (ticks : ℕ → ℕ → Option ℕ) (s 
   read_buffer i k x c e r = let b = read_made i k x c e r in made_buffer b.at b.inner b.act c b.stands b.made
 
   -- what an act reads has a lower number than what it makes
-  pub read_lower : (i k h : ℕ) (x : Act) (c d : Copy) → slice_get (acts s) i ≡ Some x → slice_get (read_by g.vertices x) k ≡ Some c → slice_get (made_by g.vertices x) h ≡ Some d → buffer_for g a s c < buffer_for g a s d
+  pub read_lower : (i k h : ℕ) (x : Act) (c d : Copy) → slice_get (acts s) i ≡ Some x → slice_get (read_by g.vertices x) k ≡ Some c
+      → slice_get (made_by g.vertices x) h ≡ Some d → buffer_for g a s c < buffer_for g a s d
   read_lower i k h x c d e r m =
       let b = read_made i k x c e r in
       let y = buffer_is (starts (made_by g.vertices) (acts s) b.at + b.inner) c (copy_at b.at b.inner b.act c b.stands b.made) in

@@ -137,6 +137,7 @@ module _ (g : Graph) (a : Architecture) (s : Schedule) where
   abbrev pub pairs : List Reader
   pairs = readers plain_program
 
-  -- the serial order
+  -- The micro-steps of one reaction in the serial order: of each step of the plain order, those
+  -- that the pairs add to it.
   abbrev pub serial : List Step
   serial = flat_map (steps_at pairs) (in_turn plain_steps)

@@ -13,8 +13,8 @@ ghost use Rattle.sequence_build_laws.specs.Guarded.{BuiltAreGuarded};
 pub use executive_program::{Buffer, Instr, Program, SeqCode, buffer_len, elements_in};
 pub use schedule::{
     Archi, ArchiCause, ArchiError, ArchiText, Decision, DurationLine, Durations, Flat, Guard, Hop,
-    Kind, Medium, Schedule, Seq, Source, Transfer, Vertex, accepted_are_durations, durations_fit,
-    durations_of, is_archi, is_flat, is_valid, len_of,
+    Kind, Medium, MediumKind, Schedule, Seq, Source, Transfer, Vertex, accepted_are_durations,
+    durations_fit, durations_of, is_archi, is_flat, is_valid, len_of,
 };
 
 /// The program of a valid schedule is well formed by its serial order, where the buffers between

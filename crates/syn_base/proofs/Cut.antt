@@ -61,7 +61,8 @@ cut-set (len ∷ lens) row (suc v) j x h k =
 pub reactions-set : (lens : List ℕ) (rows : List (List ℤ)) (k v j : ℕ) (x : ℤ) (row : List ℤ) → k < length rows → v < length lens → j < get_or lens v 0
     → row ≡ set (get_or rows k []) (sum (take v lens) + j) x → cut_all lens (set rows k row) ≡ with_element (cut_all lens rows) k v j x
 reactions-set lens rows k v j x row kl vl jl written =
-    map-set (cut lens) rows k row ∙ ap (set (cut_all lens rows) k) (ap (cut lens) written ∙ cut-set lens (get_or rows k []) v j x vl jl ∙ ap (λ ys. with_value ys v j x) (sym (reaction-at lens rows k kl)))
+    map-set (cut lens) rows k row ∙ ap (set (cut_all lens rows) k)
+    (ap (cut lens) written ∙ cut-set lens (get_or rows k []) v j x vl jl ∙ ap (λ ys. with_value ys v j x) (sym (reaction-at lens rows k kl)))
 
 -- one more row of the right length
 pub long-push : (width : ℕ) (rows : List (List ℤ)) (row : List ℤ) → AreLong width rows → length row ≡ width → AreLong width (rows ++ row ∷ [])

@@ -1,5 +1,42 @@
 -- What is printed is read back.
-use Rattle.std.proofs.Common.{◌≡◌, ℕ, suc, ◌-◌, ◌^◌, ◌≤◌, ◌<◌, ℤ, pos, negsuc, List, [], ◌∷◌, Option, Some, None, Result, Ok, Err, Bool, true, false, ◌&&◌, ◌==◌, if◌then◌else◌, nat_le, refl, arith, rules, length, ap, ◌∙◌, subst, ne_eqb, w64, FitsSigned}
+use Rattle.std.proofs.Common.{
+  ◌≡◌,
+  ℕ,
+  suc,
+  ◌-◌,
+  ◌^◌,
+  ◌≤◌,
+  ◌<◌,
+  ℤ,
+  pos,
+  negsuc,
+  List,
+  [],
+  ◌∷◌,
+  Option,
+  Some,
+  None,
+  Result,
+  Ok,
+  Err,
+  Bool,
+  true,
+  false,
+  ◌&&◌,
+  ◌==◌,
+  if◌then◌else◌,
+  nat_le,
+  refl,
+  arith,
+  rules,
+  length,
+  ap,
+  ◌∙◌,
+  subst,
+  ne_eqb,
+  w64,
+  FitsSigned,
+}
 use Rattle.std.specs.List.{list_all}
 use Rattle.std.specs.Fmt.{decimal, signed_decimal}
 use Rattle.std.proofs.lemmas.Fmt.{digits_decimal, digits_value-decimal, decimal_nonempty}
@@ -52,4 +89,5 @@ reads_back (pos n) f =
     plain (decimal n) (digits_decimal own n h) (decimal_nonempty n h) ∙ ap (with_sign false) (digits_value-decimal own n h) ∙ within n (2 ^ 63 - 1) (pos n) (omega (arith, f.sfits))
 reads_back (negsuc n) f =
     let h : suc n < 2 ^ 64 = omega (arith, f.sfits) in
-    minus (decimal (suc n)) (digits_decimal own (suc n) h) (decimal_nonempty (suc n) h) ∙ ap (with_sign true) (digits_value-decimal own (suc n) h) ∙ within (suc n) (2 ^ 63) (negsuc n) (omega (arith, f.sfits))
+    minus (decimal (suc n)) (digits_decimal own (suc n) h) (decimal_nonempty (suc n) h)
+    ∙ ap (with_sign true) (digits_value-decimal own (suc n) h) ∙ within (suc n) (2 ^ 63) (negsuc n) (omega (arith, f.sfits))

@@ -1,5 +1,35 @@
 -- Numbers written by digits.
-use Rattle.std.proofs.Common.{◌≡◌, ℕ, suc, ◌+◌, ◌*◌, ◌-◌, ◌≤◌, ◌<◌, min, List, [], ◌∷◌, Option, Some, None, Bool, true, false, ◌&&◌, if◌then◌else◌, refl, arith, get_or, drop, length, ap, ◌∙◌, sym, drop-cons}
+use Rattle.std.proofs.Common.{
+  ◌≡◌,
+  ℕ,
+  suc,
+  ◌+◌,
+  ◌*◌,
+  ◌-◌,
+  ◌≤◌,
+  ◌<◌,
+  min,
+  List,
+  [],
+  ◌∷◌,
+  Option,
+  Some,
+  None,
+  Bool,
+  true,
+  false,
+  ◌&&◌,
+  if◌then◌else◌,
+  refl,
+  arith,
+  get_or,
+  drop,
+  length,
+  ap,
+  ◌∙◌,
+  sym,
+  drop-cons,
+}
 use Rattle.std.specs.List.{list_all}
 use Rattle.syn_base.specs.Name.{is_digit}
 use Rattle.syn_base.specs.Integer.{first_other, number_after, too_large}

@@ -53,7 +53,8 @@ module _ (vertices : List Vertex) (table : List Values) (outs : map lengths tabl
   pub value_len : (s : Source) → length (value_at table s) ≡ len_of vertices s
   value_len s = length-vector_at (given table s.vertex) s.port ∙ at table vertices s.vertex outs
     where
-      at : (ts : List Values) (xs : List Vertex) (v : ℕ) → map lengths ts ≡ map (λ x. x.outs) xs → get_or (lengths (get_or ts v [])) s.port 0 ≡ with_vertex (slice_get xs v) 0 (λ x. slice_index_or x.outs s.port 0)
+      at : (ts : List Values) (xs : List Vertex) (v : ℕ) → map lengths ts ≡ map (λ x. x.outs) xs
+          → get_or (lengths (get_or ts v [])) s.port 0 ≡ with_vertex (slice_get xs v) 0 (λ x. slice_index_or x.outs s.port 0)
       at [] [] v e = refl
       at [] (x ∷ xs) v e = absurd (cc)
       at (t ∷ ts) [] v e = absurd (cc)
@@ -116,7 +117,8 @@ module _ (g : Graph) (v : ℕ) (x : Vertex) (is : slice_get g.vertices v ≡ Som
       by (Merge values) k = refl
 
   -- what is fired has the lengths of the outputs
-  pub fired_lens : is_flat g ≡ true → (cell seen : Vector) → length cell ≡ cell_len g v → length seen ≡ seen_len g v → (cs vs : Values) → lengths vs ≡ lens_of g.vertices x.ins → lengths (fired g.bodies x cell seen cs vs) ≡ x.outs
+  pub fired_lens : is_flat g ≡ true → (cell seen : Vector) → length cell ≡ cell_len g v → length seen ≡ seen_len g v → (cs vs : Values)
+      → lengths vs ≡ lens_of g.vertices x.ins → lengths (fired g.bodies x cell seen cs vs) ≡ x.outs
   fired_lens valid cell seen cell_fits seen_fits cs vs lens = by (guards_hold x.guards cs)
     where
       has_seen : (kind : Kind) → length seen ≡ kind_seen_len kind x.outs → HasSeen kind x.outs seen
@@ -151,7 +153,8 @@ module _ (g : Graph) (v : ℕ) (x : Vertex) (is : slice_get g.vertices v ≡ Som
   -- a set half gives nothing
   pub set_outs : is_flat g ≡ true → x.kind ≡ Set → x.outs ≡ []
   set_outs valid kind =
-      let form : fits g.bodies Set (lens_of g.vertices x.ins) x.outs ≡ true = subst (λ (k : Kind). fits g.bodies k (lens_of g.vertices x.ins) x.outs ≡ true) kind (fits_of g v x (vertex_valid g valid v x is)) in
+      let form : fits g.bodies Set (lens_of g.vertices x.ins) x.outs
+      ≡ true = subst (λ (k : Kind). fits g.bodies k (lens_of g.vertices x.ins) x.outs ≡ true) kind (fits_of g v x (vertex_valid g valid v x is)) in
       none_is x.outs (and_parts (length (lens_of g.vertices x.ins) == 1) (length x.outs == 0) form).1
 
   pub set_fires : is_flat g ≡ true → x.kind ≡ Set → (cell seen : Vector) (cs vs : Values) → fired g.bodies x cell seen cs vs ≡ []

@@ -36,7 +36,8 @@ set_half_by vertices v len y Implode h = absurd (false≢true h)
 set_half_by vertices v len y (Merge values) h = absurd (false≢true h)
 
 -- the twin of a get half
-pub set_half : (g : Graph) (table : List Values) (v t : ℕ) (x : Vertex) (z : List ℤ) → is_flat g ≡ true → map lengths table ≡ map (λ x. x.outs) g.vertices → slice_get g.vertices v ≡ Some x → x.kind ≡ Get z → x.twin ≡ Some t
+pub set_half : (g : Graph) (table : List Values) (v t : ℕ) (x : Vertex) (z : List ℤ) → is_flat g ≡ true → map lengths table
+    ≡ map (λ x. x.outs) g.vertices → slice_get g.vertices v ≡ Some x → x.kind ≡ Get z → x.twin ≡ Some t
     → HasSetHalf g.vertices table (length z) t
 set_half g table v t x z valid outs is kind twin = by (slice_get g.vertices t) refl (and_parts (nat_lt v t) (with_vertex (slice_get g.vertices t) false (is_set_half_of g.vertices v (length z))) has).1
   where
@@ -56,7 +57,8 @@ kept_on y cell cs vs kind on = λ i. stored (kind i) (on i) cell (vector_at vs 0
 pub kept_off : (y : Vertex) (cell : Vector) (cs vs : Values) → y.kind ≡ Set → guards_hold y.guards cs ≡ false → kept y cell cs vs ≡ cell
 kept_off y cell cs vs kind off = λ i. stored (kind i) (off i) cell (vector_at vs 0)
 
-pub next_by : (vertices : List Vertex) (look : Source → Vector) (t : ℕ) (y : Vertex) (cell : Vector) → slice_get vertices t ≡ Some y → next_cell vertices look (Some t) cell ≡ kept y cell (conditions look y) (inputs look y)
+pub next_by : (vertices : List Vertex) (look : Source → Vector) (t : ℕ) (y : Vertex) (cell : Vector) → slice_get vertices t ≡ Some y
+    → next_cell vertices look (Some t) cell ≡ kept y cell (conditions look y) (inputs look y)
 next_by vertices look t y cell is = ap (λ (o : Option Vertex). with_vertex o cell (λ z. kept z cell (conditions look z) (inputs look z))) is
 
 tail_at : (cs : Values) (k : ℕ) → vector_at (drop 1 cs) k ≡ vector_at cs (suc k)
@@ -64,7 +66,8 @@ tail_at [] k = refl
 tail_at (c ∷ cs) k = refl
 
 -- place by place
-pub kept_at_place : (vertices : List Vertex) (look : Source → Vector) (xs : List Vertex) (cells : Values) (v : ℕ) (x : Vertex) → slice_get xs v ≡ Some x → vector_at (all_kept vertices look xs cells) v ≡ next_kept vertices look x (vector_at cells v)
+pub kept_at_place : (vertices : List Vertex) (look : Source → Vector) (xs : List Vertex) (cells : Values) (v : ℕ) (x : Vertex)
+    → slice_get xs v ≡ Some x → vector_at (all_kept vertices look xs cells) v ≡ next_kept vertices look x (vector_at cells v)
 kept_at_place vertices look [] cells v x is = absurd (cc)
 kept_at_place vertices look (y ∷ ys) cells zero x is = let same : y ≡ x = cc in ap (λ (z : Vertex). next_kept vertices look z (vector_at cells 0)) same
 kept_at_place vertices look (y ∷ ys) cells (suc v) x is = kept_at_place vertices look ys (drop 1 cells) v x is ∙ ap (next_kept vertices look x) (tail_at cells v)
@@ -74,12 +77,14 @@ length-all_kept vertices look [] cells = refl
 length-all_kept vertices look (x ∷ xs) cells = ap suc (length-all_kept vertices look xs (drop 1 cells))
 
 -- the cells of the delays are the next ones
-pub cells_next : (vertices : List Vertex) (look : Source → Vector) (xs : List Vertex) (cells : Values) → delay_cells xs (all_kept vertices look xs cells) ≡ next_from vertices look xs (delay_cells xs cells)
+pub cells_next : (vertices : List Vertex) (look : Source → Vector) (xs : List Vertex) (cells : Values)
+    → delay_cells xs (all_kept vertices look xs cells) ≡ next_from vertices look xs (delay_cells xs cells)
 cells_next vertices look [] cells = refl
 cells_next vertices look (x ∷ xs) cells = by (is_get x.kind) (cells_next vertices look xs (drop 1 cells))
   where
     by : (b : Bool) → delay_cells xs (all_kept vertices look xs (drop 1 cells)) ≡ next_from vertices look xs (delay_cells xs (drop 1 cells))
-        → (if b then (if b then next_cell vertices look x.twin (vector_at cells 0) else vector_at cells 0) ∷ delay_cells xs (all_kept vertices look xs (drop 1 cells)) else delay_cells xs (all_kept vertices look xs (drop 1 cells)))
+        → (if b then (if b then next_cell vertices look x.twin (vector_at cells 0) else vector_at cells 0)
+        ∷ delay_cells xs (all_kept vertices look xs (drop 1 cells)) else delay_cells xs (all_kept vertices look xs (drop 1 cells)))
         ≡ (if b then next_cell vertices look x.twin (vector_at (if b then vector_at cells 0 ∷ delay_cells xs (drop 1 cells) else delay_cells xs (drop 1 cells)) 0)
         ∷ next_from vertices look xs (drop 1 (if b then vector_at cells 0 ∷ delay_cells xs (drop 1 cells) else delay_cells xs (drop 1 cells)))
         else next_from vertices look xs (if b then vector_at cells 0 ∷ delay_cells xs (drop 1 cells) else delay_cells xs (drop 1 cells)))
@@ -118,7 +123,8 @@ cells_lens (x ∷ xs) (c ∷ cells) e =
     let rest : lengths cells ≡ map (λ (y : Vertex). length (first_kept y.kind)) xs = cc in
     by x.kind first (cells_lens xs cells rest)
   where
-    by : (kind : Kind) → length c ≡ length (first_kept kind) → lengths (delay_cells xs cells) ≡ delay_lens xs → lengths (if is_get kind then c ∷ delay_cells xs cells else delay_cells xs cells) ≡ delay_len kind ++ delay_lens xs
+    by : (kind : Kind) → length c ≡ length (first_kept kind) → lengths (delay_cells xs cells) ≡ delay_lens xs
+        → lengths (if is_get kind then c ∷ delay_cells xs cells else delay_cells xs cells) ≡ delay_len kind ++ delay_lens xs
     by (Get z) f r = λ i. f i ∷ r i
     by (Sensor i) f r = r
     by (Actuator i) f r = r
@@ -165,17 +171,21 @@ module _ (cells : List (Vec ℤ Global)) (v : ℕ) (cell : Vec ℤ Global) (lt :
 
 pub cells_count : (g : Graph) (cells : List (Vec ℤ Global)) → CellsFit g (map (λ c. c.items) cells) → length cells ≡ length g.vertices
 cells_count g cells fits =
-    sym (length-map cells (λ (c : Vec ℤ Global). c.items)) ∙ sym (length-map (map (λ (c : Vec ℤ Global). c.items) cells) length) ∙ ap (λ (ns : List ℕ). length ns) fits ∙ length-map g.vertices (λ (x : Vertex). length (first_kept x.kind))
+    sym (length-map cells (λ (c : Vec ℤ Global). c.items)) ∙ sym (length-map (map (λ (c : Vec ℤ Global). c.items) cells) length)
+    ∙ ap (λ (ns : List ℕ). length ns) fits ∙ length-map g.vertices (λ (x : Vertex). length (first_kept x.kind))
 
 -- a place more
-pub kept_more : (vertices : List Vertex) (look : Source → Vector) (initial : Values) (v : ℕ) (x : Vertex) (old new : Values) → length initial ≡ length vertices → v < length vertices → slice_get vertices v ≡ Some x
-    → old ≡ take v (all_kept vertices look vertices initial) ++ drop v initial → new ≡ set old v (next_kept vertices look x (vector_at old v)) → new ≡ take (v + 1) (all_kept vertices look vertices initial) ++ drop (v + 1) initial
+pub kept_more : (vertices : List Vertex) (look : Source → Vector) (initial : Values) (v : ℕ) (x : Vertex) (old new : Values)
+    → length initial ≡ length vertices → v < length vertices → slice_get vertices v ≡ Some x
+    → old ≡ take v (all_kept vertices look vertices initial) ++ drop v initial → new
+    ≡ set old v (next_kept vertices look x (vector_at old v)) → new ≡ take (v + 1) (all_kept vertices look vertices initial) ++ drop (v + 1) initial
 kept_more vertices look initial v x old new count lt is old_is new_is =
     let target = all_kept vertices look vertices initial in
     let long : length target ≡ length vertices = length-all_kept vertices look vertices initial in
     let here : vector_at old v ≡ vector_at initial v = ap (λ (vs : Values). vector_at vs v) old_is ∙ at_seam target initial v [] (omega arith) (omega arith) in
     let value : next_kept vertices look x (vector_at old v) ≡ vector_at target v = ap (next_kept vertices look x) here ∙ sym (kept_at_place vertices look vertices initial v x is) in
-    new_is ∙ ap (λ (vs : Values). set vs v (next_kept vertices look x (vector_at old v))) old_is ∙ fill target initial v [] (next_kept vertices look x (vector_at old v)) (omega arith) (omega arith) value
+    new_is ∙ ap (λ (vs : Values). set vs v (next_kept vertices look x (vector_at old v))) old_is
+    ∙ fill target initial v [] (next_kept vertices look x (vector_at old v)) (omega arith) (omega arith) value
 
 pub all_more : (vertices : List Vertex) (look : Source → Vector) (initial : Values) (v : ℕ) → length initial ≡ length vertices → length vertices ≤ v
     → take v (all_kept vertices look vertices initial) ++ drop v initial ≡ all_kept vertices look vertices initial

@@ -49,7 +49,8 @@ set_stays g row v x s is valid kind fits = record {
 }
 
 -- any other operation gives, and what it keeps stays
-pub has_run : (g : Graph) (row : Values) (v : ℕ) (x : Vertex) (old new : Store) (read : Values) → slice_get g.vertices v ≡ Some x → FitsStore g old → lengths read ≡ lengths (given old.reads.items v) → new.reads.items ≡ set old.reads.items v read
+pub has_run : (g : Graph) (row : Values) (v : ℕ) (x : Vertex) (old new : Store) (read : Values) → slice_get g.vertices v ≡ Some x
+    → FitsStore g old → lengths read ≡ lengths (given old.reads.items v) → new.reads.items ≡ set old.reads.items v read
     → Gives g v (vector_at (kept_in old) v) (sensed x.kind row) old.table.items new.table.items → kept_in new ≡ kept_in old → HasRun g row v old new
 has_run g row v x old new read is fits same reads given_is cells = record {
   fits = record {

@@ -17,7 +17,15 @@ module _ (look : Source → Vector) (x : Vertex) (old : Values) (fits : lengths 
   pub count_is : length x.ins + length x.guards ≡ length old
   count_is =
       let all : length (lengths old) ≡ length (lengths (inputs look x) ++ lengths (conditions look x)) = ap (λ (ns : List ℕ). length ns) fits in
-      omega (arith, all, length-map old length, length-append (lengths (inputs look x)) (lengths (conditions look x)), inputs_count, length-map (conditions look x) length, length-map x.guards (λ (d : Guard). look d.source))
+      omega (
+        arith,
+        all,
+        length-map old length,
+        length-append (lengths (inputs look x)) (lengths (conditions look x)),
+        inputs_count,
+        length-map (conditions look x) length,
+        length-map x.guards (λ (d : Guard). look d.source),
+      )
 
   pub conditions_fit : lengths (conditions look x) ≡ drop (length x.ins) (lengths old)
   conditions_fit = sym (ap (drop (length x.ins)) fits ∙ drop_at (lengths (inputs look x)) (lengths (conditions look x)) (length x.ins) inputs_count)

@@ -5,7 +5,8 @@ use Rattle.std.proofs.lemmas.List.{map_push, map_more, drop_more, replicate_more
 use Rattle.syn_base.specs.Vectors.{Vector, Values}
 use Rattle.algo_tree.specs.Level.{all_joined}
 
-pub pushed : {X Y Z : Type 0} (f : Y → Z) (h : X → Z) (xs : List X) (i : ℕ) (x : X) (ys new : List Y) (y : Y) → i < length xs → x ≡ get_or xs i x → f y ≡ h x → new ≡ ys ++ y ∷ [] → map f ys ≡ map h (take i xs)
+pub pushed : {X Y Z : Type 0} (f : Y → Z) (h : X → Z) (xs : List X) (i : ℕ) (x : X) (ys new : List Y) (y : Y) → i < length xs → x
+    ≡ get_or xs i x → f y ≡ h x → new ≡ ys ++ y ∷ [] → map f ys ≡ map h (take i xs)
     → map f new ≡ map h (take (i + 1) xs)
 pushed f h xs i x ys new y lt at same push so_far =
     ap (map f) push ∙ map_push f ys y ∙ (λ j. so_far j ++ same j ∷ []) ∙ sym (map_more h xs i x lt ∙ ap (λ z. map h (take i xs) ++ h z ∷ []) (sym at))

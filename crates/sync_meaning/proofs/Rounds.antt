@@ -1,5 +1,40 @@
 -- Operations that are put in order one by one: after as many rounds as there are operations all of them are.
-use Rattle.std.proofs.Common.{◌≡◌, ℕ, zero, suc, ◌+◌, ◌<◌, inl, inr, List, [], ◌∷◌, ◌++◌, length, get_or, set, take, Bool, true, false, not, ◌&&◌, refl, sym, ap, ◌∙◌, subst, arith, add-one, zero-add, get_or-set_other, get_or-set_same, length-append, length-set, replicate}
+use Rattle.std.proofs.Common.{
+  ◌≡◌,
+  ℕ,
+  zero,
+  suc,
+  ◌+◌,
+  ◌<◌,
+  inl,
+  inr,
+  List,
+  [],
+  ◌∷◌,
+  ◌++◌,
+  length,
+  get_or,
+  set,
+  take,
+  Bool,
+  true,
+  false,
+  not,
+  ◌&&◌,
+  refl,
+  sym,
+  ap,
+  ◌∙◌,
+  subst,
+  arith,
+  add-one,
+  zero-add,
+  get_or-set_other,
+  get_or-set_same,
+  length-append,
+  length-set,
+  replicate,
+}
 use Rattle.std.specs.Prelude.{Option, None, Some, slice_get, slice_index_or}
 use Rattle.std.specs.List.{list_all, range_with_len}
 use Rattle.std.proofs.lemmas.Bool.{cases_lt, false≢true}
@@ -54,7 +89,8 @@ still_set done v lt u h = elim (same_or_not u v) [
   | inr other ↦ get_or-set_other done v u true false other ∙ h
 ]
 
-told_more : (order : List ℕ) (done : List Bool) (v : ℕ) → v < length done → ((u : ℕ) → has_flag done u ≡ true → is_among order u ≡ true) → (u : ℕ) → has_flag (set done v true) u ≡ true → is_among (order ++ v ∷ []) u ≡ true
+told_more : (order : List ℕ) (done : List Bool) (v : ℕ) → v < length done → ((u : ℕ) → has_flag done u ≡ true → is_among order u ≡ true)
+    → (u : ℕ) → has_flag (set done v true) u ≡ true → is_among (order ++ v ∷ []) u ≡ true
 told_more order done v lt told u h = elim (same_or_not u v) [
   | inl same ↦ ap (is_among (order ++ v ∷ [])) same ∙ among_last order v
   | inr other ↦ among_still order v u (told u (sym (get_or-set_other done v u true false other) ∙ h))
@@ -74,7 +110,8 @@ none_begun vertices b none clear = record {
 }
 
 -- operation v was not ready, or was done
-pub tried_in_vain : (vertices : List Vertex) (v : ℕ) (x : Vertex) (b : Begun) → slice_get vertices v ≡ Some x → false ≡ (not (has_flag b.done.items v) && list_all (has_flag b.done.items) (depends_on x)) → IsBegun vertices b → HasTried vertices v b b
+pub tried_in_vain : (vertices : List Vertex) (v : ℕ) (x : Vertex) (b : Begun) → slice_get vertices v ≡ Some x → false
+    ≡ (not (has_flag b.done.items v) && list_all (has_flag b.done.items) (depends_on x)) → IsBegun vertices b → HasTried vertices v b b
 tried_in_vain vertices v x b is answer begun = record {
   begun = begun;
   still = λ u h. h;
@@ -82,7 +119,8 @@ tried_in_vain vertices v x b is answer begun = record {
 }
 
 -- operation v comes next
-pub tried_once : (vertices : List Vertex) (v : ℕ) (x : Vertex) (old new : Begun) → slice_get vertices v ≡ Some x → v < length vertices → true ≡ (not (has_flag old.done.items v) && list_all (has_flag old.done.items) (depends_on x))
+pub tried_once : (vertices : List Vertex) (v : ℕ) (x : Vertex) (old new : Begun) → slice_get vertices v ≡ Some x → v < length vertices
+    → true ≡ (not (has_flag old.done.items v) && list_all (has_flag old.done.items) (depends_on x))
     → IsBegun vertices old → new.order.items ≡ old.order.items ++ v ∷ [] → new.done.items ≡ set old.done.items v true → HasTried vertices v old new
 tried_once vertices v x old new is lt answer begun order done =
     let xs = old.order.items in

@@ -96,4 +96,5 @@ module _ (g : Graph) (rows : Reactions) (k : ℕ) (old mid : Store) (valid : is_
 pub one_more : (g : Graph) (rows : Reactions) (k : ℕ) (old new : Reactions) (vs : Values) → old ≡ so_far g rows k → vs ≡ flat_act_row g rows.reactions (initial_cells g.vertices) k
     → new ≡ record { lens = old.lens; reactions = old.reactions ++ vs ∷ [] } → new ≡ so_far g rows (k + 1)
 one_more g rows k old new vs is vs_is new_is = new_is ∙ rw (is, vs_is, add-one)
-    (ap (λ (rs : List Values). record { lens = taken_lens g.vertices g.vertices; reactions = rs }) (sym (map-append (flat_act_row g rows.reactions (initial_cells g.vertices)) (numbers_below k) (k ∷ []))))
+    (ap (λ (rs : List Values). record { lens = taken_lens g.vertices g.vertices; reactions = rs })
+    (sym (map-append (flat_act_row g rows.reactions (initial_cells g.vertices)) (numbers_below k) (k ∷ []))))

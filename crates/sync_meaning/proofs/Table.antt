@@ -40,7 +40,8 @@ cell_beside (y ∷ ys) cells (suc v) x is h = by (is_get y.kind) (cell_beside ys
     tail (c ∷ cs) = refl
 
     by : (b : Bool) → vector_at (delay_cells ys (drop 1 cells)) (delay_number ys v) ≡ vector_at (drop 1 cells) v
-        → vector_at (if b then vector_at cells 0 ∷ delay_cells ys (drop 1 cells) else delay_cells ys (drop 1 cells)) (if b then delay_number ys v + 1 else delay_number ys v) ≡ vector_at (drop 1 cells) v
+        → vector_at (if b then vector_at cells 0 ∷ delay_cells ys (drop 1 cells) else delay_cells ys (drop 1 cells))
+        (if b then delay_number ys v + 1 else delay_number ys v) ≡ vector_at (drop 1 cells) v
     by true e = let one : delay_number ys v + 1 ≡ suc (delay_number ys v) = omega arith in ap (vector_at (vector_at cells 0 ∷ delay_cells ys (drop 1 cells))) one ∙ e
     by false e = e
 
@@ -100,10 +101,13 @@ module _ (g : Graph) (row kept : Values) where
       → ((u : ℕ) → u ≢ v → given new u ≡ given old u) → AreRight g (delay_cells g.vertices kept) row (take (i + 1) order) new
   right_more valid order i v old new lt at ready right here others u among = elim (same_or_not u v) [
     | inl same ↦ subst (λ (w : ℕ). given new w ≡ outputs_in g (delay_cells g.vertices kept) row w) (sym same) (by (slice_get g.vertices v) refl ready)
-    | inr other ↦ others u other ∙ right u (among_other (take i order) v u other (ap (λ (us : List ℕ). is_among us u) (sym (take_more order i 0 lt ∙ ap (λ (w : ℕ). take i order ++ w ∷ []) (sym at))) ∙ among))
+    | inr other ↦ others u other ∙ right u
+        (among_other (take i order) v u other
+        (ap (λ (us : List ℕ). is_among us u) (sym (take_more order i 0 lt ∙ ap (λ (w : ℕ). take i order ++ w ∷ []) (sym at))) ∙ among))
   ]
     where
-      by : (o : Option Vertex) → slice_get g.vertices v ≡ o → with_vertex o false (λ x. list_all (is_among (take i order)) (depends_on x)) ≡ true → given new v ≡ outputs_in g (delay_cells g.vertices kept) row v
+      by : (o : Option Vertex) → slice_get g.vertices v ≡ o → with_vertex o false (λ x. list_all (is_among (take i order)) (depends_on x))
+          ≡ true → given new v ≡ outputs_in g (delay_cells g.vertices kept) row v
       by None is h = absurd (false≢true h)
       by (Some x) is h =
           here x is ∙ same_cell v x is (conditions (value_at old) x) (inputs (value_at old) x)
@@ -114,7 +118,8 @@ nothing_out : (g : Graph) (cells row : Values) (fuel u : ℕ) → slice_get (lev
 nothing_out g cells row zero u e = rw e refl
 nothing_out g cells row (suc fuel) u e = rw e refl
 
-pub all_right : (g : Graph) (cells row : Values) (order : List ℕ) (table : List Values) → length table ≡ length g.vertices → ((v : ℕ) → v < length g.vertices → is_among order v ≡ true) → AreRight g cells row order table
+pub all_right : (g : Graph) (cells row : Values) (order : List ℕ) (table : List Values) → length table ≡ length g.vertices
+    → ((v : ℕ) → v < length g.vertices → is_among order v ≡ true) → AreRight g cells row order table
     → (u : ℕ) → given table u ≡ outputs_in g cells row u
 all_right g cells row order table count all right u = elim (cases_lt u (length g.vertices)) [
   | inl there ↦ right u (all u there)

@@ -1,6 +1,21 @@
 -- The values of inputs and of guards' sources, written over what was read before.
 use Rattle.std.proofs.Common.{◌≡◌, ℕ, ◌+◌, ◌<◌, ◌≤◌, List, [], ◌++◌, map, take, drop, length, get_or, sym, ap, ◌∙◌, arith, length-append}
-use Rattle.std.proofs.lemmas.List.{length-map, map-append, get_or-map, get_or_append_left, get_or-append-add, length-take-le, length-drop, take-append-drop, take_at, take_all, drop_all, take-map, drop-map, append-nil}
+use Rattle.std.proofs.lemmas.List.{
+  length-map,
+  map-append,
+  get_or-map,
+  get_or_append_left,
+  get_or-append-add,
+  length-take-le,
+  length-drop,
+  take-append-drop,
+  take_at,
+  take_all,
+  drop_all,
+  take-map,
+  drop-map,
+  append-nil,
+}
 use Rattle.sync_meaning.specs.Store.{lengths}
 use Rattle.syn_base.specs.Vectors.{Vector, Values, vector_at}
 

@@ -34,7 +34,7 @@ use Rattle.top_plans.specs.Checks.{lacking, stop_of, told}
 use Rattle.top_plans.proofs.Checks.{lacks, lacks_nothing}
 use Rattle.top_plans.specs.Given.{Given, performed}
 use Rattle.top_plans.specs.Plans.{Made, code_in, read_file, unless_lacking}
-use Rattle.compiler.specs.Reads.{text_in}
+use Rattle.top_plans.specs.Reads.{text_in}
 use Rattle.syndex_program.specs.Executes.{EndsOrWants}
 use Rattle.syndex_program.specs.Foreign.{IsProgram, MakesProgram, ReadsProgram, status_of_checked}
 
@@ -100,6 +100,7 @@ ran_so plan made held held' sunk sunk' d d' ending m (inl h) = (made, m, h)
 ran_so plan made held held' sunk sunk' d d' ending m (inr h) = (Err no_memory, wanting held held' plan made m, h)
 
 -- the text was written, or why there is none is the ending
-pub written_ends : {A : Type 0} (made : Result (Vec ℕ A) Status) (sunk sunk' : Sunk) (d : Driven) (ending : Ending Refusal) → Written made sunk sunk' ending → Ends driven_by performed (text_in made) sunk sunk' d d ending
+pub written_ends : {A : Type 0} (made : Result (Vec ℕ A) Status) (sunk sunk' : Sunk) (d : Driven) (ending : Ending Refusal)
+    → Written made sunk sunk' ending → Ends driven_by performed (text_in made) sunk sunk' d d ending
 written_ends (Ok text) sunk sunk' d ending h = writes_one driven_by text.items sunk sunk' d ending h
 written_ends (Err status) sunk sunk' d ending h = (h.0, h.1, refl)

@@ -9,7 +9,34 @@ use Rattle.syn_base.specs.Bytes.{Bytes}
 use Rattle.command_words.specs.Table.{table, kind_named}
 use Rattle.command_words.specs.declared.table.CommandKind.{CommandKind}
 use Rattle.command_words.specs.declared.table.CommandKind.TheVariants.{Check, Sim, Algorithm, Schedule, Run, Load, Exec, Dates}
-use Rattle.command_words.specs.Command.{Arguments, Command, plain, job, check, sim, run, exec, algorithm_text, schedule_text, arguments_of, command_of_kind, command_of, counted, dated, exec_by, four, loaded, number_up_to, one, one_or_two, plain_by, run_by, three, two, with_count}
+use Rattle.command_words.specs.Command.{
+  Arguments,
+  Command,
+  plain,
+  job,
+  check,
+  sim,
+  run,
+  exec,
+  algorithm_text,
+  schedule_text,
+  arguments_of,
+  command_of_kind,
+  command_of,
+  counted,
+  dated,
+  exec_by,
+  four,
+  loaded,
+  number_up_to,
+  one,
+  one_or_two,
+  plain_by,
+  run_by,
+  three,
+  two,
+  with_count,
+}
 use Rattle.syndex_program.specs.Counts.{IsCounted}
 
 -- If there is a command, its numbers are within their bounds.

@@ -1,5 +1,6 @@
 -- The plan of dates, part by part.
 use Rattle.std.proofs.Common.{◌≡◌, ℕ, List, Result, Err, subst}
+use Rattle.compiler.specs.Schedules.{schedule_of}
 use Rattle.std.specs.Prelude.{Vec}
 use Rattle.syn_base.specs.Bytes.{Bytes}
 use Rattle.algo_tree.specs.Tree.{Vertex}
@@ -21,7 +22,7 @@ use Rattle.top_plans.specs.Run.{Makes}
 use Rattle.top_plans.proofs.Makes.{after_err, memory}
 use Rattle.top_plans.specs.Status.{ending_of, of_durations, status_of_durations}
 use Rattle.top_plans.specs.Given.{written}
-use Rattle.top_plans.specs.Plans.{Made, durations_in, program_plan, read_file, schedule_of}
+use Rattle.top_plans.specs.Plans.{Made, durations_in, program_plan, read_file}
 use Rattle.syndex_program.specs.Dates.{dated_in}
 
 -- a text of actual durations is refused

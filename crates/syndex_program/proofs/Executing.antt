@@ -1,5 +1,7 @@
 -- Carrying out the plan of a program that is executed.
 use Rattle.std.proofs.Common.{◌≡◌, ◌≤◌, ◌∙◌, length, Option, Some, None, Result, Ok, Err, refl, sym, subst, inl, inr}
+use Rattle.compiler.specs.Executions.{Execution, one_job}
+use Rattle.compiler.specs.Schedules.{program_by, schedule_of}
 use Rattle.csv.specs.Reading.{default_config, records, strip_bom}
 use Rattle.syn_base.specs.Bytes.{Bytes}
 use Rattle.syn_base.specs.Rows.{Reactions}
@@ -25,7 +27,7 @@ use Rattle.top_plans.specs.Plan.{Plan, give}
 use Rattle.top_plans.specs.Run.{Makes, gives}
 use Rattle.top_plans.proofs.Makes.{memory}
 use Rattle.top_plans.proofs.Mapped.{Follows, mapped, give_follows, refuse_follows, after_follows, read_follows}
-use Rattle.top_plans.specs.Status.{Refusal, above, ending_of, failed_check, of_algorithm, of_architecture, of_code, of_sensors}
+use Rattle.top_plans.specs.Status.{Refusal, above, ending_of, failed_check, of_algorithm, of_architecture, of_code, of_sensors, status_of_build}
 use Rattle.top_plans.specs.declared.Status.{Status}
 use Rattle.top_plans.specs.declared.CheckCause.{CheckCause}
 use Rattle.top_plans.specs.declared.File.TheVariants.{Algorithm, Architecture, Sensors, Code}
@@ -33,7 +35,7 @@ use Rattle.top_plans.specs.Elaborated.{elaboration_of}
 use Rattle.top_plans.specs.ReadText.{program_in}
 use Rattle.top_plans.specs.SensorTable.{rows_of}
 use Rattle.top_plans.specs.Checks.{lacking}
-use Rattle.top_plans.specs.Given.{Given, Execution, one_job}
+use Rattle.top_plans.specs.Given.{Given}
 use Rattle.top_plans.specs.Plans.{
   algorithm_in,
   algorithm_plan,
@@ -43,17 +45,17 @@ use Rattle.top_plans.specs.Plans.{
   described_in,
   execution,
   execution_plan,
-  program_by,
   program_plan,
   read_file,
-  schedule_of,
   table_in,
   table_plan,
   unless,
   unless_lacking,
 }
 use Rattle.compiler.specs.Builds.{BuildsProgram}
-use Rattle.compiler.proofs.Steps.{is_above, is_within}
+use Rattle.top_plans.specs.declared.BuildError.{BuildError}
+use Rattle.top_plans.specs.declared.BuildError.TheVariants as build
+use Rattle.top_plans.proofs.Steps.{is_above, is_within}
 use Rattle.syndex_program.specs.Executes.{executed_in, files_plan, foreign_plan, made_of, rest_plan, texts_plan}
 use Rattle.syndex_program.specs.declared.execution.Execution as built
 
@@ -84,12 +86,10 @@ module _ (main : Vertex) (a : Archi) (rows : Reactions) (p : Program) where
         (subst (λ (x : Program). Makes held held (execution_plan (execution main a x rows) (λ y. y)) made) same m)
 
 -- a program that is not built stops the plan
-pub program_stops : {A : Type 0} (g : Graph) (a : Archi) (t : Table) (status : Status) (held : Held) (next : Program → Plan Refusal A) → BuildsProgram g a (schedule_of g a t) (Err status)
-    → Makes held held (program_plan g a t next) (Err (ending_of status))
-program_stops g a t status held next (inl is) = subst (λ (s : Status). Makes held held (program_plan g a t next) (Err (ending_of s))) (sym is) (memory held (program_plan g a t next))
-program_stops g a t status held next (inr (fault, over, is)) =
-    subst (λ (s : Status). Makes held held (program_plan g a t next) (Err (ending_of s))) (sym is)
-    (is_above held (program_limit (program_by g a t) (length a.media)) fault (next (program_by g a t)) over)
+pub program_stops : {A : Type 0} (g : Graph) (a : Archi) (t : Table) (e : BuildError) (held : Held) (next : Program → Plan Refusal A) → BuildsProgram g a (schedule_of g a t) (Err e)
+    → Makes held held (program_plan g a t next) (Err (ending_of (status_of_build e)))
+program_stops g a t (build.Limit fault) held next over = is_above held (program_limit (program_by g a t) (length a.media)) fault (next (program_by g a t)) over
+program_stops g a t build.OutOfMemory held next over = memory held (program_plan g a t next)
 
 -- what is made of what is executed
 module _ (f : Execution → Given) where
@@ -108,7 +108,8 @@ module _ (f : Execution → Given) where
       → Follows f (table_in main table next) (table_in main table next')
   table_follows main table next next' h = after_follows f of_sensors (rows_of main (records default_config (strip_bom table))) next next' h
 
-  algorithm_follows : (text : Bytes) (next : Defs → Vertex → Plan Refusal Execution) (next' : Defs → Vertex → Plan Refusal Given) → ((defs : Defs) (main : Vertex) → Follows f (next defs main) (next' defs main))
+  algorithm_follows : (text : Bytes) (next : Defs → Vertex → Plan Refusal Execution) (next' : Defs → Vertex → Plan Refusal Given)
+      → ((defs : Defs) (main : Vertex) → Follows f (next defs main) (next' defs main))
       → Follows f (algorithm_in text next) (algorithm_in text next')
   algorithm_follows text next next' h = after_follows f of_algorithm (definitions_of text) _ _ (λ defs. after_follows f of_algorithm (elaboration_of defs) (next defs) (next' defs) (h defs))
 
@@ -116,7 +117,8 @@ module _ (f : Execution → Given) where
       → Follows f (described_in text next) (described_in text next')
   described_follows text next next' h = after_follows f of_architecture (description_of text) next next' h
 
-  architecture_follows : (text : Bytes) (main : Vertex) (next : Described → Table → Plan Refusal Execution) (next' : Described → Table → Plan Refusal Given) → ((d : Described) (t : Table) → Follows f (next d t) (next' d t))
+  architecture_follows : (text : Bytes) (main : Vertex) (next : Described → Table → Plan Refusal Execution)
+      (next' : Described → Table → Plan Refusal Given) → ((d : Described) (t : Table) → Follows f (next d t) (next' d t))
       → Follows f (architecture_in text main next) (architecture_in text main next')
   architecture_follows text main next next' h = described_follows text _ _ (λ d. after_follows f of_architecture (durations_of (flat_of main) d) (next d) (next' d) (h d))
 

@@ -1,5 +1,6 @@
 -- The windows that are left, one after another.
 use Rattle.std.proofs.Common.{◌≡◌, ℕ, zero, suc, ◌+◌, ◌-◌, ◌<◌, ◌≤◌, List, [], ◌∷◌, map, length, refl, sym, ap, ◌∙◌, arith, add-one, zero-add, ◌++◌, length-append}
+use Rattle.compiler.specs.Executions.{Execution, acts_of, one_job}
 use Rattle.std.specs.Prelude.{slice_index_or}
 use Rattle.std.specs.List.{range_with_len}
 use Rattle.std.proofs.lemmas.List.{map-append}
@@ -19,7 +20,7 @@ use Rattle.top_plans.specs.FlatOf.{flat_of}
 use Rattle.top_plans.specs.Flat.{HasFlat}
 use Rattle.top_plans.specs.ActNames.{actuator_names}
 use Rattle.top_plans.specs.ActText.{text_from}
-use Rattle.top_plans.specs.Given.{Execution, acts_of, one_job, window_stages}
+use Rattle.top_plans.specs.Given.{window_stages}
 use Rattle.job_windows.specs.Windowed.{WindowsData, first_of}
 use Rattle.syndex_program.specs.Sums.{AreFew}
 use Rattle.syndex_program.specs.Left.{starts_left, jobs_left, job_from, stage_from, stages_left}
@@ -62,7 +63,8 @@ lines_of main j s rows acts is =
 
 same_numbers : {A : Type 0} (f : ℕ → A) (n : ℕ) → map f (range_with_len 0 n) ≡ map f (numbers_below n)
 same_numbers f zero = refl
-same_numbers f (suc n) = ap (λ m. map f (range_with_len 0 m)) (sym (add-one n)) ∙ map-range_with_len_more f 0 n n (zero-add n) ∙ ap (λ xs. xs ++ f n ∷ []) (same_numbers f n) ∙ sym (map-append f (numbers_below n) (n ∷ []))
+same_numbers f (suc n) = ap (λ m. map f (range_with_len 0 m)) (sym (add-one n)) ∙ map-range_with_len_more f 0 n n (zero-add n)
+    ∙ ap (λ xs. xs ++ f n ∷ []) (same_numbers f n) ∙ sym (map-append f (numbers_below n) (n ∷ []))
 
 same_map : {A B : Type 0} (f g : A → B) → ((x : A) → f x ≡ g x) → (xs : List A) → map f xs ≡ map g xs
 same_map f g h [] = refl
@@ -100,7 +102,8 @@ as_many_in look len (and_vertex (vertex l vs) us) =
 as_many : (main : Vertex) (rows : List Values) (k : ℕ) → length (act_row main rows k) ≡ length (actuator_lengths main)
 as_many (vertex l us) rows k = as_many_in (level_value (inside (vertex l us)) (slice_index_or rows k []) (past (vertex l us) rows k) []) (source_length [] (outs_of us)) us
 
-few_in : (main : Vertex) (rows : List Values) (ks : List ℕ) (k : ℕ) → k < length (map (act_row main rows) ks) → length (slice_index_or (map (act_row main rows) ks) k []) ≤ length (actuator_lengths main)
+few_in : (main : Vertex) (rows : List Values) (ks : List ℕ) (k : ℕ) → k < length (map (act_row main rows) ks)
+    → length (slice_index_or (map (act_row main rows) ks) k []) ≤ length (actuator_lengths main)
 few_in main rows [] k l = absurd (omega (arith, l))
 few_in main rows (n ∷ ns) zero l = let e = as_many main rows n in omega (arith, e)
 few_in main rows (n ∷ ns) (suc k) l = few_in main rows ns k (omega (arith, l))

@@ -1,5 +1,6 @@
 -- What is made of a text of actual durations.
 use Rattle.std.specs.Prelude.{ℕ}
+use Rattle.compiler.specs.Schedules.{schedule_of}
 use Rattle.syn_base.specs.Bytes.{Bytes}
 use Rattle.self_timed.specs.Graph.{Graph}
 use Rattle.self_timed.specs.Archi.{Architecture as Archi}
@@ -7,7 +8,7 @@ use Rattle.self_timed.specs.Table.{Table}
 use Rattle.top_plans.specs.Listing.{dates_text}
 use Rattle.top_plans.specs.Plan.{give}
 use Rattle.top_plans.specs.Given.{written}
-use Rattle.top_plans.specs.Plans.{Made, durations_in, program_plan, schedule_of}
+use Rattle.top_plans.specs.Plans.{Made, durations_in, program_plan}
 
 -- the dates of this many reactions under the durations of a text, within the limits of the program
 abbrev pub dated_in : Bytes → Graph → Archi → Table → ℕ → Made

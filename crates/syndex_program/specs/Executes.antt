@@ -1,5 +1,6 @@
 -- Programs that are executed: what is asked of their parts, and what reading them answers.
 use Rattle.std.specs.Prelude.{◌≡◌, ◌⊎◌, length, None, Result, Ok, Err}
+use Rattle.compiler.specs.Executions.{Execution as Executed, one_job}
 use Rattle.syn_base.specs.Bytes.{Bytes}
 use Rattle.syn_base.specs.Rows.{Reactions}
 use Rattle.algo_tree.specs.Tree.{Vertex}
@@ -16,7 +17,7 @@ use Rattle.top_plans.specs.Ending.{Ending, no_memory}
 use Rattle.top_plans.specs.Run.{Ends}
 use Rattle.top_plans.specs.Status.{Refusal, ending_of}
 use Rattle.top_plans.specs.declared.Status.{Status}
-use Rattle.top_plans.specs.Given.{Given, Execution as Executed, one_job, performed}
+use Rattle.top_plans.specs.Given.{Given, performed}
 use Rattle.top_plans.specs.Plan.{Plan}
 use Rattle.top_plans.specs.Plans.{
   algorithm_in,

@@ -14,7 +14,7 @@ use Rattle.top_plans.specs.declared.Status.{Status}
 use Rattle.top_plans.specs.declared.Status.TheVariants.{CheckRefused}
 use Rattle.top_plans.specs.Checks.{lacking}
 use Rattle.compiler.specs.Checked.{GivesChecked}
-use Rattle.compiler.specs.Reads.{ReadsFile, Told}
+use Rattle.top_plans.specs.Reads.{ReadsFile, Told}
 use Rattle.compiler.specs.declared.checked_error.CheckedError.{CheckedError}
 use Rattle.compiler.specs.declared.checked_error.CheckedError.TheVariants.{Text, Lacks}
 

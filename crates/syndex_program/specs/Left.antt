@@ -1,5 +1,6 @@
 -- The windows that are left of an execution, with their lines and their jobs.
 use Rattle.std.specs.Prelude.{ℕ, ◌-◌, List, [], ◌∷◌, map}
+use Rattle.compiler.specs.Executions.{acts_of}
 use Rattle.std.specs.List.{range_with_len}
 use Rattle.algo_tree.specs.Tree.{Vertex}
 use Rattle.word_rule.specs.Job.{JobData, reactions}
@@ -7,7 +8,6 @@ use Rattle.word_rule.specs.Windows.{window_job}
 use Rattle.run_laws.specs.Windows.{windows_in, reactions_from, window_text}
 use Rattle.top_plans.specs.ActNames.{actuator_names}
 use Rattle.top_plans.specs.Stage.{Stage}
-use Rattle.top_plans.specs.Given.{acts_of}
 use Rattle.job_windows.specs.Windowed.{WindowsData, first_of}
 
 -- the first reactions of the windows that are left

@@ -10,7 +10,7 @@ ghost use Rattle.top_plans.specs.Given.{performed};
 ghost use Rattle.top_plans.specs.Plans.{plan_for, schedule_plan, text_plan};
 ghost use Rattle.syndex_program.specs.Counts.{IsCounted};
 ghost use Rattle.syndex_program.specs.Plainly.{IsRunOrPlain};
-ghost use Rattle.compiler.specs.Reads.{text_in};
+ghost use Rattle.top_plans.specs.Reads.{text_in};
 ghost use Rattle.syndex_program.specs.Unread.{LeavesUnread};
 
 pub mod chart;

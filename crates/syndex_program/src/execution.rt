@@ -20,14 +20,13 @@ ghost use Rattle.compiler.specs.Compiles.{HasDurations};
 
 use algo_tree::Tree;
 use compiler::{
-    Algorithm, Compilation, compile_to_durations, compile_to_program, parse_algorithm, parse_table,
-    read_algorithm, read_architecture, read_table,
+    Algorithm, Problem, compile_to_durations, compile_to_program, parse_algorithm, parse_table,
 };
 use load_texts::load_texts;
 use self_timed::{ArchiText, Flat, Program};
 use std::alloc::Global;
 use syn_base::SensorRows;
-use top_plans::{Shelf, Status, accepted_have_flat};
+use top_plans::{Shelf, Status, accepted_have_flat, read_algorithm, read_architecture, read_table};
 use word_rule::run_limit;
 
 /// A program that is well formed for the flat graph of an algorithm and the architecture of a text, and the rows
@@ -71,9 +70,9 @@ pub fn read_execution<S: Shelf>(
 {
     accepted_have_flat();
     let algorithm = read_algorithm(alloc, shelf, algorithm)?;
-    let compilation = read_architecture(alloc, shelf, architecture, &algorithm.tree)?;
+    let problem = read_architecture(alloc, shelf, architecture, &algorithm.tree)?;
     let rows = read_table(alloc, shelf, sensors, &algorithm.tree)?;
-    compile_execution(alloc, algorithm, compilation, rows)
+    compile_execution(alloc, algorithm, problem, rows)
 }
 
 /// What the texts of load `n` say is to be executed, or the first refusal.
@@ -88,29 +87,29 @@ pub fn load_execution(alloc: Global, n: u32) -> Result<Execution, Status>
     let (algorithm, architecture, table) = load_texts(alloc, n)?;
     accepted_have_flat();
     let algorithm = parse_algorithm(alloc, &algorithm)?;
-    let compilation = compile_to_durations(alloc, &architecture, &algorithm.tree)?;
+    let problem = compile_to_durations(alloc, &architecture, &algorithm.tree)?;
     let rows = parse_table(alloc, &table, &algorithm.tree)?;
-    compile_execution(alloc, algorithm, compilation, rows)
+    compile_execution(alloc, algorithm, problem, rows)
 }
 
 /// The program of the schedule over these rows, or the first limit that refuses it.
 fn compile_execution(
     alloc: Global,
     algorithm: Algorithm,
-    compilation: Compilation,
+    problem: Problem,
     rows: SensorRows,
 ) -> Result<Execution, Status>
-    requires flat { compilation.flat ≡ flat_of algorithm.tree }
-    requires lasts { HasDurations compilation }
+    requires flat { problem.flat ≡ flat_of algorithm.tree }
+    requires lasts { HasDurations problem }
     requires has { HasFlat algorithm.tree }
     requires lens { rows.lens ≡ sensor_lengths algorithm.tree }
     requires few { length rows.reactions ≤ 10000 }
-    ensures makes { (held : Held) → Makes held held (rest_plan algorithm.tree compilation.text.archi
-        compilation.durations rows) (executed_in result) }
+    ensures makes { (held : Held) → Makes held held (rest_plan algorithm.tree problem.text.archi
+        problem.durations rows) (executed_in result) }
     ensures executed { IfOk result IsExecuted }
 {
-    let program = compile_to_program(alloc, &compilation)?;
-    let (flat, text) = compilation.into_parts();
+    let program = compile_to_program(alloc, &problem)?;
+    let (flat, text) = problem.into_parts();
     execution_of(algorithm, flat, text, program, rows)
 }
 

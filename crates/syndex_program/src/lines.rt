@@ -1,11 +1,12 @@
 //! The lines that an execution writes, window by window, for the commands `run` and `exec`.
 ghost use Rattle.std.specs.Prelude.{◌≡◌, IfOk};
+ghost use Rattle.compiler.specs.Executions.{acts_of};
 ghost use Rattle.algo_tree.specs.Ends.{actuator_lengths};
 ghost use Rattle.word_rule.specs.Ended.{all_acts};
 ghost use Rattle.word_rule.specs.Driven.{driven_by};
 ghost use Rattle.top_plans.specs.Run.{Performs};
 ghost use Rattle.top_plans.specs.Status.{Refusal, ending_of as status_ending};
-ghost use Rattle.top_plans.specs.Given.{acts_of, window_stages};
+ghost use Rattle.top_plans.specs.Given.{window_stages};
 ghost use Rattle.syndex_program.specs.Executes.{IsExecuted, executed};
 ghost use Rattle.syndex_program.specs.Left.{stages_left};
 ghost use Rattle.syndex_program.specs.Stopped.{GoesOn, ending_of};

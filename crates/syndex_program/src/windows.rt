@@ -1,6 +1,6 @@
 //! The windows in which an execution is run, for its lines and for the command `load`.
 ghost use Rattle.std.specs.Prelude.{◌≡◌, ◌≤◌, IfOk};
-ghost use Rattle.top_plans.specs.Given.{one_job};
+ghost use Rattle.compiler.specs.Executions.{one_job};
 ghost use Rattle.syndex_program.specs.Executes.{IsExecuted, executed};
 
 use crate::execution::Execution;

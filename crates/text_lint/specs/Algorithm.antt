@@ -168,7 +168,7 @@ port_value ds rs (e ∷ es) reference port =
 abbrev pub other_value : Reference → ℤ → ℤ → List Finding
 other_value r taken value = if int_eq value taken then [] else NeverTaken r.line r.name value ∷ []
 
--- The same for a case by itself.
+-- The finding that a case is never taken at reference r, unless its value is the one that is taken.
 abbrev pub other_case : Reference → ℤ → Case → List Finding
 other_case r taken c = other_value r taken c.value
 

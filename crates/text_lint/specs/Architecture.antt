@@ -67,7 +67,7 @@ abbrev pub duration_by : List Def → List Bytes → ℕ → DurationLine → Li
 duration_by ds operators n line =
     idle_duration n line.def (why_idle ds line.def) (slice_get operators line.operator)
 
--- these durations, of which the first is the i-th, by the numbers of their lines
+-- The findings of these durations, of which the first has number i, by the numbers of their lines.
 abbrev pub durations_from : List Def → List Bytes → List ℕ → ℕ → List DurationLine → List Finding
 durations_from ds operators numbers i [] = []
 durations_from ds operators numbers i (line ∷ lines) =
@@ -87,7 +87,7 @@ operator_by ds lines numbers o name =
     if list_any (lets_stand ds o) lines then [] else
     IdleOperator (slice_index_or numbers o 0) name ∷ []
 
--- these operators, of which the first has number o
+-- The findings of these operators, of which the first has number o.
 abbrev pub operators_from : List Def → List DurationLine → List ℕ → ℕ → List Bytes → List Finding
 operators_from ds lines numbers o [] = []
 operators_from ds lines numbers o (name ∷ names) =

@@ -47,11 +47,15 @@ module _ (vertices : List Vertex) (operators : List Bytes) where
 
   pub on_here : (o : ℕ) (ds : List Decision) (i : ℕ) (d : Decision) → i < length ds → d ≡ get_or ds i d → d.operator ≡ o
       → acts_text (filter (is_on o) (acts_of (drop i ds))) ≡ line_text (act_line vertices operators (run d)) ++ acts_text (filter (is_on o) (acts_of (drop (i + 1) ds)))
-  on_here o ds i d h is same = on_step o ds i d h is ∙ (λ j. cond (eq-eqb d.operator o same j) (line_text (act_line vertices operators (run d))) [] ++ acts_text (filter (is_on o) (acts_of (drop (i + 1) ds))))
+  on_here o ds i d h is same = on_step o ds i d h is
+      ∙ (λ j. cond (eq-eqb d.operator o same j) (line_text (act_line vertices operators (run d))) []
+      ++ acts_text (filter (is_on o) (acts_of (drop (i + 1) ds))))
 
   pub on_past : (o : ℕ) (ds : List Decision) (i : ℕ) (d : Decision) → i < length ds → d ≡ get_or ds i d → (d.operator ≡ o → ⊥)
       → acts_text (filter (is_on o) (acts_of (drop i ds))) ≡ acts_text (filter (is_on o) (acts_of (drop (i + 1) ds)))
-  on_past o ds i d h is other = on_step o ds i d h is ∙ (λ j. cond (ne_eqb d.operator o other j) (line_text (act_line vertices operators (run d))) [] ++ acts_text (filter (is_on o) (acts_of (drop (i + 1) ds))))
+  on_past o ds i d h is other = on_step o ds i d h is
+      ∙ (λ j. cond (ne_eqb d.operator o other j) (line_text (act_line vertices operators (run d))) []
+      ++ acts_text (filter (is_on o) (acts_of (drop (i + 1) ds))))
 
   -- so do the lines of its transfers in the parts of their media
   pub over_step : (m : ℕ) (ds : List Decision) (i : ℕ) (d : Decision) → i < length ds → d ≡ get_or ds i d

@@ -2,9 +2,6 @@ pub mod Loads
 pub mod Checks
 pub mod Schedules
 pub mod Only
-pub mod TextRefusals
-mod DefinitionRefusals
-pub mod MarkRefusals
 pub mod DurationRefusals
 pub mod TableRefusals
 pub mod Walk
@@ -15,9 +12,10 @@ pub mod True
 pub mod Written
 pub mod Usage
 pub mod Values
+pub mod Steps
+pub mod Architectures
 mod Worked
 -- Lemmas from below, which proofs above cite with those of this crate.
-pub use Rattle.accepted_laws.proofs.Bounded
 pub use Rattle.accepted_laws.proofs.EndCounts
 pub use Rattle.accepted_laws.proofs.Whole
 pub use Rattle.command_status.proofs.Made

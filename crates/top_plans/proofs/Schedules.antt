@@ -1,5 +1,6 @@
 -- The schedule of an accepted algorithm on an accepted architecture is valid.
 use Rattle.std.proofs.Common.{◌≡◌, true, length, Option, Some, None, Result, Ok, refl, subst}
+use Rattle.compiler.specs.Schedules.{schedule_of}
 use Rattle.syn_base.specs.Bytes.{Bytes}
 use Rattle.text_lines.specs.Refusals.{refused}
 use Rattle.pressure_heuristic.specs.Computed.{table_of}
@@ -19,7 +20,6 @@ use Rattle.self_timed.specs.Graph.{Graph}
 use Rattle.self_timed.specs.FlatValid.{is_flat}
 use Rattle.self_timed.specs.Tight.{is_tight}
 use Rattle.self_timed.specs.ScheduleValid.{is_valid}
-use Rattle.top_plans.specs.Plans.{schedule_of}
 
 abbrev gives : Table → Result Table ArchiRefusal
 gives t = Ok t
@@ -37,7 +37,8 @@ none_missing : (o : Option Bytes) (made t : Table) → unless_missing o made ≡
 none_missing None made t e = (refl, same_table made t e)
 none_missing (Some def) made t e = absurd (not_given (NoDuration def) t e)
 
-pub schedules_are_valid : (g : Graph) (text : Bytes) (d : Described) (t : Table) → is_flat g ≡ true → description_of text ≡ Ok d → durations_of g d ≡ Ok t → is_valid g d.archi (entry_in t) (schedule_of g d.archi t) ≡ true
+pub schedules_are_valid : (g : Graph) (text : Bytes) (d : Described) (t : Table) → is_flat g ≡ true → description_of text ≡ Ok d
+    → durations_of g d ≡ Ok t → is_valid g d.archi (entry_in t) (schedule_of g d.archi t) ≡ true
 schedules_are_valid g text d t valid describes lasts =
     let made = table g.vertices (length d.archi.operators) d.durations in
     let none = none_missing (missing d.durations g.vertices) made t lasts in

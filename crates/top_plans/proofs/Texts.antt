@@ -1,5 +1,6 @@
 -- What commands write by one call is right for what their files say.
 use Rattle.std.proofs.Common.{◌≡◌, ◌∙◌, ℕ, true, length, Option, None, Some, Ok, refl, sym, subst}
+use Rattle.compiler.specs.Schedules.{program_by, schedule_of}
 use Rattle.std.specs.Prelude.{replicate}
 use Rattle.syn_base.specs.Bytes.{Bytes}
 use Rattle.algo_print.specs.Canonical.{canonical_text}
@@ -28,7 +29,7 @@ use Rattle.accepted_laws.specs.Elaborated.{elaboration_of}
 use Rattle.accepted_laws.specs.FlatOf.{flat_of}
 use Rattle.accepted_laws.proofs.Definitions.{accepted_have_flat}
 use Rattle.accepted_laws.proofs.Told.{accepted_do_as_told}
-use Rattle.top_plans.specs.Plans.{both_texts, chart_of, program_by, schedule_of}
+use Rattle.top_plans.specs.Plans.{both_texts, chart_of}
 use Rattle.top_plans.specs.GraphText.{graph_text}
 use Rattle.top_plans.specs.Texts.{SaysAgain, DescribesAgain, DoesTheSame, IsScheduled, IsCode, ChecksAlgorithm, ChecksBoth, TellsTrue, Schedules, ChartsTrue, CodesTrue, DatesTrue}
 use Rattle.top_plans.proofs.Schedules.{schedules_are_valid, schedules_are_tight}
@@ -46,7 +47,8 @@ does_the_same text defs main says resolves =
     let has = accepted_have_flat text defs main says resolves in
     record { algorithm = by.0; valid = has.valid; takes = λ rows k. has.taken rows k ∙ by.1.takes rows k }
 
-scheduled : (text lines : Bytes) (g : Graph) (d : Described) (t : Table) → DoesTheSame text g → description_of lines ≡ Ok d → durations_of g d ≡ Ok t → IsScheduled text lines g d (schedule_of g d.archi t)
+scheduled : (text lines : Bytes) (g : Graph) (d : Described) (t : Table) → DoesTheSame text g → description_of lines ≡ Ok d
+    → durations_of g d ≡ Ok t → IsScheduled text lines g d (schedule_of g d.archi t)
 scheduled text lines g d t same describes lasts = record {
   same = same;
   describes = describes;

@@ -1,5 +1,7 @@
 -- What is accepted runs true.
 use Rattle.std.proofs.Common.{◌≡◌, ℕ, zero, suc, cond, List, [], ◌∷◌, ◌++◌, length, map, Option, Some, None, codes, refl, sym, ap, subst, ◌∙◌, add-one, zero-add}
+use Rattle.compiler.specs.Executions.{Execution, one_job}
+use Rattle.compiler.specs.Schedules.{schedule_of}
 use Rattle.std.specs.Prelude.{nat_lt, slice_index_or, option_map}
 use Rattle.std.specs.List.{range_with_len}
 use Rattle.std.proofs.lemmas.List.{map-append}
@@ -37,8 +39,8 @@ use Rattle.check_laws.proofs.Whole.{no_cause_is_well_formed}
 use Rattle.command_words.specs.Command.{Command, plain, job, check, algorithm_text, schedule_text, dates, sim, run as runs, exec, load}
 use Rattle.command_words.specs.declared.table.ScheduleText.{ScheduleText}
 use Rattle.command_words.specs.declared.table.ScheduleText.TheVariants as shown
-use Rattle.top_plans.specs.Given.{Given, written, printed, executed, summed, Execution, one_job}
-use Rattle.top_plans.specs.Plans.{head, schedule_of, sum_of, summary_with}
+use Rattle.top_plans.specs.Given.{Given, written, printed, executed, summed}
+use Rattle.top_plans.specs.Plans.{head, sum_of, summary_with}
 use Rattle.top_plans.specs.Checks.{told}
 use Rattle.top_plans.specs.Meaning.{RunsTrue, RunsAsTold, IsAlgorithmOf, IsTableOf, PrintsCode, SimulatesTrue, ScheduleTrue, MakesTrue, AcceptedRunTrue}
 use Rattle.top_plans.proofs.Schedules.{schedules_are_valid}
@@ -51,7 +53,8 @@ use Rattle.syn_base.specs.Numbers.{numbers_below}
 
 same_numbers : {A : Type 0} (f : ℕ → A) (n : ℕ) → map f (range_with_len 0 n) ≡ map f (numbers_below n)
 same_numbers f zero = refl
-same_numbers f (suc n) = ap (λ m. map f (range_with_len 0 m)) (sym (add-one n)) ∙ map-range_with_len_more f 0 n n (zero-add n) ∙ ap (λ xs. xs ++ f n ∷ []) (same_numbers f n) ∙ sym (map-append f (numbers_below n) (n ∷ []))
+same_numbers f (suc n) = ap (λ m. map f (range_with_len 0 m)) (sym (add-one n)) ∙ map-range_with_len_more f 0 n n (zero-add n)
+    ∙ ap (λ xs. xs ++ f n ∷ []) (same_numbers f n) ∙ sym (map-append f (numbers_below n) (n ∷ []))
 
 same_map : {A B : Type 0} (f g : A → B) → ((x : A) → f x ≡ g x) → (xs : List A) → map f xs ≡ map g xs
 same_map f g h [] = refl
@@ -120,7 +123,8 @@ module _ (runs_end : RunsEnd) (runs_take_rows : RunsTakeRows) (windows_make : Wi
         limit = a.limit;
         laws = have_laws (one_job e) s;
         rows = λ list v n k x is q l. runs_take_rows (one_job e) s list v n k x is q l
-            ∙ ap (λ (w : Values). cond (nat_lt k (done_in (one_job e) (count (run (one_job e) list)) v)) (vector_at w n) (zeros (slice_index_or (lens_of (flat_of e.main).vertices x.ins) 0 0))) (takes k);
+            ∙ ap (λ (w : Values). cond (nat_lt k (done_in (one_job e) (count (run (one_job e) list)) v)) (vector_at w n)
+            (zeros (slice_index_or (lens_of (flat_of e.main).vertices x.ins) 0 0))) (takes k);
         ended = λ list d. (runs_end (one_job e) s list d).rows ∙ same_numbers flat_row (length rows)
             ∙ same_map flat_row (act_row_at marks main rows) takes (numbers_below (length rows));
         acts = acts;

@@ -1,5 +1,6 @@
 -- What Done of `sim`, `run` and `exec` writes, said of bytes alone.
 use Rattle.std.proofs.Common.{◌≡◌, ◌∙◌, Bool, true, false, ◌||◌, List, [], ◌∷◌, ◌++◌, Option, Some, None, Result, Ok, Err, codes, length, refl, sym, ap, subst}
+use Rattle.compiler.specs.Executions.{output_of}
 use Rattle.std.specs.Prelude.{IsOkAnd, if◌then◌else◌, nat_lt, option_and_then, drop}
 use Rattle.std.specs.List.{list_any}
 use Rattle.std.specs.Str.{bytes_eq}
@@ -24,7 +25,7 @@ use Rattle.command_words.specs.Command.{Command, Arguments, plain, job, sim, run
 use Rattle.command_words.proofs.OptionWords.{joined_is}
 use Rattle.word_rule.specs.Driven.{Driven, driven_by}
 use Rattle.top_plans.specs.Names.{names_for}
-use Rattle.top_plans.specs.Given.{Given, written, printed, executed, summed, output_of, stages}
+use Rattle.top_plans.specs.Given.{Given, written, printed, executed, summed, stages}
 use Rattle.top_plans.specs.Plans.{plan_for}
 use Rattle.top_plans.specs.Meaning.{MakesTrue}
 use Rattle.top_plans.specs.Replies.{Replies, IsMade, ValuesAreWritten}
@@ -67,7 +68,12 @@ or_parts true b e = absurd cc
 -- words none of which looks like an option are plain arguments
 with_one : (takes : Bool) (w : Bytes) (ws : List Bytes) → is_option w ≡ false → arguments_of takes false (w ∷ ws) ≡ with_plain w (arguments_of takes false ws)
 with_one false w ws d = rw (differs w (codes "--") (bytes_eq w (codes "--")) refl d refl, d) refl
-with_one true w ws d = rw (differs w (codes "--") (bytes_eq w (codes "--")) refl d refl, differs w (codes "--workers") (bytes_eq w (codes "--workers")) refl d refl, unjoined w (is_joined w) d refl, d) refl
+with_one true w ws d = rw (
+  differs w (codes "--") (bytes_eq w (codes "--")) refl d refl,
+  differs w (codes "--workers") (bytes_eq w (codes "--workers")) refl d refl,
+  unjoined w (is_joined w) d refl,
+  d,
+) refl
 
 abbrev only : List Bytes → Option Arguments
 only ws = Some (record { plain = ws; workers = [] })

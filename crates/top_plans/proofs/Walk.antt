@@ -1,14 +1,16 @@
 -- Along the plan of a command: whatever refusals have, and reads where what follows has it, and what is given.
 use Rattle.std.proofs.Common.{◌≡◌, ℕ, List, length, Option, Some, None, Result, Ok, Err, refl, sym, subst}
+use Rattle.compiler.specs.Executions.{Execution, one_job, output_of}
+use Rattle.compiler.specs.Outputs.{excess}
+use Rattle.compiler.specs.Schedules.{program_by, schedule_of}
 use Rattle.csv.specs.Reading.{default_config, records, strip_bom}
 use Rattle.syn_base.specs.Bytes.{Bytes}
 use Rattle.syn_base.specs.Rows.{Reactions}
 use Rattle.syn_base.specs.declared.limits.LimitFault.{LimitFault}
 use Rattle.text_lines.specs.Refusals as refusals
+use Rattle.algo_rules.specs.Refusals.{AlgoRefusal}
 use Rattle.algo_rules.specs.declared.Defs.{Defs}
 use Rattle.algo_rules.specs.Text.{definitions_of}
-use Rattle.algo_rules.specs.declared.AlgoError.{AlgoError}
-use Rattle.algo_rules.specs.declared.AlgoError.TheVariants as algorithm
 use Rattle.algo_rules.specs.Tree.{Vertex}
 use Rattle.actual_durations.specs.Actual.{actual_of}
 use Rattle.self_timed.specs.Refusals.{ArchiRefusal}
@@ -40,14 +42,33 @@ use Rattle.command_words.specs.declared.table.ScheduleText.TheVariants as shown
 use Rattle.accepted_laws.specs.Elaborated.{elaboration_of}
 use Rattle.accepted_laws.specs.FlatOf.{flat_of}
 use Rattle.top_plans.specs.Names.{names_for}
-use Rattle.top_plans.specs.Given.{Given, written, printed, executed, summed, Execution, one_job, output_of}
-use Rattle.top_plans.specs.Plans.{Made, both_texts, chart_of, read_file, unless, unless_lacking, algorithm_in, described_in, architecture_in, table_in, code_in, durations_in, program_plan, program_by, schedule_of, rows_plan, excess, execution, execution_plan, head, summary, load_plan, plan_for}
+use Rattle.top_plans.specs.Given.{Given, written, printed, executed, summed}
+use Rattle.top_plans.specs.Plans.{
+  Made,
+  both_texts,
+  chart_of,
+  read_file,
+  unless,
+  unless_lacking,
+  algorithm_in,
+  described_in,
+  architecture_in,
+  table_in,
+  code_in,
+  durations_in,
+  program_plan,
+  rows_plan,
+  execution,
+  execution_plan,
+  head,
+  summary,
+  load_plan,
+  plan_for,
+}
 use Rattle.top_plans.specs.GraphText.{graph_text}
 use Rattle.top_plans.specs.Loads.{load_algorithm, load_architecture, load_table}
 use Rattle.top_plans.specs.Checks.{lacking}
 use Rattle.top_plans.proofs.Only.{Only}
-use Rattle.top_plans.proofs.TextRefusals as texts
-use Rattle.top_plans.proofs.MarkRefusals.{elaboration_safe}
 use Rattle.top_plans.proofs.DurationRefusals as durations
 use Rattle.top_plans.proofs.TableRefusals as tables
 
@@ -178,11 +199,9 @@ pub record IsTold (r : Refusal) : Type 0 where
 pub told_above : (fault : LimitFault) → IsTold (above fault)
 told_above fault = record { no_usage = λ q. cc; no_want = λ q. cc }
 
-pub told_algorithm : (e : AlgoError) → texts.Stays e → IsTold (of_algorithm e)
-told_algorithm (algorithm.Refused fault) s = record { no_usage = λ q. cc; no_want = λ q. cc }
-told_algorithm (algorithm.Limit fault) s = told_above fault
-told_algorithm algorithm.TooLarge s = absurd s
-told_algorithm algorithm.OutOfMemory s = absurd s
+pub told_algorithm : (refusal : AlgoRefusal) → IsTold (of_algorithm refusal)
+told_algorithm (refusals.Refused fault) = record { no_usage = λ q. cc; no_want = λ q. cc }
+told_algorithm (refusals.Limit fault) = told_above fault
 
 pub told_architecture : (refusal : ArchiRefusal) → IsTold (of_architecture refusal)
 told_architecture (refusals.Refused fault) = record { no_usage = λ q. cc; no_want = λ q. cc }
@@ -204,12 +223,14 @@ told_durations actual.OutOfMemory s = absurd s
 
 -- a property of plans that refusals have, and that reads have where what follows has it for each text that is told
 module _ (Told : Bytes → Bytes → Type 0) (Q : Made → Type 0) (refused : (r : Refusal) → IsTold r → Q (refuse r)) where
-  after_so : {X E : Type 0} {P : E → Type 0} (refusal : E → Refusal) → ((e : E) → P e → IsTold (refusal e)) → (answer : Result X E) → Only P answer → (next : X → Made) → ((x : X) → answer ≡ Ok x → Q (next x))
+  after_so : {X E : Type 0} {P : E → Type 0} (refusal : E → Refusal) → ((e : E) → P e → IsTold (refusal e)) → (answer : Result X E)
+      → Only P answer → (next : X → Made) → ((x : X) → answer ≡ Ok x → Q (next x))
       → Q (after refusal answer next)
   after_so refusal told (Ok x) only next h = h x refl
   after_so refusal told (Err e) only next h = refused (refusal e) (told e only.error)
 
-  after_told : {X E : Type 0} (refusal : E → Refusal) → ((e : E) → IsTold (refusal e)) → (answer : Result X E) (next : X → Made) → ((x : X) → answer ≡ Ok x → Q (next x)) → Q (after refusal answer next)
+  after_told : {X E : Type 0} (refusal : E → Refusal) → ((e : E) → IsTold (refusal e)) → (answer : Result X E) (next : X → Made)
+      → ((x : X) → answer ≡ Ok x → Q (next x)) → Q (after refusal answer next)
   after_told refusal told (Ok x) next h = h x refl
   after_told refusal told (Err e) next h = refused (refusal e) (told e)
 
@@ -217,17 +238,19 @@ module _ (Told : Bytes → Bytes → Type 0) (Q : Made → Type 0) (refused : (r
   unless_within (Some f) next h = refused (above f) (told_above f)
   unless_within None next h = h refl
 
-  algorithm_so : (text : Bytes) (next : Defs → Vertex → Made) → ((defs : Defs) (main : Vertex) → definitions_of text ≡ Ok defs → elaboration_of defs ≡ Ok main → Q (next defs main)) → Q (algorithm_in text next)
+  algorithm_so : (text : Bytes) (next : Defs → Vertex → Made)
+      → ((defs : Defs) (main : Vertex) → definitions_of text ≡ Ok defs → elaboration_of defs ≡ Ok main → Q (next defs main)) → Q (algorithm_in text next)
   algorithm_so text next h =
-      after_so of_algorithm told_algorithm (definitions_of text) (texts.definitions_safe text) (λ defs. after of_algorithm (elaboration_of defs) (next defs))
-      (λ defs p. after_so of_algorithm told_algorithm (elaboration_of defs) (elaboration_safe defs) (next defs) (λ main q. h defs main p q))
+      after_told of_algorithm told_algorithm (definitions_of text) (λ defs. after of_algorithm (elaboration_of defs) (next defs))
+      (λ defs p. after_told of_algorithm told_algorithm (elaboration_of defs) (next defs) (λ main q. h defs main p q))
 
   architecture_so : (text : Bytes) (main : Vertex) (next : Described → Table → Made) → ((d : Described) (t : Table) → description_of text ≡ Ok d → durations_of (flat_of main) d ≡ Ok t → Q (next d t))
       → Q (architecture_in text main next)
   architecture_so text main next h = after_told of_architecture told_architecture (description_of text) (λ d. after of_architecture (durations_of (flat_of main) d) (next d))
       (λ d p. after_told of_architecture told_architecture (durations_of (flat_of main) d) (next d) (λ t q. h d t p q))
 
-  table_so : (main : Vertex) (table : Bytes) (next : Reactions → Made) → ((rows : Reactions) → rows_of main (records default_config (strip_bom table)) ≡ Ok rows → Q (next rows)) → Q (table_in main table next)
+  table_so : (main : Vertex) (table : Bytes) (next : Reactions → Made)
+      → ((rows : Reactions) → rows_of main (records default_config (strip_bom table)) ≡ Ok rows → Q (next rows)) → Q (table_in main table next)
   table_so main table next h = after_so of_sensors told_sensors (rows_of main (records default_config (strip_bom table))) (tables.table_safe main (records default_config (strip_bom table))) next h
 
   rows_so : (main : Vertex) (rows : Reactions) → Q (give (written (output_of main rows.reactions))) → Q (rows_plan main rows)
@@ -246,13 +269,16 @@ module _ (Told : Bytes → Bytes → Type 0) (Q : Made → Type 0) (refused : (r
   code_so : (text : Bytes) (g : Graph) (a : Archi) (next : Program → Made) → ((p : Program) → lacking g a p ≡ None → Q (next p)) → Q (code_in text g a next)
   code_so text g a next h = after_told of_code told_code (program_in text g a) (λ p. unless_lacking (lacking g a p) (next p)) (λ p q. unless_none (lacking g a p) (next p) (h p))
 
-  durations_so : (text : Bytes) (g : Graph) (a : Archi) (t : Table) (next : List ℕ → Made) → ((ticks : List ℕ) → actual_of g a t (schedule_of g a t) text ≡ Ok ticks → Q (next ticks)) → Q (durations_in text g a t next)
+  durations_so : (text : Bytes) (g : Graph) (a : Archi) (t : Table) (next : List ℕ → Made)
+      → ((ticks : List ℕ) → actual_of g a t (schedule_of g a t) text ≡ Ok ticks → Q (next ticks)) → Q (durations_in text g a t next)
   durations_so text g a t next h = after_so of_durations told_durations (actual_of g a t (schedule_of g a t) text) (durations.actual_safe g a t (schedule_of g a t) text) next h
 
   -- an execution of the program that the pressure run gives
   execution_so : (text : Bytes) (defs : Defs) (main : Vertex) (lines : Bytes) (d : Described) (t : Table) (table : Bytes) (rows : Reactions) (what : Execution → Given)
-      → definitions_of text ≡ Ok defs → elaboration_of defs ≡ Ok main → description_of lines ≡ Ok d → durations_of (flat_of main) d ≡ Ok t → rows_of main (records default_config (strip_bom table)) ≡ Ok rows
-      → ((e : Execution) (is : IsAccepted e) → is.text ≡ text → is.table ≡ table → IsBuilt is.described e → Q (give (what e))) → Q (program_plan (flat_of main) d.archi t (λ p. execution_plan (execution main d.archi p rows) what))
+      → definitions_of text ≡ Ok defs → elaboration_of defs ≡ Ok main → description_of lines ≡ Ok d → durations_of (flat_of main) d ≡ Ok t
+      → rows_of main (records default_config (strip_bom table)) ≡ Ok rows
+      → ((e : Execution) (is : IsAccepted e) → is.text ≡ text → is.table ≡ table → IsBuilt is.described e → Q (give (what e)))
+      → Q (program_plan (flat_of main) d.archi t (λ p. execution_plan (execution main d.archi p rows) what))
   execution_so text defs main lines d t table rows what says resolves describes lasts tells h =
       let e = execution main d.archi (program_by (flat_of main) d.archi t) rows in
       program_so (flat_of main) d.archi t (λ p. execution_plan (execution main d.archi p rows) what) (λ within. unless_within (limit_of (one_job e)) (give (what e)) (λ n. h e (record {
@@ -272,7 +298,8 @@ module _ (Told : Bytes → Bytes → Type 0) (Q : Made → Type 0) (refused : (r
 
   -- an execution of a program that was checked
   checked_so : (text : Bytes) (defs : Defs) (main : Vertex) (lines : Bytes) (d : Described) (p : Program) (table : Bytes) (rows : Reactions)
-      → definitions_of text ≡ Ok defs → elaboration_of defs ≡ Ok main → description_of lines ≡ Ok d → lacking (flat_of main) d.archi p ≡ None → rows_of main (records default_config (strip_bom table)) ≡ Ok rows
+      → definitions_of text ≡ Ok defs → elaboration_of defs ≡ Ok main → description_of lines ≡ Ok d → lacking (flat_of main) d.archi p
+      ≡ None → rows_of main (records default_config (strip_bom table)) ≡ Ok rows
       → ((e : Execution) (is : IsAccepted e) → is.text ≡ text → is.table ≡ table → Q (give (executed e))) → Q (execution_plan (execution main d.archi p rows) executed)
   checked_so text defs main lines d p table rows says resolves describes whole tells h =
       let e = execution main d.archi p rows in
@@ -344,7 +371,9 @@ module _ (Told : Bytes → Bytes → Type 0) (Q : Made → Type 0) (refused : (r
         tells = r;
         lines = refl;
       }))))))
-  walk (plain (algorithm_text what a)) reads gives = reads Algorithm a _ refl (λ text at. algorithm_so text _ (λ defs main p q. gives _ (wrote a (λ defs main. graph_text what (flat_of main)) text defs main at p q)))
+  walk (plain (algorithm_text what a)) reads gives =
+      reads Algorithm a _ refl (λ text at. algorithm_so text _
+      (λ defs main p q. gives _ (wrote a (λ defs main. graph_text what (flat_of main)) text defs main at p q)))
   walk (plain (schedule_text shown.Chart a h)) reads gives = reads Algorithm a _ refl (λ text at. algorithm_so text _ (λ defs main p q.
       reads Architecture h _ refl (λ lines to. architecture_so lines main _ (λ d t u v. gives _ (wrote_on a h (λ defs main d t. chart_of (flat_of main) d t) text lines defs main d t at p q to u v)))))
   walk (plain (schedule_text shown.Code a h)) reads gives = reads Algorithm a _ refl (λ text at. algorithm_so text _ (λ defs main p q.

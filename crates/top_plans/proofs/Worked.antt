@@ -43,7 +43,8 @@ code = codes "processor_(P)\nsemaphores_()\nalloc_(b0,1)\nmain_\nloop_\nop s(;b0
 
 -- files `A`, `H`, `S`, `E` for a table without rows, the code `C`, `N` without a byte, `B` which is no text of any kind, and `L`
 abbrev told : Bytes → Option Bytes
-told = named ((codes "A", algorithm) ∷ (codes "H", architecture) ∷ (codes "S", table) ∷ (codes "E", no_rows) ∷ (codes "C", code) ∷ (codes "N", []) ∷ (codes "B", codes "?\n") ∷ (codes "L", longer) ∷ [])
+told = named ((codes "A", algorithm) ∷ (codes "H", architecture) ∷ (codes "S", table) ∷ (codes "E", no_rows) ∷ (codes "C", code)
+    ∷ (codes "N", []) ∷ (codes "B", codes "?\n") ∷ (codes "L", longer) ∷ [])
 
 -- how many reactions each job of a stage has, and its text
 abbrev in_stages : Option (Result Given Refusal) → List (List ℕ × Bytes)

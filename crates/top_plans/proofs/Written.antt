@@ -1,5 +1,6 @@
 -- What executions write and run.
 use Rattle.std.proofs.Common.{◌≡◌, ℕ, zero, suc, List, [], ◌∷◌, ◌++◌, map, length, refl, sym, ap, ◌∙◌, arith, append-nil, length-append}
+use Rattle.compiler.specs.Executions.{Execution, one_job, acts_of, output_of}
 use Rattle.std.specs.List.{flat_map}
 use Rattle.std.proofs.lemmas.List.{length-map}
 use Rattle.algo_rules.specs.Meaning.{act_row}
@@ -8,7 +9,7 @@ use Rattle.command_status.specs.Stage.{text_of, jobs_of}
 use Rattle.accepted_laws.specs.ActNames.{actuator_names}
 use Rattle.run_laws.specs.Windows.{starts, reactions_from, window_jobs, window_text}
 use Rattle.run_laws.proofs.Texts.{windows_tell}
-use Rattle.top_plans.specs.Given.{Execution, one_job, acts_of, window_stage, window_stages, output_of}
+use Rattle.top_plans.specs.Given.{window_stage, window_stages}
 use Rattle.top_plans.specs.Meaning.{WindowsWriteTheOutput, WindowsAreRun}
 use Rattle.syn_base.specs.Numbers.{numbers_below}
 

@@ -1,43 +1,14 @@
 -- What an accepted command makes, and the stages in which it is made.
 use Rattle.std.specs.Prelude.{ℕ, List, [], ◌∷◌, map, length, Ok}
 use Rattle.syn_base.specs.Bytes.{Bytes}
-use Rattle.syn_base.specs.Rows.{Reactions}
-use Rattle.algo_rules.specs.Tree.{Vertex}
-use Rattle.algo_rules.specs.Meaning.{act_row}
 use Rattle.word_rule.specs.Job.{JobData}
-use Rattle.word_rule.specs.IsJob.{job_of}
 use Rattle.word_rule.specs.Windows.{window_job}
-use Rattle.self_timed.specs.Archi.{Architecture}
-use Rattle.self_timed.specs.Meaning.{initial_cells}
-use Rattle.self_timed.specs.declared.Program.{Program}
+use Rattle.compiler.specs.Executions.{Execution, one_job, acts_of}
 use Rattle.command_status.specs.Answer.{Answer, exactly, one_text}
 use Rattle.command_status.specs.Stage.{Stage}
 use Rattle.command_status.specs.Status.{Refusal}
-use Rattle.accepted_laws.specs.FlatOf.{flat_of}
 use Rattle.accepted_laws.specs.ActNames.{actuator_names}
-use Rattle.accepted_laws.specs.ActText.{output_text}
 use Rattle.run_laws.specs.Windows.{starts, reactions_from, window_jobs, window_text}
-use Rattle.syn_base.specs.Vectors.{Values}
-use Rattle.syn_base.specs.Numbers.{numbers_below}
-
--- a program that is executed on an architecture, for an algorithm, over rows of its sensors
-pub record Execution : Type 0 where
-  pub main : Vertex
-  pub architecture : Architecture
-  pub program : Program
-  pub rows : Reactions
-
--- its one job over all rows, from the initial values of the delays
-abbrev pub one_job : Execution → JobData
-one_job e = job_of e.program (flat_of e.main) e.architecture e.rows (initial_cells (flat_of e.main).vertices)
-
--- What the actuators of an algorithm take in each reaction over these rows of its sensors.
-abbrev pub acts_of : Vertex → List Values → List Values
-acts_of main rows = map (act_row main rows) (numbers_below (length rows))
-
--- The output text of what the actuators of an algorithm take over these rows of its sensors.
-abbrev pub output_of : Vertex → List Values → Bytes
-output_of main rows = output_text (actuator_names main) (acts_of main rows)
 
 -- What is to be made: a text by itself; a text, and after it what a program that is executed gives; what it gives
 -- alone; or a text for which a program is executed.

@@ -9,6 +9,7 @@ pub mod Texts
 pub mod Meaning
 pub mod Replies
 pub mod Values
+pub mod Reads
 -- What the definitions here speak of: what the commands read, make and refuse.
 pub use Rattle.accepted_laws.specs.Accepted
 pub use Rattle.accepted_laws.specs.ActNames
@@ -38,6 +39,9 @@ pub use Rattle.command_status.specs.Stage
 pub use Rattle.command_status.specs.Status
 pub use Rattle.command_status.specs.Template
 pub use Rattle.command_status.specs.Written
+pub use Rattle.compiler.specs.Executions
+pub use Rattle.compiler.specs.Outputs
+pub use Rattle.compiler.specs.Schedules
 pub use Rattle.dates_text.specs.Chart
 pub use Rattle.dates_text.specs.Listing
 pub use Rattle.pressure_heuristic.specs.Adequation

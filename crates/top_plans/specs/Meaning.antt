@@ -18,6 +18,7 @@ use Rattle.std.specs.Prelude.{
   slice_index_or,
   codes,
 }
+use Rattle.compiler.specs.Executions.{Execution, one_job, acts_of, output_of}
 use Rattle.csv.specs.Reading.{default_config, records, strip_bom}
 use Rattle.syn_base.specs.Bytes.{Bytes}
 use Rattle.syn_base.specs.Rows.{Reactions}
@@ -38,18 +39,7 @@ use Rattle.self_timed.specs.declared.Kind.TheVariants.{Actuator}
 use Rattle.self_timed.specs.Graph.{lens_of}
 use Rattle.self_timed.specs.Text.{Described}
 use Rattle.run_laws.specs.Windows.{window_jobs}
-use Rattle.top_plans.specs.Given.{
-  Given,
-  written,
-  printed,
-  executed,
-  summed,
-  Execution,
-  one_job,
-  acts_of,
-  output_of,
-  stages,
-}
+use Rattle.top_plans.specs.Given.{Given, written, printed, executed, summed, stages}
 use Rattle.command_words.specs.Command.{
   Command,
   plain,

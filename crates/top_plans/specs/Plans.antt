@@ -16,6 +16,7 @@ use Rattle.std.specs.Prelude.{
   None,
   codes,
 }
+use Rattle.compiler.specs.Executions.{Execution, one_job, acts_of, output_of}
 use Rattle.std.specs.Fmt.{decimal, signed_decimal}
 use Rattle.std.specs.List.{flat_map}
 use Rattle.csv.specs.Reading.{default_config, records, strip_bom}
@@ -88,11 +89,13 @@ use Rattle.command_words.specs.declared.table.ScheduleText.{ScheduleText}
 use Rattle.command_words.specs.declared.table.ScheduleText.TheVariants as shown
 use Rattle.accepted_laws.specs.Elaborated.{elaboration_of}
 use Rattle.accepted_laws.specs.FlatOf.{flat_of}
-use Rattle.top_plans.specs.Given.{Given, written, printed, executed, summed, Execution, one_job, acts_of, output_of}
+use Rattle.top_plans.specs.Given.{Given, written, printed, executed, summed}
 use Rattle.top_plans.specs.GraphText.{graph_text}
 use Rattle.top_plans.specs.Loads.{load_algorithm, load_architecture, load_table}
 use Rattle.top_plans.specs.Checks.{lacking}
 use Rattle.syn_base.specs.Vectors.{Values}
+use Rattle.compiler.specs.Schedules.{schedule_of, program_by}
+use Rattle.compiler.specs.Outputs.{excess}
 
 -- The plan of a command of this program: in the end it gives what is to be made, or refuses.
 abbrev pub Made : Type 0
@@ -118,7 +121,8 @@ algorithm_in text next =
 abbrev pub described_in : {A : Type 0} → Bytes → (Described → Plan Refusal A) → Plan Refusal A
 described_in text next = after of_architecture (description_of text) next
 
--- the same, and then the durations of the algorithm's operations
+-- Take the text of an architecture, go on with what it describes and with the durations of the
+-- algorithm's operations, or refuse it.
 abbrev pub architecture_in : {A : Type 0} → Bytes → Vertex → (Described → Table → Plan Refusal A) → Plan Refusal A
 architecture_in text main next = described_in text (λ d. after of_architecture (durations_of (flat_of main) d) (next d))
 
@@ -154,12 +158,6 @@ check_plan a (Some h) =
 abbrev pub text_plan : AlgorithmText → Bytes → Made
 text_plan text a = algorithm_plan a (λ defs main. give (written (graph_text text (flat_of main))))
 
--- more elements than an output may have
-abbrev pub excess : ℕ → Option LimitFault
-excess count =
-    if nat_lt (bound_of Output) count
-    then Some (record { which = Output; count = count; bound = bound_of Output }) else None
-
 -- what the actuators take, where it is within its bound
 abbrev pub rows_plan : Vertex → Reactions → Made
 rows_plan main rows =
@@ -171,10 +169,6 @@ rows_plan main rows =
 abbrev pub sim_plan : Bytes → Bytes → Made
 sim_plan a s = algorithm_plan a (λ defs main. table_plan main s (rows_plan main))
 
--- the schedule of the pressure run over the least routes, and its chart
-abbrev pub schedule_of : Graph → Archi → Table → Schedule
-schedule_of g a t = pressure_run (task g a (table_of a) t)
-
 -- The timing chart of the pressure run's schedule of this graph on this architecture, with these
 -- durations.
 abbrev pub chart_of : Graph → Described → Table → Bytes
@@ -185,16 +179,12 @@ abbrev pub chart_plan : Bytes → Bytes → Made
 chart_plan a h =
     algorithm_plan a (λ defs main. architecture_plan h main (λ d t. give (written (chart_of (flat_of main) d t))))
 
--- the program of that schedule, within its limits
-abbrev pub program_by : Graph → Archi → Table → Program
-program_by g a t = program_of g a (schedule_of g a t)
-
 -- Go on with the program of the pressure run's schedule, or refuse it if it is above one of its
 -- limits.
 abbrev pub program_plan : {A : Type 0} → Graph → Archi → Table → (Program → Plan Refusal A) → Plan Refusal A
 program_plan g a t next = unless (program_limit (program_by g a t) (length a.media)) (next (program_by g a t))
 
--- its macro-code
+-- Write the macro-code of the program of the pressure run's schedule.
 abbrev pub macro_plan : Graph → Archi → Table → Made
 macro_plan g a t = program_plan g a t (λ p. give (written (macro_code p g a)))
 

@@ -1,5 +1,6 @@
 -- What the public calls answer.
 use Rattle.std.specs.Prelude.{◌≡◌, ◌⊎◌, ◌++◌, ℕ, List, Option, Some, None, Result, Ok, Err, IsOkAnd}
+use Rattle.compiler.specs.Executions.{Execution, one_job, output_of}
 use Rattle.syn_base.specs.Bytes.{Bytes}
 use Rattle.command_status.specs.Faults.{Rose}
 use Rattle.command_status.specs.Shelf.{Held}
@@ -14,18 +15,7 @@ use Rattle.command_words.specs.Command.{Command, job, load, command_of}
 use Rattle.word_rule.specs.Driven.{Driven, driven_by}
 use Rattle.run_laws.specs.Windows.{window_jobs}
 use Rattle.top_plans.specs.Names.{names_of, RunsJobs, IsPlain}
-use Rattle.top_plans.specs.Given.{
-  Given,
-  written,
-  printed,
-  executed,
-  summed,
-  Execution,
-  one_job,
-  output_of,
-  stages,
-  performed,
-}
+use Rattle.top_plans.specs.Given.{Given, written, printed, executed, summed, stages, performed}
 use Rattle.top_plans.specs.Plans.{plan_of}
 use Rattle.top_plans.specs.Meaning.{MakesTrue}
 use Rattle.top_plans.specs.Values.{WritesValues}
@@ -46,8 +36,8 @@ pub record Replies (command : Option Command) (held held' : Held) (sunk sunk' : 
   pub usage : ending ≡ refused usage → command ≡ None
   pub true_runs : (a : Given) → outcome held.told (plan_of command) ≡ Some (Ok a) → MakesTrue held.told command a
 
--- The same of a call that drives nothing: whatever is driven stays, and nothing is appended with any ending but done
--- and a fault of the output.
+-- What a call that drives nothing replies: it is a reply of the command in which whatever is driven
+-- stays, and nothing is appended with any ending but done and a fault of the output.
 pub record RepliesPlainly (command : Option Command) (held held' : Held) (sunk sunk' : Sunk)
     (ending : Ending Refusal) : Type 0 where
   pub replies : (driven : Driven) → Replies command held held' sunk sunk' driven driven ending

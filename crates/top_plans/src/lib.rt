@@ -1,6 +1,8 @@
 //! The plans of all commands, and the laws of what they make: what each command reads, in which order it is
 //! refused, and what it makes, over the definitions of all the parts. `syndex_program` carries the plans out.
 //! Each law is the contract of a function that does nothing, or calls other laws alone.
+//!
+//! `files` reads the files of a command and puts their texts through the stages of `compiler`, for both programs.
 #![tactic(auto)]
 
 ghost use Rattle.top_plans.specs.Meaning.{AcceptedRunTrue, WindowsAreRun, WindowsWriteTheOutput};
@@ -8,6 +10,9 @@ ghost use Rattle.top_plans.specs.Refusals.{NoOutcomeWantsMemory, NoPlanWantsMemo
 ghost use Rattle.top_plans.specs.Replies.{CommandsReply, DoneRuns, LoadsKeep, PlainCommandsReply, ValuesAreWritten};
 ghost use Rattle.top_plans.specs.Values.{ReadingsAgree};
 
+mod files;
+
+pub use files::{read_algorithm, read_architecture, read_description, read_file, read_table};
 use word_rule::{runs_end, runs_take_rows, windows_make_the_run};
 
 // What the clauses here speak of: what the commands read, make and refuse.

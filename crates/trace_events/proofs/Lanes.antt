@@ -50,7 +50,8 @@ module _ (g : Graph) (a : Architecture) (ticks : ℕ → ℕ → Option ℕ) whe
   right_behind before (y ∷ xs) zero x h e =
       (λ j. is_right g a ticks (append-nil before j) (sym (same_Some y x e) j)) ∙ (and_parts (is_right g a ticks before y) (are_right g a ticks (before ++ y ∷ []) xs) h).0
   right_behind before (y ∷ xs) (suc i) x h e =
-      ap (λ (l : List Act). is_right g a ticks l x) (sym (append_assoc before (y ∷ []) (take i xs))) ∙ right_behind (before ++ y ∷ []) xs i x (and_parts (is_right g a ticks before y) (are_right g a ticks (before ++ y ∷ []) xs) h).1 e
+      ap (λ (l : List Act). is_right g a ticks l x) (sym (append_assoc before (y ∷ []) (take i xs)))
+      ∙ right_behind (before ++ y ∷ []) xs i x (and_parts (is_right g a ticks before y) (are_right g a ticks (before ++ y ∷ []) xs) h).1 e
 
   -- each act is right after those before it
   pub act_at : (s : Schedule) → is_valid g a ticks s ≡ true → (i : ℕ) (x : Act) → slice_get (acts s) i ≡ Some x → is_act g a ticks (take i (acts s)) x ≡ true

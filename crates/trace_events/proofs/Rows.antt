@@ -20,9 +20,23 @@ relay_lanes = refl
 -- The value of operation 0 leaves over both media; it arrives at the second one, and at operation 1.
 relay_events : chart_events plain_graph relay_archi relay_schedule
     ≡ lasts (record { name = codes "s"; category = codes "operation"; lane = 1; moment = record { reaction = 0; start = 0; end = 1 } })
-    ∷ lasts (record { name = codes "s" ++ (codes "." ++ (decimal 0 ++ (codes " " ++ (codes "A" ++ (codes " to " ++ codes "B"))))); category = codes "transfer"; lane = 17; moment = record { reaction = 0; start = 1; end = 3 } })
+    ∷ lasts (record {
+      name = codes "s"
+          ++ (codes "." ++ (decimal 0 ++ (codes " " ++ (codes "A" ++ (codes " to " ++ codes "B")))));
+      category = codes "transfer";
+      lane =
+          17;
+      moment = record { reaction = 0; start = 1; end = 3 };
+    })
     ∷ leaves (record { source = source 0; at = reads 1 17 1 })
-    ∷ lasts (record { name = codes "s" ++ (codes "." ++ (decimal 0 ++ (codes " " ++ (codes "B" ++ (codes " to " ++ codes "C"))))); category = codes "transfer"; lane = 18; moment = record { reaction = 0; start = 3; end = 5 } })
+    ∷ lasts (record {
+      name = codes "s"
+          ++ (codes "." ++ (decimal 0 ++ (codes " " ++ (codes "B" ++ (codes " to " ++ codes "C")))));
+      category = codes "transfer";
+      lane =
+          18;
+      moment = record { reaction = 0; start = 3; end = 5 };
+    })
     ∷ leaves (record { source = source 0; at = reads 3 18 2 })
     ∷ arrives (record { source = source 0; at = reads 3 18 1 })
     ∷ lasts (record { name = codes "a"; category = codes "operation"; lane = 3; moment = record { reaction = 0; start = 5; end = 6 } })

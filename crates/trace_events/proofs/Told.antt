@@ -23,7 +23,8 @@ module _ (vertices : List Vertex) (operators : List Bytes) (ds : List Decision) 
   one d = sym (append-nil (text_of (events_of vertices operators ds d)))
 
   -- what is there and what is left is the whole, some more of it there
-  pub goes_on : (whole now later : Bytes) (here left next : List Dated) → now ++ told vertices operators ds left ≡ whole → left ≡ here ++ next → later ≡ now ++ told vertices operators ds here → later ++ told vertices operators ds next ≡ whole
+  pub goes_on : (whole now later : Bytes) (here left next : List Dated) → now ++ told vertices operators ds left ≡ whole → left ≡ here
+      ++ next → later ≡ now ++ told vertices operators ds here → later ++ told vertices operators ds next ≡ whole
   goes_on whole now later here left next l e is =
       ap (λ (b : Bytes). b ++ told vertices operators ds next) is
       ∙ append_assoc now (told vertices operators ds here) (told vertices operators ds next)
@@ -31,9 +32,11 @@ module _ (vertices : List Vertex) (operators : List Bytes) (ds : List Decision) 
       ∙ l
 
   -- two parts, one after the other
-  pub both : (old now later : Bytes) (xs ys : List Dated) → now ≡ old ++ told vertices operators ds xs → later ≡ now ++ told vertices operators ds ys → later ≡ old ++ told vertices operators ds (xs ++ ys)
+  pub both : (old now later : Bytes) (xs ys : List Dated) → now ≡ old ++ told vertices operators ds xs → later ≡ now
+      ++ told vertices operators ds ys → later ≡ old ++ told vertices operators ds (xs ++ ys)
   both old now later xs ys e f =
-      f ∙ ap (λ (b : Bytes). b ++ told vertices operators ds ys) e ∙ append_assoc old (told vertices operators ds xs) (told vertices operators ds ys) ∙ ap (λ (b : Bytes). old ++ b) (sym (told-append xs ys))
+      f ∙ ap (λ (b : Bytes). b ++ told vertices operators ds ys) e
+      ∙ append_assoc old (told vertices operators ds xs) (told vertices operators ds ys) ∙ ap (λ (b : Bytes). old ++ b) (sym (told-append xs ys))
 
 -- a trace is its opening, its lanes, its dates and its closing
 pub whole : (g : Graph) (a : Architecture) (s : Schedule) (xs : List Dated)

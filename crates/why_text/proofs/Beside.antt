@@ -1,5 +1,35 @@
 -- What was seen of a text beside what the reader has read of it.
-use Rattle.std.proofs.Common.{◌≡◌, ℕ, ◌+◌, Bool, true, false, cond, ◌||◌, ◌&&◌, not, nat_eq, List, [], ◌∷◌, ◌++◌, length, Option, Some, None, Result, Ok, Err, refl, sym, ap, subst, arith, ◌∙◌, if◌then◌else◌}
+use Rattle.std.proofs.Common.{
+  ◌≡◌,
+  ℕ,
+  ◌+◌,
+  Bool,
+  true,
+  false,
+  cond,
+  ◌||◌,
+  ◌&&◌,
+  not,
+  nat_eq,
+  List,
+  [],
+  ◌∷◌,
+  ◌++◌,
+  length,
+  Option,
+  Some,
+  None,
+  Result,
+  Ok,
+  Err,
+  refl,
+  sym,
+  ap,
+  subst,
+  arith,
+  ◌∙◌,
+  if◌then◌else◌,
+}
 use Rattle.std.specs.Prelude.{is_some}
 use Rattle.std.proofs.lemmas.Bool.{false≢true, ne_eqb}
 use Rattle.syn_base.specs.Bytes.{Bytes}
@@ -16,7 +46,50 @@ use Rattle.macro_code.specs.declared.fault.CodeCause.TheVariants.{BadLine}
 use Rattle.macro_code.specs.declared.stage.Stage.{Stage}
 use Rattle.macro_code.specs.declared.stage.Stage.TheVariants.{Outside, Named, Declared, Threaded, Prologue, Turn, Ended}
 use Rattle.macro_code.specs.Forms.{Form, arguments_of, bare, call, form_of, listed, macro_of}
-use Rattle.macro_code.specs.ReadText.{Arguments, Reading, Joined, at_processor, at_thread, awaits_more, call_line, call_of, code_here, declaration_of, ends_of, formed, is_declared, is_ended, is_named, is_outside, is_prologue, is_threaded, is_turn, known_macro, line_by, line_of, macro_line, may_stand, medium_of, moved_of, named_line, next_line, operation_names, pair_of, pairs_of, placed_line, processor_of, start, starts_more, takes_instr, thread_of, with_buffer, with_instr, with_pairs, without, words_line}
+use Rattle.macro_code.specs.ReadText.{
+  Arguments,
+  Reading,
+  Joined,
+  at_processor,
+  at_thread,
+  awaits_more,
+  call_line,
+  call_of,
+  code_here,
+  declaration_of,
+  ends_of,
+  formed,
+  is_declared,
+  is_ended,
+  is_named,
+  is_outside,
+  is_prologue,
+  is_threaded,
+  is_turn,
+  known_macro,
+  line_by,
+  line_of,
+  macro_line,
+  may_stand,
+  medium_of,
+  moved_of,
+  named_line,
+  next_line,
+  operation_names,
+  pair_of,
+  pairs_of,
+  placed_line,
+  processor_of,
+  start,
+  starts_more,
+  takes_instr,
+  thread_of,
+  with_buffer,
+  with_instr,
+  with_pairs,
+  without,
+  words_line,
+}
 use Rattle.text_lines.specs.Refusals.{and_then, refused}
 use Rattle.check_places.specs.declared.place.Part.{Part}
 use Rattle.check_places.specs.declared.place.Part.TheVariants as part
@@ -177,7 +250,9 @@ module _ (text : Bytes) (g : Graph) (a : Architecture) where
     pair_added : (make : ℕ → Instr) → and_then (pair_of n r.pairs_here arguments) (λ q. Ok (with_instr r (make q))) ≡ Ok after → takes_instr r ≡ true → IsBeside after (with_line w n)
     pair_added make e t = let q = found_so (pair_of n r.pairs_here arguments) (λ q. with_instr r (make q)) after e in adds (make q.0) q.1 t
 
-    transfer_added : (make : ℕ → ℕ → Instr) → and_then (moved_of a n r.buffers_here arguments) (λ t. Ok (with_instr r (make t.buffer t.operator))) ≡ Ok after → takes_instr r ≡ true → IsBeside after (with_line w n)
+    transfer_added : (make : ℕ → ℕ → Instr)
+        → and_then (moved_of a n r.buffers_here arguments) (λ t. Ok (with_instr r (make t.buffer t.operator))) ≡ Ok after → takes_instr r
+        ≡ true → IsBeside after (with_line w n)
     transfer_added make e t = let q = found_so (moved_of a n r.buffers_here arguments) (λ t. with_instr r (make t.buffer t.operator)) after e in adds (make q.0.buffer q.0.operator) q.1 t
 
     -- where nothing changes of what is beside
@@ -231,15 +306,32 @@ module _ (text : Bytes) (g : Graph) (a : Architecture) where
         let j = found_so (medium_of a n r.media arguments) (λ (j : Joined). at_thread a r j.medium) after e in
         begun (at_thread a r j.0.medium) j.1 t refl refl refl refl refl
     macro_seen macro.Main t e =
-        begun (record r { stage = Prologue; medium = None; spawned = []; awaited = [] }) (alone n arguments (record r { stage = Prologue; medium = None; spawned = []; awaited = [] }) after e) t refl refl refl refl refl
+        begun (record r { stage = Prologue; medium = None; spawned = []; awaited = [] })
+        (alone n arguments (record r { stage = Prologue; medium = None; spawned = []; awaited = [] }) after e) t refl refl refl refl refl
     macro_seen macro.EndThread t e =
         subst (λ (r : Reading). IsBeside r (seen w n EndThread))
         (alone n arguments (record r { stage = Threaded; threads = r.threads ++ code_here r ∷ []; prologue = []; turn = [] }) after e)
-        (record { prologue = tt; turn = tt; stage = (refl, refl); threads = all_both (length r.seqs + 1) (number_here r) w.threads (w.here ∷ []) r.threads (code_here r ∷ []) (thread_ends r.medium t) h.threads (here_says, tt); done = h.done })
+        (record {
+          prologue = tt;
+          turn = tt;
+          stage = (refl, refl);
+          threads =
+              all_both (length r.seqs + 1) (number_here r) w.threads (w.here ∷ []) r.threads (code_here r ∷ [])
+              (thread_ends r.medium t) h.threads (here_says, tt);
+          done = h.done;
+        })
     macro_seen macro.EndMain t e =
         subst (λ (r : Reading). IsBeside r (seen w n EndMain))
         (alone n arguments (record r { stage = Outside; seqs = r.seqs ++ (code_here r ∷ r.threads); threads = []; prologue = []; turn = [] }) after e)
-        (record { prologue = tt; turn = tt; stage = (refl, refl); threads = tt; done = all_both 0 (number_here r) w.done (w.here ∷ w.threads) r.seqs (code_here r ∷ r.threads) first h.done (here_says, subst (λ (s : ℕ). AllSay (s + 1) w.threads r.threads) (sym (main_ends r.medium (not (awaits_more r)) t)) h.threads) })
+        (record {
+          prologue = tt;
+          turn = tt;
+          stage = (refl, refl);
+          threads = tt;
+          done =
+              all_both 0 (number_here r) w.done (w.here ∷ w.threads) r.seqs (code_here r ∷ r.threads) first h.done
+              (here_says, subst (λ (s : ℕ). AllSay (s + 1) w.threads r.threads) (sym (main_ends r.medium (not (awaits_more r)) t)) h.threads);
+        })
       where
         first : number_here r ≡ 0 + length r.seqs
         first = let e = main_ends r.medium (not (awaits_more r)) t in omega arith
@@ -278,7 +370,9 @@ module _ (text : Bytes) (g : Graph) (a : Architecture) where
         by (Some m) k e = subst (λ (d : Head). IsBeside after (seen w n d)) (sym (macro_head name m k)) (placed m (may_stand r m) refl e)
 
   -- One line more.
-  module _ (r after : Reading) (w : Seen) (n : ℕ) (line : Bytes) (above below : List Bytes) (whole : above ++ (line ∷ below) ≡ lines_of text) (number : n ≡ length above + 1) (read : read_of text g a start 1 above ≡ Ok r) (h : IsBeside r w) (e : next_line (operation_names g) a r n line ≡ Ok after) where
+  module _ (r after : Reading) (w : Seen) (n : ℕ) (line : Bytes) (above below : List Bytes)
+      (whole : above ++ (line ∷ below) ≡ lines_of text) (number : n ≡ length above + 1) (read : read_of text g a start 1 above ≡ Ok r)
+      (h : IsBeside r w) (e : next_line (operation_names g) a r n line ≡ Ok after) where
     says : (x : Instr) → with_instr r x ≡ after → Says text g a n (next_spot r) x
     says x f = record {
       above = above;
@@ -295,7 +389,9 @@ module _ (text : Bytes) (g : Graph) (a : Architecture) where
     called : (operation : Bytes) (ins outs : List Bytes) → call_line (operation_names g) r n operation ins outs ≡ Ok after → IsBeside after (with_line w n)
     called operation ins outs e = by (takes_instr r) refl e
       where
-        by : (b : Bool) → takes_instr r ≡ b → (if b then and_then (call_of (operation_names g) n r.buffers_here operation ins outs) (λ x. Ok (with_instr r x)) else refused n BadLine) ≡ Ok after → IsBeside after (with_line w n)
+        by : (b : Bool) → takes_instr r ≡ b
+            → (if b then and_then (call_of (operation_names g) n r.buffers_here operation ins outs)
+            (λ x. Ok (with_instr r x)) else refused n BadLine) ≡ Ok after → IsBeside after (with_line w n)
         by true t e = let x = found_so (call_of (operation_names g) n r.buffers_here operation ins outs) (with_instr r) after e in
             adds r after w n None h says x.0 x.1 t
         by false t e = absurd cc
@@ -319,7 +415,8 @@ module _ (text : Bytes) (g : Graph) (a : Architecture) where
     pub line_seen : IsBeside after (seen w n (head_at line))
     line_seen = by (foreign_place line) e
       where
-        split : (b : Bool) → nat_eq (length (words_of (code_of line))) 0 ≡ b → (if b then Ok r else words_line (operation_names g) a r n (words_of (code_of line))) ≡ Ok after → IsBeside after (seen w n (head_at line))
+        split : (b : Bool) → nat_eq (length (words_of (code_of line))) 0 ≡ b
+            → (if b then Ok r else words_line (operation_names g) a r n (words_of (code_of line))) ≡ Ok after → IsBeside after (seen w n (head_at line))
         split true t e = blank (words_of (code_of line)) t e
         split false t e = words_seen (words_of (code_of line)) e
 

@@ -9,7 +9,32 @@ use Rattle.syn_base.specs.Bytes.{Bytes}
 use Rattle.macro_code.specs.Macros.{word_of}
 use Rattle.macro_code.specs.declared.macros.Macro.{Macro}
 use Rattle.macro_code.specs.declared.macros.Macro.TheVariants as macro
-use Rattle.macro_code.specs.Forms.{Form, after, bare, before, call, call_form, form_of, found_in, has_bytes, inside, is_closed, is_open, is_semicolon, is_unmarked, list_form, listed, lists_form, macro_of, macros, may_name, name_form, op_form, operation_form, word_form}
+use Rattle.macro_code.specs.Forms.{
+  Form,
+  after,
+  bare,
+  before,
+  call,
+  call_form,
+  form_of,
+  found_in,
+  has_bytes,
+  inside,
+  is_closed,
+  is_open,
+  is_semicolon,
+  is_unmarked,
+  list_form,
+  listed,
+  lists_form,
+  macro_of,
+  macros,
+  may_name,
+  name_form,
+  op_form,
+  operation_form,
+  word_form,
+}
 use Rattle.why_text.specs.declared.lines.Head.{Head}
 use Rattle.why_text.specs.declared.lines.Head.TheVariants.{Begin, Loop, Instruction, EndThread, EndMain, Other}
 use Rattle.why_text.specs.Lines.{head_in, head_of}

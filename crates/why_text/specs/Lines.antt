@@ -86,7 +86,7 @@ seen w n EndThread = record w { here = begun_at 0; threads = w.threads ++ w.here
 seen w n EndMain = record w { here = begun_at 0; threads = []; done = w.done ++ (w.here ∷ w.threads) }
 seen w n Other = w
 
--- these lines, the first of which is line n
+-- What has been seen after these lines, the first of which is line n.
 abbrev pub seen_from : Seen → ℕ → List Bytes → Seen
 seen_from w n [] = w
 seen_from w n (line ∷ lines) = seen_from (seen w n (head_at line)) (n + 1) lines

@@ -94,7 +94,8 @@ module _ (k : Knowledge) (g : RunsOnWords k.job) (s n r x : ℕ) (mine : count_i
     (more : n < full k.job s) (next_step : step_at (steps k.job.program s) n ≡ Some (Take x)) (in_reaction : reaction_at (steps k.job.program s) n ≡ r) (slots id : ℕ) where
   pub take_kept : Allows (Tells k.job) slots id (Holds k, []) (suc x) (λ found. either (eqb found 1) 0 found) (Looks s (enables r (Take x)) (step slots (suc x) 1 0 none) (Holds k, []))
   take_kept t b homes at fits =
-      exchanged Fd 1 0 (λ word. (w : View) × (a : Act (Unit {0})) × Valid t.homes [] a × Tells k.job (moved t (suc x) word id [] w a) × Looks s (enables r (Take x)) (step slots (suc x) 1 0 none) (Holds k, []) Fd (w, carried_after [] a))
+      exchanged Fd 1 0 (λ word. (w : View) × (a : Act (Unit {0})) × Valid t.homes [] a × Tells k.job (moved t (suc x) word id [] w a)
+      × Looks s (enables r (Take x)) (step slots (suc x) 1 0 none) (Holds k, []) Fd (w, carried_after [] a))
       taken not_taken
     where
       z : Core
@@ -118,7 +119,8 @@ module _ (k : Knowledge) (g : RunsOnWords k.job) (s n r x : ℕ) (mine : count_i
       finds_here : Finds k (suc x) Fd
       finds_here = finds k g s n r (Take x) mine here more next_step in_reaction slots id t b.0 b.1 at
 
-      taken : Fd ≡ 1 → (w : View) × (a : Act (Unit {0})) × Valid t.homes [] a × Tells k.job (moved t (suc x) 0 id [] w a) × Looks s (enables r (Take x)) (step slots (suc x) 1 0 none) (Holds k, []) Fd (w, carried_after [] a)
+      taken : Fd ≡ 1 → (w : View) × (a : Act (Unit {0})) × Valid t.homes [] a × Tells k.job (moved t (suc x) 0 id [] w a)
+          × Looks s (enables r (Take x)) (step slots (suc x) 1 0 none) (Holds k, []) Fd (w, carried_after [] a)
       taken e = (
         Holds l,
         keeps,
@@ -129,7 +131,8 @@ module _ (k : Knowledge) (g : RunsOnWords k.job) (s n r x : ℕ) (mine : count_i
         (refl, finds_here),
       )
 
-      not_taken : Fd ≢ 1 → (w : View) × (a : Act (Unit {0})) × Valid t.homes [] a × Tells k.job (moved t (suc x) Fd id [] w a) × Looks s (enables r (Take x)) (step slots (suc x) 1 0 none) (Holds k, []) Fd (w, carried_after [] a)
+      not_taken : Fd ≢ 1 → (w : View) × (a : Act (Unit {0})) × Valid t.homes [] a × Tells k.job (moved t (suc x) Fd id [] w a)
+          × Looks s (enables r (Take x)) (step slots (suc x) 1 0 none) (Holds k, []) Fd (w, carried_after [] a)
       not_taken e = (
         Holds l,
         keeps,
@@ -173,7 +176,9 @@ module _ (k : Knowledge) (g : RunsOnWords k.job) (s n r : ℕ) (m : MicroStep) (
 module _ (k : Knowledge) (g : RunsOnWords k.job) (s n r : ℕ) (m : MicroStep) (mine : count_in k.driven s ≡ Some n) (here : s < length k.job.program.seqs)
     (more : n < full k.job s) (next_step : step_at (steps k.job.program s) n ≡ Some m) (in_reaction : reaction_at (steps k.job.program s) n ≡ r) (slots id : ℕ)
     (f : ℕ → ℕ) (on : (z : Core) → enabled_in z r m ≡ true)
-    (changed : (counts : List ℕ) → Agree k counts → set (table_of (told k.job counts)) (word_at k.job r m) (f (get_or (table_of (told k.job counts)) (word_at k.job r m) 0)) ≡ table_of (done_in k.job (told k.job counts) s r m))
+    (changed : (counts : List ℕ) → Agree k counts
+    → set (table_of (told k.job counts)) (word_at k.job r m) (f (get_or (table_of (told k.job counts)) (word_at k.job r m) 0))
+    ≡ table_of (done_in k.job (told k.job counts) s r m))
     (exact : (counts : List ℕ) → Agree k counts → AreExact (done_in k.job (told k.job counts) s r m).elements) where
   pub move_kept : (t : State (Unit {0}) View) (b : Tells k.job t) → get_elem? t.views id ≡ some (Holds k)
       → Tells k.job (moved t (word_at k.job r m) (f (get_or t.words (word_at k.job r m) 0)) id [] (Holds (stepped k s)) keeps)
@@ -236,7 +241,8 @@ module _ (slots id s r : ℕ) where
 
 -- from what the view holds to the job and the word that are named
 module _ (P : JobData → View → MicroStep → ℕ → Type 0) (s r : ℕ) where
-  pub at_own : (j : JobData) (v : View) (m : MicroStep) (word : ℕ) (a : StandsAt j v s r m) → word ≡ word_at j r m → P a.knowledge.job (Holds a.knowledge) m (word_at a.knowledge.job r m) → P j v m word
+  pub at_own : (j : JobData) (v : View) (m : MicroStep) (word : ℕ) (a : StandsAt j v s r m) → word ≡ word_at j r m
+      → P a.knowledge.job (Holds a.knowledge) m (word_at a.knowledge.job r m) → P j v m word
   at_own j v m word a e p = subst (P j v m) (sym e) (subst (λ u. P j u m (word_at j r m)) (sym a.holds) (subst (λ i. P i (Holds a.knowledge) m (word_at i r m)) a.job p))
 
 pub take_allowed : (j : JobData) (v : View) (s r : ℕ) (m : MicroStep) (slots id word : ℕ) → RunsOnWords j → StandsAt j v s r m → IsTake m → word ≡ word_at j r m → Taken slots id s r j v m word

@@ -22,7 +22,8 @@ same_lists (x ∷ xs) [] l h = absurd (omega arith)
 same_lists (x ∷ xs) (y ∷ ys) l h = λ i. h 0 (omega arith) i ∷ same_lists xs ys (omega arith) (λ s q. h (suc s) (omega arith)) i
 
 -- with a seat that drives every sequence, the words are those that its counts tell, which are reached
-pub words_at_end : (j : JobData) (id : ℕ) (v : View) (counts ws : List ℕ) (xs : List (Unit {0})) → RunsOnWords j → HoldsCounts j v counts → Final (Seen (Tells j) id v) ws xs → (ws ≡ table_of (told j counts)) × AreReached j counts
+pub words_at_end : (j : JobData) (id : ℕ) (v : View) (counts ws : List ℕ) (xs : List (Unit {0})) → RunsOnWords j → HoldsCounts j v counts
+    → Final (Seen (Tells j) id v) ws xs → (ws ≡ table_of (told j counts)) × AreReached j counts
 words_at_end j id v counts ws xs g h (t, ((c, b), at), w, homes, rest) = (sym w ∙ b.words ∙ ap (λ (cs : List ℕ). table_of (told j cs)) same, subst (AreReached j) same b.are_told.reached)
   where
     long : length c ≡ length j.program.seqs

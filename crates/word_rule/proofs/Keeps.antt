@@ -61,7 +61,8 @@ module _ (j : JobData) (t : State (Unit {0}) View) (counts : List ℕ) (b : Tell
   here_now s n d = ⊎_elim (λ q. subst (λ (a : View). count_by a s ≡ Some n) (sym q.1) d.count) (λ q. absurd (q.0 refl)) (at_set t.views id id u d.view d.stands)
 
 -- A step that raises no count and changes no word.
-module _ (j : JobData) (t : State (Unit {0}) View) (counts : List ℕ) (b : TellsAt j t counts) (id : ℕ) (k l : Knowledge) (at : get_elem? t.views id ≡ some (Holds k)) (job : l.job ≡ j) (driven : l.driven ≡ k.driven) where
+module _ (j : JobData) (t : State (Unit {0}) View) (counts : List ℕ) (b : TellsAt j t counts) (id : ℕ) (k l : Knowledge)
+    (at : get_elem? t.views id ≡ some (Holds k)) (job : l.job ≡ j) (driven : l.driven ≡ k.driven) where
   as_driven : SameDriven (Holds k) (Holds l)
   as_driven = record { back = λ s n h. (n, subst (λ xs. count_in xs s ≡ Some n) driven h); on = λ s n h. (n, subst (λ xs. count_in xs s ≡ Some n) (sym driven) h) }
 
@@ -76,7 +77,13 @@ module _ (j : JobData) (t : State (Unit {0}) View) (counts : List ℕ) (b : Tell
   }
     where
       by : (i s n : ℕ) → Drives (set t.views id (Holds l)) i s n → (i ≡ id) ⊎ (i ≡ id → ⊥) → get_or counts s 0 ≡ n
-      by i s n d (inl q) = b.agree id s n record { view = Holds k; stands = at; count = subst (λ xs. count_in xs s ≡ Some n) driven (here_now j t counts b id (Holds k) at (Holds l) as_driven s n (subst (λ h. Drives (set t.views id (Holds l)) h s n) q d)) }
+      by i s n d (inl q) = b.agree id s n record {
+        view = Holds k;
+        stands = at;
+        count =
+            subst (λ xs. count_in xs s ≡ Some n) driven
+            (here_now j t counts b id (Holds k) at (Holds l) as_driven s n (subst (λ h. Drives (set t.views id (Holds l)) h s n) q d));
+      }
       by i s n d (inr q) = b.agree i s n (others j t counts b id (Holds k) at (Holds l) as_driven i s n q d)
 
 -- A step that raises the count of s: the words are those that the new counts tell.
@@ -110,11 +117,13 @@ module _ (j : JobData) (t : State (Unit {0}) View) (counts : List ℕ) (b : Tell
     where
       own : (h n : ℕ) → count_in (raised k.driven s) h ≡ Some n → (h ≡ s) ⊎ (h ≡ s → ⊥) → get_or (set counts s (get_or counts s 0 + 1)) h 0 ≡ n
       own h n c (inl q) = let a : Some (made + 1) ≡ Some n = sym (raised-same k.driven s made mine) ∙ ap (count_in (raised k.driven s)) (sym q) ∙ c in
-          ap (λ (i : ℕ). get_or (set counts s (get_or counts s 0 + 1)) i 0) q ∙ get_or-set_same {A = ℕ} counts s (get_or counts s 0 + 1) 0 inside ∙ ap (λ (m : ℕ). m + 1) counted ∙ same_Some (made + 1) n a
+          ap (λ (i : ℕ). get_or (set counts s (get_or counts s 0 + 1)) i 0) q
+          ∙ get_or-set_same {A = ℕ} counts s (get_or counts s 0 + 1) 0 inside ∙ ap (λ (m : ℕ). m + 1) counted ∙ same_Some (made + 1) n a
       own h n c (inr q) = get_or-set_other {A = ℕ} counts s h (get_or counts s 0 + 1) 0 q ∙ b.agree id h n record { view = Holds k; stands = at; count = sym (raised-other k.driven s h q) ∙ c }
 
       by : (i h n : ℕ) → Drives (set t.views id (Holds l)) i h n → (i ≡ id) ⊎ (i ≡ id → ⊥) → (h ≡ s) ⊎ (h ≡ s → ⊥) → get_or (one_more j counts s) h 0 ≡ n
-      by i h n d (inl q) w = own h n (subst (λ xs. count_in xs h ≡ Some n) driven (here_now j t counts b id (Holds k) at (Holds l) as_raised h n (subst (λ g. Drives (set t.views id (Holds l)) g h n) q d))) w
+      by i h n d (inl q) w = own h n (subst (λ xs. count_in xs h ≡ Some n) driven
+          (here_now j t counts b id (Holds k) at (Holds l) as_raised h n (subst (λ g. Drives (set t.views id (Holds l)) g h n) q d))) w
       by i h n d (inr q) (inl e) = let o = others j t counts b id (Holds k) at (Holds l) as_raised i h n q d in
           absurd (q (b.apart i id h n made o record { view = Holds k; stands = at; count = ap (count_in k.driven) e ∙ mine }))
       by i h n d (inr q) (inr e) = get_or-set_other {A = ℕ} counts s h (get_or counts s 0 + 1) 0 e ∙ b.agree i h n (others j t counts b id (Holds k) at (Holds l) as_raised i h n q d)

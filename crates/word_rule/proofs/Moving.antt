@@ -54,7 +54,9 @@ add_allowed j v s r (Signal x) slots id word g a kind e = at_own (Added slots id
     inside : x < 2 * length k.job.program.pairs
     inside = h.there s a.count (Signal x) a.next
 
-    changed : (counts : List ℕ) → Agree k counts → set (table_of (told k.job counts)) (suc x) ((get_or (table_of (told k.job counts)) (suc x) 0 + 1) % 2 ^ 64) ≡ table_of (done_in k.job (told k.job counts) s r (Signal x))
+    changed : (counts : List ℕ) → Agree k counts
+        → set (table_of (told k.job counts)) (suc x) ((get_or (table_of (told k.job counts)) (suc x) 0 + 1) % 2 ^ 64)
+        ≡ table_of (done_in k.job (told k.job counts) s r (Signal x))
     changed counts c = let z : Core = told k.job counts in let sh : IsShaped k.job z = shaped k.job h counts c.are_told in
         ap (set (table_of z) (suc x)) (one_more_fits (get_or (table_of z) (suc x) 0) (get_or z.semaphores x 0) (semaphore_get k.job z sh x inside) ((room k.job h counts c.are_told).semaphores x))
         ∙ semaphore_set k.job z sh x (get_or z.semaphores x 0 + 1) inside
@@ -77,9 +79,13 @@ add_allowed j v s r (Advance m) slots id word g a kind e = at_own (Added slots i
     inside : m < k.job.media
     inside = h.there s a.count (Advance m) a.next
 
-    changed : (counts : List ℕ) → Agree k counts → set (table_of (told k.job counts)) (turn_word k.job m) ((get_or (table_of (told k.job counts)) (turn_word k.job m) 0 + 1) % 2 ^ 64) ≡ table_of (done_in k.job (told k.job counts) s r (Advance m))
+    changed : (counts : List ℕ) → Agree k counts
+        → set (table_of (told k.job counts)) (turn_word k.job m)
+        ((get_or (table_of (told k.job counts)) (turn_word k.job m) 0 + 1) % 2 ^ 64) ≡ table_of (done_in k.job (told k.job counts) s r (Advance m))
     changed counts c = let z : Core = told k.job counts in let sh : IsShaped k.job z = shaped k.job h counts c.are_told in
-        ap (set (table_of z) (turn_word k.job m)) (one_more_fits (get_or (table_of z) (turn_word k.job m) 0) (get_or z.turns m 0) (turn_get k.job z sh m inside) ((room k.job h counts c.are_told).turns m))
+        ap (set (table_of z) (turn_word k.job m))
+        (one_more_fits (get_or (table_of z) (turn_word k.job m) 0) (get_or z.turns m 0) (turn_get k.job z sh m inside)
+        ((room k.job h counts c.are_told).turns m))
         ∙ turn_set k.job z sh m (get_or z.turns m 0 + 1) inside
 add_allowed j v s r (Take x) slots id word g a kind e = absurd kind
 add_allowed j v s r (See x) slots id word g a kind e = absurd kind
@@ -94,7 +100,9 @@ one_less_fits n m e some few = ap (λ (i : ℕ). (i + (2 ^ 64 - 1)) % 2 ^ 64) e 
 
 -- a take from a semaphore that was seen: the signal is there, whatever the other sequences have made
 pub lower_allowed : (j : JobData) (v : View) (s r : ℕ) (m : MicroStep) (slots id word : ℕ) → RunsOnWords j → StandsAt j v s r m → IsLower m → word ≡ word_at j r m → Lowered slots id s r j v m word
-lower_allowed j v s r m slots id word g a kind e = subst (λ i. StandsAt j v s r i → word ≡ word_at j r i → Lowered slots id s r j v i word) (sym kind.1) (λ b q. at_own (Lowered slots id s r) s r j v M word b q (kept b)) a e
+lower_allowed j v s r m slots id word g a kind e =
+    subst (λ i. StandsAt j v s r i → word ≡ word_at j r i → Lowered slots id s r j v i word) (sym kind.1)
+    (λ b q. at_own (Lowered slots id s r) s r j v M word b q (kept b)) a e
   where
     x : ℕ
     x = kind.0
@@ -120,7 +128,9 @@ lower_allowed j v s r m slots id word g a kind e = subst (λ i. StandsAt j v s r
         inside : x < 2 * length k.job.program.pairs
         inside = h.there s b.count M b.next
 
-        changed : (counts : List ℕ) → Agree k counts → set (table_of (told k.job counts)) (suc x) ((get_or (table_of (told k.job counts)) (suc x) 0 + (2 ^ 64 - 1)) % 2 ^ 64) ≡ table_of (done_in k.job (told k.job counts) s r M)
+        changed : (counts : List ℕ) → Agree k counts
+            → set (table_of (told k.job counts)) (suc x) ((get_or (table_of (told k.job counts)) (suc x) 0 + (2 ^ 64 - 1)) % 2 ^ 64)
+            ≡ table_of (done_in k.job (told k.job counts) s r M)
         changed counts d = let z : Core = told k.job counts in let sh : IsShaped k.job z = shaped k.job h counts d.are_told in
             let few : get_or z.semaphores x 0 + 1 < 2 ^ 64 = (room k.job h counts d.are_told).semaphores x in
             let some : 1 ≤ get_or z.semaphores x 0 = finds_signal k.job h counts d.are_told s b.count r x (d.agree s b.count b.drives) b.here b.more b.next b.reaction in
@@ -128,7 +138,9 @@ lower_allowed j v s r m slots id word g a kind e = subst (λ i. StandsAt j v s r
             ∙ semaphore_set k.job z sh x (get_or z.semaphores x 0 - 1) inside
 
 pub load_allowed : (j : JobData) (v : View) (s r : ℕ) (m : MicroStep) (slots id word : ℕ) → RunsOnWords j → StandsAt j v s r m → IsLoad m → word ≡ word_at j r m → Loaded slots id s r j v m word
-load_allowed j v s r m slots id word g a kind e = subst (λ i. StandsAt j v s r i → word ≡ word_at j r i → Loaded slots id s r j v i word) (sym kind.2) (λ b q. at_own (Loaded slots id s r) s r j v M word b q (kept b)) a e
+load_allowed j v s r m slots id word g a kind e =
+    subst (λ i. StandsAt j v s r i → word ≡ word_at j r i → Loaded slots id s r j v i word) (sym kind.2)
+    (λ b q. at_own (Loaded slots id s r) s r j v M word b q (kept b)) a e
   where
     M : MicroStep
     M = Load kind.0 kind.1
@@ -138,13 +150,21 @@ load_allowed j v s r m slots id word g a kind e = subst (λ i. StandsAt j v s r 
       Holds (stepped b.knowledge s),
       keeps,
       tt,
-      move_kept b.knowledge (own_job b g) s b.count r M b.drives b.here b.more b.next b.reaction slots id (λ n. n) (λ z. refl) (λ counts d. set-get_or (table_of (told b.knowledge.job counts)) (word_at b.knowledge.job r M) 0) (λ counts d. d.are_told.exact) t c at,
+      move_kept b.knowledge (own_job b g) s b.count r M b.drives b.here b.more b.next b.reaction slots id (λ n. n) (λ z. refl)
+          (λ counts d. set-get_or (table_of (told b.knowledge.job counts)) (word_at b.knowledge.job r M) 0) (λ counts d. d.are_told.exact) t c at,
       (refl, finds b.knowledge (own_job b g) s b.count r M b.drives b.here b.more b.next b.reaction slots id t c.0 c.1 at),
     )
 
-pub store_allowed : (j : JobData) (v : View) (s r : ℕ) (m : MicroStep) (value : ℤ) (slots id word : ℕ) → RunsOnWords j → StandsAt j v s r m → Stores v s r m value → IsExact value → word ≡ word_at j r m → Stored slots id s r value j v m word
+pub store_allowed : (j : JobData) (v : View) (s r : ℕ) (m : MicroStep) (value : ℤ) (slots id word : ℕ) → RunsOnWords j → StandsAt j v s r m
+    → Stores v s r m value → IsExact value → word ≡ word_at j r m → Stored slots id s r value j v m word
 store_allowed j v s r m value slots id word g a kind exact e = at_own (Stored slots id s r value) s r j v m word a e
-    (λ t b homes at fits. (Holds (stepped k s), keeps, tt, move_kept k h s a.count r m a.drives a.here a.more a.next a.reaction slots id (λ _. word_of value) on changed exacts t b at, (refl, (b.0, agrees k h s a.count r m a.drives a.here a.more a.next a.reaction slots id t b.0 b.1 at, tt))))
+    (λ t b homes at fits. (
+      Holds (stepped k s),
+      keeps,
+      tt,
+      move_kept k h s a.count r m a.drives a.here a.more a.next a.reaction slots id (λ _. word_of value) on changed exacts t b at,
+      (refl, (b.0, agrees k h s a.count r m a.drives a.here a.more a.next a.reaction slots id t b.0 b.1 at, tt)),
+    ))
   where
     k : Knowledge
     k = a.knowledge

@@ -42,7 +42,8 @@ module _ (j : JobData) where
       of : (n : ℕ) → get_or (opening j).elements h [] ≡ zeros n → get_or (opening j).elements h [] ≡ zeros (length (get_or (opening j).elements h []))
       of n e = e ∙ ap zeros (sym (length-replicate n (pos 0)) ∙ ap (length {A = ℤ}) (sym e))
 
-      by : (h < length j.program.buffers) ⊎ (length j.program.buffers ≤ h) → (h < length j.program.buffers + j.media) ⊎ (length j.program.buffers + j.media ≤ h) → get_or (opening j).elements h [] ≡ zeros (length (get_or (opening j).elements h []))
+      by : (h < length j.program.buffers) ⊎ (length j.program.buffers ≤ h) → (h < length j.program.buffers + j.media)
+          ⊎ (length j.program.buffers + j.media ≤ h) → get_or (opening j).elements h [] ≡ zeros (length (get_or (opening j).elements h []))
       by (inl a) b = of _ (buffer_list j.program j.media h a)
       by (inr a) (inl b) = let m : ℕ = h - length j.program.buffers in let e : length j.program.buffers + m ≡ h = omega arith in
           of _ (ap (λ (i : ℕ). get_or (opening j).elements i []) (sym e) ∙ wire_list j.program j.media m (omega arith))
@@ -56,7 +57,8 @@ module _ (j : JobData) where
       ∙ replicate_more {A = ℕ} (2 * length j.program.pairs) (j.media + sum (element_lens j)) 0)
 
   exact_zeros : AreExact (opening j).elements
-  exact_zeros h q = let e : element_in (opening j).elements h q ≡ pos 0 = ap (λ (l : List ℤ). get_or l q (pos 0)) (each_zeros h) ∙ at_zero (length (get_or (opening j).elements h [])) q in subst IsExact (sym e) refl
+  exact_zeros h q = let e : element_in (opening j).elements h q ≡ pos 0 = ap (λ (l : List ℤ). get_or l q (pos 0)) (each_zeros h)
+      ∙ at_zero (length (get_or (opening j).elements h [])) q in subst IsExact (sym e) refl
     where
       at_zero : (n q : ℕ) → get_or (zeros n) q (pos 0) ≡ pos 0
       at_zero zero q = refl

@@ -1,5 +1,36 @@
 -- What the steps on a table need holds of every job: lengths, bounds, and that what a micro-step names is there.
-use Rattle.std.proofs.Common.{◌≡◌, ℕ, ◌+◌, ◌*◌, ◌%◌, ◌<◌, ◌≤◌, ◌⊎◌, inl, inr, Bool, true, false, cond, List, [], length, get_or, Option, Some, None, refl, ap, subst, arith, ◌∙◌, ℤ, pos, suc-mul, mul-le-mul_right}
+use Rattle.std.proofs.Common.{
+  ◌≡◌,
+  ℕ,
+  ◌+◌,
+  ◌*◌,
+  ◌%◌,
+  ◌<◌,
+  ◌≤◌,
+  ◌⊎◌,
+  inl,
+  inr,
+  Bool,
+  true,
+  false,
+  cond,
+  List,
+  [],
+  length,
+  get_or,
+  Option,
+  Some,
+  None,
+  refl,
+  ap,
+  subst,
+  arith,
+  ◌∙◌,
+  ℤ,
+  pos,
+  suc-mul,
+  mul-le-mul_right,
+}
 use Rattle.std.specs.Prelude.{slice_get, nat_lt}
 use Rattle.std.proofs.lemmas.Bool.{cases_lt}
 use Rattle.std.proofs.lemmas.List.{length-map, length-replicate, get_or-map}
@@ -48,7 +79,8 @@ module _ (j : JobData) (f : IsFormed j) (supplied : IsSupplied j) (job : IsJob j
     (let a = lists_many j.program j.media in let l = length-map (opening j).elements (length {A = ℤ}) in let z = h.0 in omega (arith, a, l, z)),
     (let e = ap (length {A = ℤ}) (buffer_list j.program j.media b h.0) ∙ length-replicate (depth_of j.program b * len_of j.program b) (pos 0) in
         let m = get_or-map (length {A = ℤ}) (opening j).elements b [] 0 (let a = lists_many j.program j.media in let z = h.0 in omega (arith, a, z)) in
-        let d = digit_inside (k % depth_of j.program b) n (len_of j.program b) (depth_of j.program b) (mod_below k (depth_of j.program b) (let p = has_places j job b in omega (arith, p))) h.1 in omega (arith, e, m, d)),
+        let d = digit_inside (k % depth_of j.program b) n (len_of j.program b) (depth_of j.program b)
+        (mod_below k (depth_of j.program b) (let p = has_places j job b in omega (arith, p))) h.1 in omega (arith, e, m, d)),
   )
   here (Wire m n) y i h k = (
     (let a = lists_many j.program j.media in let l = length-map (opening j).elements (length {A = ℤ}) in let z = h.0 in omega (arith, a, l, z)),
@@ -96,8 +128,11 @@ module _ (j : JobData) (f : IsFormed j) (supplied : IsSupplied j) (job : IsJob j
       q = steps_matched j f s
 
       by : (b : Bool) → cond b (slice_get (steps j.program s).prologue n) (slice_get (steps j.program s).turn (place_at (steps j.program s) n)) ≡ Some m → IsThere j m
-      by true e = some_there s (slice_get (steps j.program s).prologue n) (slice_get (code j.program s).prologue n) m (matched_at j.program j.media s (steps j.program s).prologue (code j.program s).prologue n q.prologues) e
-      by false e = some_there s (slice_get (steps j.program s).turn (place_at (steps j.program s) n)) (slice_get (code j.program s).turn (place_at (steps j.program s) n)) m (matched_at j.program j.media s (steps j.program s).turn (code j.program s).turn (place_at (steps j.program s) n) q.turns) e
+      by true e = some_there s (slice_get (steps j.program s).prologue n) (slice_get (code j.program s).prologue n) m
+          (matched_at j.program j.media s (steps j.program s).prologue (code j.program s).prologue n q.prologues) e
+      by false e = some_there s (slice_get (steps j.program s).turn (place_at (steps j.program s) n))
+          (slice_get (code j.program s).turn (place_at (steps j.program s) n)) m
+          (matched_at j.program j.media s (steps j.program s).turn (code j.program s).turn (place_at (steps j.program s) n) q.turns) e
 
   full_few : (s : ℕ) → full j s ≤ 20000000
   full_few s = by (cases_lt s (length j.program.seqs))

@@ -1,5 +1,37 @@
 -- Cutting a view in two, and joining two views, keep the rule.
-use Rattle.std.proofs.Common.{◌≡◌, ℕ, zero, suc, ◌<◌, ◌⊎◌, inl, inr, ⊎_elim, Bool, true, false, not, cond, List, [], ◌∷◌, ◌++◌, length, set, Option, Some, None, refl, sym, ap, subst, ◌∙◌, eq-eqb, ne_eqb, length-set}
+use Rattle.std.proofs.Common.{
+  ◌≡◌,
+  ℕ,
+  zero,
+  suc,
+  ◌<◌,
+  ◌⊎◌,
+  inl,
+  inr,
+  ⊎_elim,
+  Bool,
+  true,
+  false,
+  not,
+  cond,
+  List,
+  [],
+  ◌∷◌,
+  ◌++◌,
+  length,
+  set,
+  Option,
+  Some,
+  None,
+  refl,
+  sym,
+  ap,
+  subst,
+  ◌∙◌,
+  eq-eqb,
+  ne_eqb,
+  length-set,
+}
 use Rattle.std.proofs.lemmas.Bool.{cases_eq}
 use mathlib.Core.Option.{some, some-injective, some-ne-none}
 use lib.ListN.{get_elem?}
@@ -35,7 +67,8 @@ pub picked_on : (test : ℕ → Bool) (xs : List Count) (s n : ℕ) → test s �
 picked_on test [] s n t h = absurd (no_count n h)
 picked_on test (x ∷ xs) s n t h = by (test x.seq) refl (cases_eq x.seq s) (picked_on test xs s n t)
   where
-    by : (b : Bool) → test x.seq ≡ b → (x.seq ≡ s) ⊎ (x.seq ≡ s → ⊥) → (count_in xs s ≡ Some n → count_in (picked test xs) s ≡ Some n) → count_in (cond b (x ∷ picked test xs) (picked test xs)) s ≡ Some n
+    by : (b : Bool) → test x.seq ≡ b → (x.seq ≡ s) ⊎ (x.seq ≡ s → ⊥) → (count_in xs s ≡ Some n → count_in (picked test xs) s ≡ Some n)
+        → count_in (cond b (x ∷ picked test xs) (picked test xs)) s ≡ Some n
     by true e (inl q) r = let a : Some x.made ≡ Some n = rw (eq-eqb x.seq s q) at h in rw (eq-eqb x.seq s q) a
     by true e (inr q) r = let a : count_in xs s ≡ Some n = rw (ne_eqb x.seq s q) at h in rw (ne_eqb x.seq s q) (r a)
     by false e (inl q) r = absurd (true_false (sym t ∙ ap test (sym q) ∙ e))
@@ -79,7 +112,8 @@ pub record Parts (v u w : View) : Type 0 where
   pub not_both : (s n m : ℕ) → count_by u s ≡ Some n → count_by w s ≡ Some m → ⊥
   pub one : (s n : ℕ) → count_by v s ≡ Some n → (count_by u s ≡ Some n) ⊎ (count_by w s ≡ Some n)
 
-module _ (j : JobData) (t : State (Unit {0}) View) (counts : List ℕ) (b : TellsAt j t counts) (id : ℕ) (v : View) (at : get_elem? t.views id ≡ some v) (u w : View) (parts : Parts v u w) (for_u : IsFor j u) (for_w : IsFor j w) where
+module _ (j : JobData) (t : State (Unit {0}) View) (counts : List ℕ) (b : TellsAt j t counts) (id : ℕ) (v : View)
+    (at : get_elem? t.views id ≡ some v) (u w : View) (parts : Parts v u w) (for_u : IsFor j u) (for_w : IsFor j w) where
   abbrev New : List View
   New = set t.views id u ++ w ∷ []
 
@@ -116,16 +150,32 @@ module _ (j : JobData) (t : State (Unit {0}) View) (counts : List ℕ) (b : Tell
       by : (d : IsDriven t.views s) → (d.seat ≡ id) ⊎ (d.seat ≡ id → ⊥) → IsDriven New s
       by d (inl q) = let o : d.drives.view ≡ v = some-injective d.drives.view v (sym (subst (λ (h : ℕ). get_elem? t.views h ≡ some d.drives.view) q d.drives.stands) ∙ at) in
           ⊎_elim
-          (λ c. record { seat = id; count = d.count; drives = record { view = u; stands = at_longer (set t.views id u) (w ∷ []) id u (set_here t.views id u (seat_inside t.views id v at)); count = c } })
+          (λ c. record {
+            seat = id;
+            count = d.count;
+            drives =
+                record { view = u; stands = at_longer (set t.views id u) (w ∷ []) id u (set_here t.views id u (seat_inside t.views id v at)); count = c };
+          })
           (λ c. record { seat = length t.views; count = d.count; drives = record { view = w; stands = at_last (set t.views id u) w (length t.views) (length-set t.views id u); count = c } })
           (parts.one s d.count (subst (λ (a : View). count_by a s ≡ Some d.count) o d.drives.count))
-      by d (inr q) = record { seat = d.seat; count = d.count; drives = record { view = d.drives.view; stands = at_longer (set t.views id u) (w ∷ []) d.seat d.drives.view (set_else t.views id d.seat u q ∙ d.drives.stands); count = d.drives.count } }
+      by d (inr q) = record {
+        seat = d.seat;
+        count = d.count;
+        drives =
+            record {
+              view = d.drives.view;
+              stands =
+                  at_longer (set t.views id u) (w ∷ []) d.seat d.drives.view (set_else t.views id d.seat u q ∙ d.drives.stands);
+              count = d.drives.count;
+            };
+      }
 
   pub split_keeps : TellsAt j (record { words = t.words; homes = t.homes; views = New }) counts
   split_keeps = record {
     are_told = b.are_told;
     words = b.words;
-    for_job = λ i y g. ⊎_elim (λ p. ⊎_elim (λ q. subst (IsFor j) q.1 for_u) (λ q. b.for_job i y q.1) (at_set t.views id i u y p)) (λ p. subst (IsFor j) p.1 for_w) (at_pushed (set t.views id u) w y i g);
+    for_job = λ i y g. ⊎_elim (λ p. ⊎_elim (λ q. subst (IsFor j) q.1 for_u) (λ q. b.for_job i y q.1) (at_set t.views id i u y p))
+        (λ p. subst (IsFor j) p.1 for_w) (at_pushed (set t.views id u) w y i g);
     agree = λ i s n d. let f = from i s n d in b.agree f.old s n f.drives;
     apart = apart;
     covered = covered;
@@ -199,18 +249,30 @@ module _ (j : JobData) (t : State (Unit {0}) View) (counts : List ℕ) (b : Tell
   joined_covered s l = let d = b.covered s l in by d (cases_eq d.seat id) (cases_eq d.seat other)
     where
       view_at : (d : IsDriven t.views s) (i : ℕ) (y : View) → d.seat ≡ i → get_elem? t.views i ≡ some y → count_by y s ≡ Some d.count
-      view_at d i y q g = subst (λ (a : View). count_by a s ≡ Some d.count) (some-injective d.drives.view y (sym (subst (λ (h : ℕ). get_elem? t.views h ≡ some d.drives.view) q d.drives.stands) ∙ g)) d.drives.count
+      view_at d i y q g = subst (λ (a : View). count_by a s ≡ Some d.count)
+          (some-injective d.drives.view y (sym (subst (λ (h : ℕ). get_elem? t.views h ≡ some d.drives.view) q d.drives.stands) ∙ g)) d.drives.count
 
       by : (d : IsDriven t.views s) → (d.seat ≡ id) ⊎ (d.seat ≡ id → ⊥) → (d.seat ≡ other) ⊎ (d.seat ≡ other → ⊥) → IsDriven Joined s
       by d (inl q) r = let c = whole.left s d.count (view_at d id v q at) in record { seat = id; count = c.0; drives = record { view = u; stands = at_id; count = c.1 } }
       by d (inr q) (inl r) = let c = whole.right s d.count (view_at d other w r there) in record { seat = id; count = c.0; drives = record { view = u; stands = at_id; count = c.1 } }
-      by d (inr q) (inr r) = record { seat = d.seat; count = d.count; drives = record { view = d.drives.view; stands = set_else (set t.views id u) other d.seat Spent r ∙ (set_else t.views id d.seat u q ∙ d.drives.stands); count = d.drives.count } }
+      by d (inr q) (inr r) = record {
+        seat = d.seat;
+        count = d.count;
+        drives =
+            record {
+              view = d.drives.view;
+              stands = set_else (set t.views id u) other d.seat Spent r
+                  ∙ (set_else t.views id d.seat u q ∙ d.drives.stands);
+              count = d.drives.count;
+            };
+      }
 
   pub join_keeps : TellsAt j (record { words = t.words; homes = t.homes; views = Joined }) counts
   join_keeps = record {
     are_told = b.are_told;
     words = b.words;
-    for_job = λ i y g. ⊎_elim (λ p. subst (IsFor j) p.1 tt) (λ p. ⊎_elim (λ q. subst (IsFor j) q.1 for_u) (λ q. b.for_job i y q.1) (at_set t.views id i u y p.1)) (at_set (set t.views id u) other i Spent y g);
+    for_job = λ i y g. ⊎_elim (λ p. subst (IsFor j) p.1 tt)
+        (λ p. ⊎_elim (λ q. subst (IsFor j) q.1 for_u) (λ q. b.for_job i y q.1) (at_set t.views id i u y p.1)) (at_set (set t.views id u) other i Spent y g);
     agree = λ i s n d. let f = came i s n d in b.agree f.old s n f.drives;
     apart = joined_apart;
     covered = joined_covered;

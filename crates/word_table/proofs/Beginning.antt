@@ -57,8 +57,11 @@ zero_row zero lens k a m l e = refl
 zero_row (suc n) lens zero a m l e = get_or-map zeros lens a 0 [] l ∙ ap zeros e
 zero_row (suc n) lens (suc k) a m l e = zero_row n lens k a m l e
 
-module _ (j : JobData) (g : RunsOnWords j) (code : List SeqSteps) (are : AreSteps j.program code) (callers : List ℕ) (called : (v : ℕ) → v < length j.graph.vertices → get_or callers v 0 ≡ caller j v) (callers_there : length callers ≡ length j.graph.vertices)
-    (k : Knowledge) (d : DriverParts) (job : d.job.now ≡ j) (new : IsNewView j k) (drives : (s : ℕ) → s < length j.program.seqs → s % d.groups ≡ d.group → count_in k.driven s ≡ Some 0) (only : (s n : ℕ) → count_in k.driven s ≡ Some n → s % d.groups ≡ d.group)
+module _ (j : JobData) (g : RunsOnWords j) (code : List SeqSteps) (are : AreSteps j.program code) (callers : List ℕ)
+    (called : (v : ℕ) → v < length j.graph.vertices → get_or callers v 0 ≡ caller j v) (callers_there : length callers ≡ length j.graph.vertices)
+    (k : Knowledge) (d : DriverParts) (job : d.job.now ≡ j) (new : IsNewView j k)
+    (drives : (s : ℕ) → s < length j.program.seqs → s % d.groups ≡ d.group → count_in k.driven s ≡ Some 0)
+    (only : (s n : ℕ) → count_in k.driven s ≡ Some n → s % d.groups ≡ d.group)
     (holds : d.seat.view ≡ Holds k) (mine : List Bool) (mine_is : mine ≡ map (λ s. nat_eq (s % d.groups) d.group) callers)
     (counts : d.counts.items ≡ replicate (length j.program.seqs) 0) (at : AreAtOpening j code d.own) (lens : d.own.kept.lens ≡ lens_for j.graph (λ v. get_or mine v false) 0 j.graph.vertices)
     (rows : d.own.kept.rows ≡ replicate (reactions j) (map zeros d.own.kept.lens)) (laid : (v : ℕ) → get_or mine v false ≡ true → IsLaid j d.own.kept.lens d.own.kept.desks v) where
@@ -86,7 +89,8 @@ module _ (j : JobData) (g : RunsOnWords j) (code : List SeqSteps) (are : AreStep
     desk = λ x b is at. (laid v (is_own v x is q)).desk x b is at;
   }
 
-  row_first : (s n v a i : ℕ) (x : Vertex) → count_in k.driven s ≡ Some n → slice_get j.graph.vertices v ≡ Some x → x.kind ≡ Actuator a → caller j v ≡ s → row_at d.own.kept.rows i a ≡ row_at (zero_rows j) i a
+  row_first : (s n v a i : ℕ) (x : Vertex) → count_in k.driven s ≡ Some n → slice_get j.graph.vertices v ≡ Some x → x.kind ≡ Actuator a
+      → caller j v ≡ s → row_at d.own.kept.rows i a ≡ row_at (zero_rows j) i a
   row_first s n v a i x c is e w =
       let q = (calls_laid v (ap (λ (t : ℕ). t % d.groups) w ∙ only s n c)).row x a is e in let p = actuator_at j.graph at.ready.valid v a x is e in
       ap (λ (l : List Values). row_at l i a) rows ∙ zero_row (reactions j) d.own.kept.lens i a (get_or (lens_of j.graph.vertices x.ins) 0 0) q.0 q.1
@@ -125,7 +129,8 @@ module _ (j : JobData) (g : RunsOnWords j) (code : List SeqSteps) (are : AreStep
   }
 
 -- a driver of its group
-pub begins_by : (j : JobData) → RunsOnWords j → (code : List SeqSteps) → AreSteps j.program code → (callers : List ℕ) → ((v : ℕ) → v < length j.graph.vertices → get_or callers v 0 ≡ caller j v) → length callers ≡ length j.graph.vertices
+pub begins_by : (j : JobData) → RunsOnWords j → (code : List SeqSteps) → AreSteps j.program code → (callers : List ℕ)
+    → ((v : ℕ) → v < length j.graph.vertices → get_or callers v 0 ≡ caller j v) → length callers ≡ length j.graph.vertices
     → (d : DriverParts) → d.job.now ≡ j → DrivesGroup j d.groups d.group d.seat.view → (mine : List Bool) → mine ≡ map (λ s. nat_eq (s % d.groups) d.group) callers
     → d.counts.items ≡ replicate (length j.program.seqs) 0 → AreAtOpening j code d.own
     → d.own.kept.lens ≡ lens_for j.graph (λ v. get_or mine v false) 0 j.graph.vertices

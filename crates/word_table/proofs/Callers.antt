@@ -14,13 +14,15 @@ use Rattle.word_rule.proofs.AgreeDelays.{GetHalf, get_half}
 use Rattle.word_table.specs.Owners.{owners}
 
 -- the caller of a get half stands at the number of its delay
-pub get_owner : (cs : List ℕ) (xs : List Vertex) (v : ℕ) (x : Vertex) → length cs ≡ length xs → slice_get xs v ≡ Some x → is_get x.kind ≡ true → slice_get (owners cs xs) (delay_number xs v) ≡ Some (get_or cs v 0)
+pub get_owner : (cs : List ℕ) (xs : List Vertex) (v : ℕ) (x : Vertex) → length cs ≡ length xs → slice_get xs v ≡ Some x → is_get x.kind
+    ≡ true → slice_get (owners cs xs) (delay_number xs v) ≡ Some (get_or cs v 0)
 get_owner cs [] v x l e k = absurd (cc)
 get_owner [] (y ∷ ys) v x l e k = absurd (omega arith)
 get_owner (c ∷ cs) (y ∷ ys) zero x l e k = let same : y ≡ x = cc in ap (λ (b : Bool). slice_get (cond b (c ∷ owners cs ys) (owners cs ys)) 0) (ap (λ (z : Vertex). is_get z.kind) same ∙ k)
 get_owner (c ∷ cs) (y ∷ ys) (suc v) x l e k = by (is_get y.kind) (get_owner cs ys v x (omega arith) e k)
   where
-    by : (b : Bool) → slice_get (owners cs ys) (delay_number ys v) ≡ Some (get_or cs v 0) → slice_get (cond b (c ∷ owners cs ys) (owners cs ys)) (if b then delay_number ys v + 1 else delay_number ys v) ≡ Some (get_or cs v 0)
+    by : (b : Bool) → slice_get (owners cs ys) (delay_number ys v) ≡ Some (get_or cs v 0)
+        → slice_get (cond b (c ∷ owners cs ys) (owners cs ys)) (if b then delay_number ys v + 1 else delay_number ys v) ≡ Some (get_or cs v 0)
     by true r = let q : delay_number ys v + 1 ≡ suc (delay_number ys v) = omega arith in ap (λ (n : ℕ). slice_get (c ∷ owners cs ys) n) q ∙ r
     by false r = r
 

@@ -30,7 +30,8 @@ use Rattle.word_table.specs.Ends.{AreOfJob, FitsTo, IsGathered, HoldsFrom, SeatH
 use Rattle.word_table.specs.Parts.{IsDriver, AreDriverParts}
 
 -- the count of a sequence is its driver's
-pub counts_at : (f : FabricData) (ds : List DriverData) (s : ℕ) (d : DriverData) → s < length f.job.program.seqs → slice_get ds (s % f.groups) ≡ Some d → get_or (counts_of f ds) s 0 ≡ get_or d.counts s 0
+pub counts_at : (f : FabricData) (ds : List DriverData) (s : ℕ) (d : DriverData) → s < length f.job.program.seqs
+    → slice_get ds (s % f.groups) ≡ Some d → get_or (counts_of f ds) s 0 ≡ get_or d.counts s 0
 counts_at f ds s d l e = get_or-map-range_with_len (λ i. count_by (slice_get ds (i % f.groups)) i) 0 (length f.job.program.seqs) s s 0 l (zero-add s) ∙ ap (λ (o : Option DriverData). count_by o s) e
 
 pub counts_many : (f : FabricData) (ds : List DriverData) → length (counts_of f ds) ≡ length f.job.program.seqs
@@ -71,12 +72,15 @@ fits_to j groups m counts r d g e h = record {
 }
 
 -- the view of a driver's seat
-pub holds_group : (j : JobData) (k : Knowledge) (d : DriverParts) (t : TableId) (counts : List ℕ) → IsDriver j t k d → ((s : ℕ) → s < length j.program.seqs → s % d.groups ≡ d.group → get_or counts s 0 ≡ get_or d.counts.items s 0)
+pub holds_group : (j : JobData) (k : Knowledge) (d : DriverParts) (t : TableId) (counts : List ℕ) → IsDriver j t k d
+    → ((s : ℕ) → s < length j.program.seqs → s % d.groups ≡ d.group → get_or counts s 0 ≡ get_or d.counts.items s 0)
     → (s : ℕ) → s < length j.program.seqs → s % d.groups ≡ d.group → count_in k.driven s ≡ Some (get_or counts s 0)
 holds_group j k d t counts i agree s l q = let r = i.all s l q in r.1 ∙ ap (λ (n : ℕ). Some n) (sym (i.counted s r.0 r.1) ∙ sym (agree s l q))
 
 -- one group more
-module _ (j : JobData) (table : TableId) (groups m : ℕ) (counts : List ℕ) (k : Knowledge) (mine : (s : ℕ) → s < length j.program.seqs → s % groups ≡ m → count_in k.driven s ≡ Some (get_or counts s 0)) (only : (s n : ℕ) → count_in k.driven s ≡ Some n → s % groups ≡ m) (some : 0 < groups) where
+module _ (j : JobData) (table : TableId) (groups m : ℕ) (counts : List ℕ) (k : Knowledge)
+    (mine : (s : ℕ) → s < length j.program.seqs → s % groups ≡ m → count_in k.driven s ≡ Some (get_or counts s 0))
+    (only : (s n : ℕ) → count_in k.driven s ≡ Some n → s % groups ≡ m) (some : 0 < groups) where
   which : (s : ℕ) → m ≤ s % groups → (s % groups ≡ m) ⊎ (m + 1 ≤ s % groups)
   which s h = ⊎_elim (λ q. inl q) (λ q. inr (omega (arith, q, h))) (cases_eq (s % groups) m)
 
@@ -108,12 +112,14 @@ module _ (j : JobData) (table : TableId) (groups m : ℕ) (counts : List ℕ) (k
           (λ w. let a = h.none_else s n w in absurd (omega (arith, a, q)))
           (λ w. c ∙ sym w ∙ mine s i q) (both_back l.driven k.driven s n c)
 
-  pub seat_more : (seat : Option SeatData) (own : SeatData) → own.table ≡ table → own.view ≡ Holds k → SeatHolds j table groups (m + 1) seat counts → SeatHolds j table groups m (Some (seat_with seat own)) counts
+  pub seat_more : (seat : Option SeatData) (own : SeatData) → own.table ≡ table → own.view ≡ Holds k
+      → SeatHolds j table groups (m + 1) seat counts → SeatHolds j table groups m (Some (seat_with seat own)) counts
   seat_more None own e v h = (e, subst (λ (w : View). HoldsFrom j groups m w counts) (sym v) (alone h))
   seat_more (Some s) own e v h = (h.0, subst (λ (w : View). HoldsFrom j groups m (joined s.view w) counts) (sym v) (beside s.view h.1))
 
 -- in the end a seat drives every sequence
-pub seat_all : (j : JobData) (table : TableId) (groups : ℕ) (counts : List ℕ) (s : SeatData) → length counts ≡ length j.program.seqs → SeatHolds j table groups 0 (Some s) counts → HoldsCounts j s.view counts
+pub seat_all : (j : JobData) (table : TableId) (groups : ℕ) (counts : List ℕ) (s : SeatData) → length counts ≡ length j.program.seqs
+    → SeatHolds j table groups 0 (Some s) counts → HoldsCounts j s.view counts
 seat_all j table groups counts s many h = record { long = many; each = λ i l. h.1.inside i l (omega arith) }
 
 -- the rows of the actuators of a driver's group are laid out

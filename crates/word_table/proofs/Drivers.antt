@@ -1,5 +1,34 @@
 -- A driver stays one with each of its steps.
-use Rattle.std.proofs.Common.{◌≡◌, ℕ, ◌+◌, ◌%◌, ◌<◌, ◌^◌, ◌⊎◌, inl, inr, ⊎_elim, Bool, true, false, cond, List, length, get_or, set, Some, refl, sym, ap, subst, arith, ◌∙◌, length-set, get_or-set_same, get_or-set_other}
+use Rattle.std.proofs.Common.{
+  ◌≡◌,
+  ℕ,
+  ◌+◌,
+  ◌%◌,
+  ◌<◌,
+  ◌^◌,
+  ◌⊎◌,
+  inl,
+  inr,
+  ⊎_elim,
+  Bool,
+  true,
+  false,
+  cond,
+  List,
+  length,
+  get_or,
+  set,
+  Some,
+  refl,
+  sym,
+  ap,
+  subst,
+  arith,
+  ◌∙◌,
+  length-set,
+  get_or-set_same,
+  get_or-set_other,
+}
 use Rattle.std.proofs.lemmas.Bool.{cases_eq}
 use Rattle.std.proofs.lemmas.Option.{same_Some}
 use Rattle.atomic_table.specs.Seated.{TableId}
@@ -62,7 +91,8 @@ reaches_on j g k l counts c agree s n r m mine here more next in_reaction on dri
     inside = let a = (shaped j g counts c).counts in omega (arith, a, here)
 
 -- the same sequences, counts and values, whatever else the seat knows now
-pub unmoved : (j : JobData) (t : TableId) (k l : Knowledge) (d : DriverParts) (seat : SeatData) → IsDriver j t k d → seat.table ≡ d.seat.table → seat.view ≡ Holds l → l.job ≡ k.job → l.driven ≡ k.driven → IsDriver j t l (record d { seat = seat })
+pub unmoved : (j : JobData) (t : TableId) (k l : Knowledge) (d : DriverParts) (seat : SeatData) → IsDriver j t k d → seat.table
+    ≡ d.seat.table → seat.view ≡ Holds l → l.job ≡ k.job → l.driven ≡ k.driven → IsDriver j t l (record d { seat = seat })
 unmoved j t k l d seat i of_table holds job driven = record {
   of_table = of_table ∙ i.of_table;
   of_job = i.of_job;
@@ -108,7 +138,8 @@ moved_on j t k l d e s n i same holds job driven mine more counts registers room
   there = λ h m c. ⊎_elim (λ q. subst (λ (a : ℕ). a < length j.program.seqs) (sym q.0) (i.there s n mine)) (λ q. i.there h m q.1) (at h m c);
   within = λ h m c. ⊎_elim (λ q. let b = q.1 in let f = ap (full j) q.0 in omega (arith, b, more, f)) (λ q. i.within h m q.1) (at h m c);
   counted = λ h m c. ap (λ xs. get_or xs h 0) counts ∙ ⊎_elim
-      (λ q. (λ w. get_or (set d.counts.items s (get_or d.counts.items s 0 + 1)) (q.0 w) 0) ∙ get_or-set_same {A = ℕ} d.counts.items s (get_or d.counts.items s 0 + 1) 0 inside ∙ ap (λ (a : ℕ). a + 1) (i.counted s n mine) ∙ sym q.1)
+      (λ q. (λ w. get_or (set d.counts.items s (get_or d.counts.items s 0 + 1)) (q.0 w) 0)
+      ∙ get_or-set_same {A = ℕ} d.counts.items s (get_or d.counts.items s 0 + 1) 0 inside ∙ ap (λ (a : ℕ). a + 1) (i.counted s n mine) ∙ sym q.1)
       (λ q. get_or-set_other {A = ℕ} d.counts.items s h (get_or d.counts.items s 0 + 1) 0 q.0 ∙ i.counted h m q.1) (at h m c);
   only = λ h m c. ap (λ (a : ℕ). h % a) same.groups ∙ ⊎_elim (λ q. ap (λ (a : ℕ). a % d.groups) q.0 ∙ i.only s n mine) (λ q. i.only h m q.1) (at h m c) ∙ sym same.group;
   all = λ h q w. let r = i.all h q (ap (λ (m : ℕ). h % m) (sym same.groups) ∙ w ∙ same.group) in ⊎_elim
@@ -131,7 +162,9 @@ moved_on j t k l d e s n i same holds job driven mine more counts registers room
 -- what some reached counts tell that agree with the driver's
 pub some_at : (d : DriverParts) (j : JobData) → d.job.now ≡ j → (P : Core → Type 0) (counts : List ℕ) → AreReached j counts → length counts ≡ length j.program.seqs
     → ((s : ℕ) → s < length j.program.seqs → s % d.groups ≡ d.group → get_or counts s 0 ≡ get_or d.counts.items s 0) → P (told j counts) → InSome (driver_view d) P
-some_at d j e P counts = subst (λ (i : JobData). AreReached i counts → length counts ≡ length i.program.seqs → ((s : ℕ) → s < length i.program.seqs → s % d.groups ≡ d.group → get_or counts s 0 ≡ get_or d.counts.items s 0) → P (told i counts) → InSome (driver_view d) P) e
+some_at d j e P counts = subst (λ (i : JobData). AreReached i counts → length counts ≡ length i.program.seqs
+    → ((s : ℕ) → s < length i.program.seqs → s % d.groups ≡ d.group → get_or counts s 0 ≡ get_or d.counts.items s 0) → P (told i counts)
+    → InSome (driver_view d) P) e
     (λ r l a p. (counts, r, record { many = l; agree = λ s q. a s q.there q.grouped }, p))
 
 waits_quietly : (m : MicroStep) → Waits m → IsQuiet m
@@ -190,17 +223,21 @@ module _ (f : FabricParts) (d : DriverParts) (next : Next) (is : AreFabricParts 
 
   -- the sequence of the next micro-step is counted, and its count is below the end of its type
   pub can_count : (next.seq < length d.counts.items) × (get_or d.counts.items next.seq 0 + 1 < 2 ^ 64)
-  can_count = let a = here in let b = c.driver.counts_there in let n = c.driver.counted next.seq c.count c.drives in let o = c.more in let w = is.runs.few next.seq in (omega (arith, a, b), omega (arith, n, o, w))
+  can_count = let a = here in let b = c.driver.counts_there in let n = c.driver.counted next.seq c.count c.drives in let o = c.more in
+      let w = is.runs.few next.seq in (omega (arith, a, b), omega (arith, n, o, w))
 
   -- counts that agree with the seat's view
   pub agreed : (counts : List ℕ) → Agree K counts → AreTold J counts
   agreed counts a = subst (λ (i : JobData). AreTold i counts) c.driver.job a.are_told
 
-  pub own_told : (P : JobData → List ℕ → Type 0) → InTold d.seat.view (λ z. Unit {0}) → ((counts : List ℕ) → AreTold J counts → ((s n : ℕ) → count_in K.driven s ≡ Some n → get_or counts s 0 ≡ n) → P J counts) → (counts : List ℕ) × P J counts
+  pub own_told : (P : JobData → List ℕ → Type 0) → InTold d.seat.view (λ z. Unit {0})
+      → ((counts : List ℕ) → AreTold J counts → ((s n : ℕ) → count_in K.driven s ≡ Some n → get_or counts s 0 ≡ n) → P J counts)
+      → (counts : List ℕ) × P J counts
   own_told P w use_it = let h : InTold (Holds K) (λ z. Unit {0}) = subst (λ u. InTold u (λ z. Unit {0})) c.driver.holds w in (h.0, use_it h.0 (agreed h.0 h.1) h.1.agree)
 
   -- they agree with the driver's own counts
-  pub own_counts : (counts : List ℕ) → ((s n : ℕ) → count_in K.driven s ≡ Some n → get_or counts s 0 ≡ n) → (s : ℕ) → s < length J.program.seqs → s % d.groups ≡ d.group → get_or counts s 0 ≡ get_or d.counts.items s 0
+  pub own_counts : (counts : List ℕ) → ((s n : ℕ) → count_in K.driven s ≡ Some n → get_or counts s 0 ≡ n) → (s : ℕ) → s
+      < length J.program.seqs → s % d.groups ≡ d.group → get_or counts s 0 ≡ get_or d.counts.items s 0
   own_counts counts agree s l q = let r = c.driver.all s l q in agree s r.0 r.1 ∙ sym (c.driver.counted s r.0 r.1)
 
   pub in_some : (P : Core → Type 0) (counts : List ℕ) → AreTold J counts → ((s n : ℕ) → count_in K.driven s ≡ Some n → get_or counts s 0 ≡ n) → P (told J counts) → InSome (driver_view d) P
@@ -208,13 +245,16 @@ module _ (f : FabricParts) (d : DriverParts) (next : Next) (is : AreFabricParts 
 
   -- the private part after a micro-step that changes none of it
   pub quiet_own : (l : Knowledge) → l.driven ≡ raised K.driven next.seq → IsQuiet next.step → HasOwn J l d.own.registers d.own.kept.cells d.own.kept.rows
-  quiet_own l driven q = after_quiet J is.runs.formed is.runs.values K d.own.registers d.own.kept.cells d.own.kept.rows c.driver.own next.seq c.count next.reaction c.drives here c.more c.in_reaction l driven next.step c.next_step q
+  quiet_own l driven q = after_quiet J is.runs.formed is.runs.values K d.own.registers d.own.kept.cells d.own.kept.rows c.driver.own
+      next.seq c.count next.reaction c.drives here c.more c.in_reaction l driven next.step c.next_step q
 
-  pub reaches_next : (counts : List ℕ) → AreTold J counts → ((s n : ℕ) → count_in K.driven s ≡ Some n → get_or counts s 0 ≡ n) → enabled_in (told J counts) next.reaction next.step ≡ true → (l : Knowledge) → l.driven ≡ raised K.driven next.seq → Reaches J l
+  pub reaches_next : (counts : List ℕ) → AreTold J counts → ((s n : ℕ) → count_in K.driven s ≡ Some n → get_or counts s 0 ≡ n)
+      → enabled_in (told J counts) next.reaction next.step ≡ true → (l : Knowledge) → l.driven ≡ raised K.driven next.seq → Reaches J l
   reaches_next counts t agree on l driven = reaches_on J is.runs K l counts t agree next.seq c.count next.reaction next.step c.drives here c.more c.next_step c.in_reaction on driven
 
   -- after a micro-step that looks at no word
-  module _ (e : DriverParts) (same : SameDriver d e) (seat : e.seat.view ≡ after (λ k. stepped k next.seq) d.seat.view) (counts : CountsOneMore d e next.seq) (free : IsFree next.step) (told_by : InTold d.seat.view (λ z. Unit {0})) where
+  module _ (e : DriverParts) (same : SameDriver d e) (seat : e.seat.view ≡ after (λ k. stepped k next.seq) d.seat.view)
+      (counts : CountsOneMore d e next.seq) (free : IsFree next.step) (told_by : InTold d.seat.view (λ z. Unit {0})) where
     abbrev pub L : Knowledge
     L = stepped K next.seq
 
@@ -225,7 +265,8 @@ module _ (f : FabricParts) (d : DriverParts) (next : Next) (is : AreFabricParts 
     now_holds = seat ∙ ap (λ (v : View). after (λ k. stepped k next.seq) v) c.driver.holds
 
     -- where the private part is what it is to be
-    pub free_driver : length e.own.registers ≡ length d.own.registers → e.own.rooms ≡ d.own.rooms → AreReady f.job.now e.own.kept → (e.own.kept.lens ≡ d.own.kept.lens) × (e.own.kept.desks ≡ d.own.kept.desks)
+    pub free_driver : length e.own.registers ≡ length d.own.registers → e.own.rooms ≡ d.own.rooms → AreReady f.job.now e.own.kept
+        → (e.own.kept.lens ≡ d.own.kept.lens) × (e.own.kept.desks ≡ d.own.kept.desks)
         → HasOwn f.job.now (stepped c.knowledge next.seq) e.own.registers e.own.kept.cells e.own.kept.rows → IsOf f e
     free_driver registers rooms ready places own = (
       L,
@@ -234,7 +275,8 @@ module _ (f : FabricParts) (d : DriverParts) (next : Next) (is : AreFabricParts 
     )
 
     pub quiet_driver : IsQuiet next.step → e.own ≡ d.own → IsOf f e
-    quiet_driver q own = free_driver (ap (λ o. length o.registers) own) (ap (λ o. o.rooms) own) (rw own c.driver.ready) (ap (λ o. o.kept.lens) own, ap (λ o. o.kept.desks) own) (rw own (quiet_own L refl q))
+    quiet_driver q own = free_driver (ap (λ o. length o.registers) own) (ap (λ o. o.rooms) own) (rw own c.driver.ready)
+        (ap (λ o. o.kept.lens) own, ap (λ o. o.kept.desks) own) (rw own (quiet_own L refl q))
 
     pub free_steps : Steps (driver_view d) (driver_view e) next.seq next.reaction next.step
     free_steps = record {
@@ -242,5 +284,7 @@ module _ (f : FabricParts) (d : DriverParts) (next : Next) (is : AreFabricParts 
       counts = counts;
       found = 0;
       on = free.enabled next.reaction 0;
-      look = ap last_look seat ∙ same_look d.seat.view next.seq ∙ ap (λ (b : Bool). cond b (next_look (last_look d.seat.view) (word_at d.job.now next.reaction next.step) 0) (last_look d.seat.view)) (sym free.unrecorded);
+      look = ap last_look seat ∙ same_look d.seat.view next.seq
+          ∙ ap (λ (b : Bool). cond b (next_look (last_look d.seat.view) (word_at d.job.now next.reaction next.step) 0)
+          (last_look d.seat.view)) (sym free.unrecorded);
     }

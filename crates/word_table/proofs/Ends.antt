@@ -54,7 +54,9 @@ same_widths (suc n) x = ap (λ l. length x ∷ l) (same_widths n x)
 
 -- the rows of zeros are wide
 pub zeros_wide : (j : JobData) (k : ℕ) → k < length (zero_rows j) → length (get_or (zero_rows j) k []) ≡ length (actuator_lens j.graph j.graph.vertices)
-zeros_wide j k l = at (reactions j) k (let e = length-replicate (reactions j) (map zeros (actuator_lens j.graph j.graph.vertices)) in omega (arith, e, l)) ∙ length-map (actuator_lens j.graph j.graph.vertices) zeros
+zeros_wide j k l = at (reactions j) k
+    (let e = length-replicate (reactions j) (map zeros (actuator_lens j.graph j.graph.vertices)) in omega (arith, e, l))
+    ∙ length-map (actuator_lens j.graph j.graph.vertices) zeros
   where
     at : (n k : ℕ) → k < n → length (get_or (replicate n (map zeros (actuator_lens j.graph j.graph.vertices))) k []) ≡ length (map zeros (actuator_lens j.graph j.graph.vertices))
     at zero k l = absurd (omega arith)
@@ -81,7 +83,8 @@ none_gathered j groups counts r some l = record {
 }
 
 -- one group more
-module _ (j : JobData) (g : RunsOnWords j) (groups m : ℕ) (counts : List ℕ) (old new : Remains) (d : DriverParts) (k : Knowledge) (i : IsDriver j d.seat.table k d) (gs : d.groups ≡ groups) (gm : d.group ≡ m)
+module _ (j : JobData) (g : RunsOnWords j) (groups m : ℕ) (counts : List ℕ) (old new : Remains) (d : DriverParts) (k : Knowledge)
+    (i : IsDriver j d.seat.table k d) (gs : d.groups ≡ groups) (gm : d.group ≡ m)
     (r : IsGathered j groups (m + 1) counts old) (t : Gathers d old new) (agree : (s : ℕ) → s < length j.program.seqs → s % groups ≡ m → get_or counts s 0 ≡ get_or d.counts.items s 0) where
   -- is it of this group, or of a later one
   which : (s : ℕ) → m ≤ s % groups → (s % groups ≡ m) ⊎ (m + 1 ≤ s % groups)
@@ -106,7 +109,8 @@ module _ (j : JobData) (g : RunsOnWords j) (groups m : ℕ) (counts : List ℕ) 
   cell_now : (v d' : ℕ) (x : Vertex) → slice_get j.graph.vertices v ≡ Some x → delay_of j.graph v x ≡ Some d' → (caller j v % groups ≡ m) ⊎ (m + 1 ≤ caller j v % groups)
       → vector_at new.cells.items d' ≡ vector_at (own_after j (caller j v) (get_or counts (caller j v) 0)).cells d'
   cell_now v d' x is e (inl q) = let c = own_count (caller j v) (caller_there j g.formed v x is) q in
-      t.cells.here d' (caller j v) (let a = (i.ready.cells_fit v x d' is e).0 in let b = i.own.cells_there in let w = r.of_job.cells_there in omega (arith, a, b, w)) (owned v d' x is e) (to_own (caller j v) q)
+      t.cells.here d' (caller j v) (let a = (i.ready.cells_fit v x d' is e).0 in let b = i.own.cells_there in
+      let w = r.of_job.cells_there in omega (arith, a, b, w)) (owned v d' x is e) (to_own (caller j v) q)
       ∙ i.own.own_cells (caller j v) c.0 v d' x c.1 is e refl ∙ ap (λ (n : ℕ). vector_at (own_after j (caller j v) n).cells d') c.2
   cell_now v d' x is e (inr h) = t.cells.elsewhere d' (caller j v) (owned v d' x is e) (not_own (caller j v) h) ∙ r.cells v d' x is e h
 

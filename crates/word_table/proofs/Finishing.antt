@@ -18,7 +18,9 @@ use Rattle.word_table.proofs.Closings.{counts_many, finished_counts, ends_whole,
 use Rattle.word_table.proofs.Ends.{cells_told, rows_told, counts_are}
 use Rattle.syn_base.specs.Vectors.{Values}
 
-module _ (w : FabricParts) (is : AreFabricParts w) (ds : List DriverData) (r : Remains) (g : IsGathered w.job.now w.groups 0 (counts_of (fabric_view w) ds) r) (key : JobData) (key_is : key ≡ w.job.now) (xs : List ℕ) (xs_are : xs ≡ r.counts.items) where
+module _ (w : FabricParts) (is : AreFabricParts w) (ds : List DriverData) (r : Remains)
+    (g : IsGathered w.job.now w.groups 0 (counts_of (fabric_view w) ds) r) (key : JobData) (key_is : key ≡ w.job.now) (xs : List ℕ)
+    (xs_are : xs ≡ r.counts.items) where
   counts_whole : r.counts.items ≡ counts_of (fabric_view w) ds
   counts_whole = counts_are w.job.now is.runs w.groups (counts_of (fabric_view w) ds) (counts_many (fabric_view w) ds) r g
 
@@ -50,10 +52,12 @@ module _ (w : FabricParts) (is : AreFabricParts w) (ds : List DriverData) (r : R
       cells = c ∙ cells_told w.job.now is.runs w.groups (counts_of (fabric_view w) ds) (counts_many (fabric_view w) ds) r g;
     })
 
-    pub ended_whole : FullIsEnded → AreDrivers f ds → (old new : Driven) (c : ClosedData) → new ≡ closed f.job (counts_of f ds) old → IsClosedAt f.job (counts_of f ds) c → AreFinished ds → (new ≡ driven_by f.job old) × IsAtEnd f.job c
+    pub ended_whole : FullIsEnded → AreDrivers f ds → (old new : Driven) (c : ClosedData) → new ≡ closed f.job (counts_of f ds) old
+        → IsClosedAt f.job (counts_of f ds) c → AreFinished ds → (new ≡ driven_by f.job old) × IsAtEnd f.job c
     ended_whole law all old new c e i h = (
       e ∙ ap (λ (cs : List ℕ). closed f.job cs old) full,
-      subst (λ (v : FabricData). (cs : List ℕ) → cs ≡ full_counts v.job → IsClosedAt v.job cs c → IsAtEnd v.job c) view_is (λ cs q a. ends_whole law w.job.now is.runs cs c q a) (counts_of f ds) full i,
+      subst (λ (v : FabricData). (cs : List ℕ) → cs ≡ full_counts v.job → IsClosedAt v.job cs c → IsAtEnd v.job c) view_is
+          (λ cs q a. ends_whole law w.job.now is.runs cs c q a) (counts_of f ds) full i,
     )
       where
         full : counts_of f ds ≡ full_counts f.job

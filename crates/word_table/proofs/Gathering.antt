@@ -61,11 +61,13 @@ module _ (w : FabricParts) (is : AreFabricParts w) (ds : List DriverData) (all :
     pub one_more : (old new : Remains) (seat : Option SeatData) (own : SeatData) → Gathers d old new → own ≡ d.seat → AreGathered (m + 1) old seat → AreGathered m new (Some (seat_with seat own))
     one_more old new seat own t e g = (
       gathered_more w.job.now is.runs w.groups m (counts_of (fabric_view w) ds) old new d parts.0 driver groups group g.0 t own_count,
-      seat_more w.job.now w.table.table w.groups m (counts_of (fabric_view w) ds) parts.0 mine only is.some seat own (ap (λ (s : SeatData). s.table) e ∙ at_table) (ap (λ (s : SeatData). s.view) e ∙ driver.holds) g.1,
+      seat_more w.job.now w.table.table w.groups m (counts_of (fabric_view w) ds) parts.0 mine only is.some seat own
+          (ap (λ (s : SeatData). s.table) e ∙ at_table) (ap (λ (s : SeatData). s.view) e ∙ driver.holds) g.1,
     )
 
   -- the last driver of those that are left
-  module _ (old new : List DriverData) (v : DriverData) (part : old ≡ take (length old) ds) (taken : old ≡ new ++ v ∷ []) (d : DriverParts) (view_is : driver_view d ≡ v) (parts : AreDriverParts d) where
+  module _ (old new : List DriverData) (v : DriverData) (part : old ≡ take (length old) ds) (taken : old ≡ new ++ v ∷ []) (d : DriverParts)
+      (view_is : driver_view d ≡ v) (parts : AreDriverParts d) where
     here : slice_get ds (length new) ≡ Some v
     here = (popped ds old new v part taken).1
 
@@ -90,5 +92,6 @@ module _ (w : FabricParts) (is : AreFabricParts w) (ds : List DriverData) (all :
     pub last_table : d.seat.table ≡ w.table.table
     last_table = at_table (length new) d v view_is here parts
 
-    pub last_gathered : (r r' : Remains) (seat : Option SeatData) (own : SeatData) → Gathers d r r' → own ≡ d.seat → AreGathered (length old) r seat → AreGathered (length new) r' (Some (seat_with seat own))
+    pub last_gathered : (r r' : Remains) (seat : Option SeatData) (own : SeatData) → Gathers d r r' → own ≡ d.seat
+        → AreGathered (length old) r seat → AreGathered (length new) r' (Some (seat_with seat own))
     last_gathered r r' seat own t e g = one_more (length new) d v view_is here parts r r' seat own t e (before r seat g)

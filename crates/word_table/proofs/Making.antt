@@ -115,12 +115,14 @@ module _ (f : FabricParts) (d : DriverParts) (next : Next) (is : AreFabricParts 
   }
 
   -- what is stored
-  pub stores : (x : Place) (what : OnStore) → next.step ≡ Store x what → (value : ℤ) → value ≡ value_stored f.job.now d.own next.seq next.reaction what → Stores d.seat.view next.seq next.reaction next.step value
+  pub stores : (x : Place) (what : OnStore) → next.step ≡ Store x what → (value : ℤ) → value
+      ≡ value_stored f.job.now d.own next.seq next.reaction what → Stores d.seat.view next.seq next.reaction next.step value
   stores x what e value v = subst (λ u. Stores u S R next.step value) (sym c.driver.holds) (x, what, e, λ counts a. all counts a)
     where
       all : (counts : List ℕ) → Agree c.knowledge counts → emit_by c.knowledge.job.graph c.knowledge.job.sensors what R (own c.knowledge.job (told c.knowledge.job counts) S) ≡ value
       all counts a = subst (λ (i : JobData). AreTold i counts → emit_by i.graph i.sensors what R (own i (told i counts) S) ≡ value) (sym c.driver.job)
-          (λ t. emits Jo is.runs.formed is.runs.values c.knowledge d.own.registers d.own.kept.cells d.own.kept.rows c.driver.own S c.count R c.drives there c.more c.in_reaction (stepped c.knowledge S) refl x what
+          (λ t. emits Jo is.runs.formed is.runs.values c.knowledge d.own.registers d.own.kept.cells d.own.kept.rows c.driver.own S c.count
+          R c.drives there c.more c.in_reaction (stepped c.knowledge S) refl x what
           (c.next_step ∙ ap (λ (i : MicroStep). Some i) e) counts (shaped Jo is.runs counts t).counts (a.agree S c.count c.drives) ∙ sym v) a.are_told
 
   -- what was found at the word
@@ -140,7 +142,8 @@ module _ (f : FabricParts) (d : DriverParts) (next : Next) (is : AreFabricParts 
   module _ (x : Place) (then : OnLoad) (e : next.step ≡ Load x then) (found : ℕ) (finds : FindsBy d.seat.view next.word found) where
     found_is : cast_signed w64 found ≡ element_of Jo (told Jo (has found finds).counts) x R
     found_is = ap (cast_signed w64) (stood found finds ∙ ap (λ (m : MicroStep). get_or (table_of (told Jo (has found finds).counts)) (word_at Jo R m) 0) e
-        ∙ element_get Jo (told Jo (has found finds).counts) (shaped Jo is.runs (has found finds).counts (its_counts found finds)) x R (subst (IsThere Jo) e inside)) ∙ (its_counts found finds).exact _ _
+        ∙ element_get Jo (told Jo (has found finds).counts) (shaped Jo is.runs (has found finds).counts (its_counts found finds)) x R
+        (subst (IsThere Jo) e inside)) ∙ (its_counts found finds).exact _ _
 
   module _ (v : DriverParts) (same : SameDriver d v) (seat : v.seat.view ≡ after (λ k. stepped k next.seq) d.seat.view) (counts : CountsOneMore d v next.seq) where
     pub loaded_driver : (x : Place) (then : OnLoad) → next.step ≡ Load x then → (found : ℕ) → FindsBy d.seat.view next.word found → (value : ℤ) → value ≡ cast_signed w64 found
@@ -149,7 +152,8 @@ module _ (f : FabricParts) (d : DriverParts) (next : Next) (is : AreFabricParts 
         free_driver f d next is c v same seat counts (loads_freely x then next.step e) (finds_told found finds)
         (ap (λ o. length o.registers) b ∙ length-set d.own.registers S (absorbed Jo then R (own_at d.own S) value).registers) (ap (λ o. o.rooms) b)
         (rw b (absorb_ready Jo d.own.kept then R (own_at d.own S) value c.driver.ready)) (ap (λ o. o.kept.lens) b, ap (λ o. o.kept.desks) b)
-        (rw b (after_load Jo is.runs.formed is.runs.values c.knowledge d.own.registers d.own.kept.cells d.own.kept.rows c.driver.own S c.count R c.drives there c.more c.in_reaction (stepped c.knowledge S) refl
+        (rw b (after_load Jo is.runs.formed is.runs.values c.knowledge d.own.registers d.own.kept.cells d.own.kept.rows c.driver.own S
+        c.count R c.drives there c.more c.in_reaction (stepped c.knowledge S) refl
         is.runs (has found finds).counts (its_counts found finds) ((has found finds).agree.agree S c.count c.drives) x then (c.next_step ∙ ap (λ (i : MicroStep). Some i) e) has_registers value
         (sym (found_is x then e found finds) ∙ sym q)))
 
@@ -159,7 +163,8 @@ module _ (f : FabricParts) (d : DriverParts) (next : Next) (is : AreFabricParts 
         free_driver f d next is c v same seat counts (stores_freely x what next.step e) told_by
         (ap (λ o. length o.registers) b ∙ length-set d.own.registers S (left Jo what R (own_at d.own S)).registers) (ap (λ o. o.rooms) b)
         (rw b (after_ready Jo d.own.kept what R (own_at d.own S) c.driver.ready)) (ap (λ o. o.kept.lens) b, ap (λ o. o.kept.desks) b)
-        (rw b (after_store Jo is.runs.formed is.runs.values c.knowledge d.own.registers d.own.kept.cells d.own.kept.rows c.driver.own S c.count R c.drives there c.more c.in_reaction (stepped c.knowledge S) refl
+        (rw b (after_store Jo is.runs.formed is.runs.values c.knowledge d.own.registers d.own.kept.cells d.own.kept.rows c.driver.own S
+        c.count R c.drives there c.more c.in_reaction (stepped c.knowledge S) refl
         x what (c.next_step ∙ ap (λ (i : MicroStep). Some i) e) has_registers))
 
 pub true_false : ◌≡◌ {A = Bool} true false → ⊥
@@ -216,8 +221,10 @@ module _ (f : FabricParts) (d : DriverParts) (next : Next) (is : AreFabricParts 
       by false = refl
 
   -- at the word that the micro-step needs
-  look_at_word : (seat : View) (found : ℕ) → seat ≡ after (look_of next.seq E next.word found) d.seat.view → last_look seat ≡ next_look (last_look d.seat.view) (word_at d.job.now next.reaction next.step) found
-  look_at_word seat found e = look_is seat found e ∙ ap (λ (w : ℕ). next_look (last_look d.seat.view) w found) (c.word_is ∙ ap (λ (j : JobData). word_at j next.reaction next.step) (sym c.driver.of_job))
+  look_at_word : (seat : View) (found : ℕ) → seat ≡ after (look_of next.seq E next.word found) d.seat.view → last_look seat
+      ≡ next_look (last_look d.seat.view) (word_at d.job.now next.reaction next.step) found
+  look_at_word seat found e = look_is seat found e
+      ∙ ap (λ (w : ℕ). next_look (last_look d.seat.view) w found) (c.word_is ∙ ap (λ (j : JobData). word_at j next.reaction next.step) (sym c.driver.of_job))
 
   -- where it enables the micro-step, that is made
   module _ (e : DriverParts) (same : SameDriver d e) (l : Looked d e next true) where
@@ -244,7 +251,9 @@ module _ (f : FabricParts) (d : DriverParts) (next : Next) (is : AreFabricParts 
       counts = l.made refl;
       found = l.found;
       on = on;
-      look = look_at_word e.seat.view l.found view_is ∙ ap (λ (b : Bool). cond b (next_look (last_look d.seat.view) (word_at d.job.now next.reaction next.step) l.found) (last_look d.seat.view)) (sym (recorded next.step kind));
+      look = look_at_word e.seat.view l.found view_is
+          ∙ ap (λ (b : Bool). cond b (next_look (last_look d.seat.view) (word_at d.job.now next.reaction next.step) l.found)
+          (last_look d.seat.view)) (sym (recorded next.step kind));
     }
 
   -- and else only the look is recorded
@@ -263,7 +272,11 @@ module _ (f : FabricParts) (d : DriverParts) (next : Next) (is : AreFabricParts 
     missed = let h = has f d next is c l.found l.finds in let t = its_counts f d next is c l.found l.finds in record {
       found = l.found;
       off = off;
-      stood = in_some f d next is c (λ z. (l.found ≡ get_or (table_of z) (word_at d.job.now next.reaction next.step) 0) × (enabled_in z next.reaction next.step ≡ false)) h.counts t h.agree.agree
-          ((stood f d next is c l.found l.finds ∙ ap (λ (j : JobData). get_or (table_of (told f.job.now h.counts)) (word_at j next.reaction next.step) 0) (sym c.driver.of_job)), test_is l.found l.finds ∙ off);
+      stood = in_some f d next is c (λ z. (l.found ≡ get_or (table_of z) (word_at d.job.now next.reaction next.step) 0) × (enabled_in z next.reaction next.step ≡ false)) h.counts t h.agree.agree (
+        (stood f d next is c l.found l.finds
+            ∙ ap (λ (j : JobData). get_or (table_of (told f.job.now h.counts)) (word_at j next.reaction next.step) 0)
+            (sym c.driver.of_job)),
+        test_is l.found l.finds ∙ off,
+      );
       driver = ap driver_view (l.missed refl) ∙ ap (λ k. record (driver_view d) { look = k }) (look_at_word (looked_at d.seat next l.found).view l.found refl);
     }

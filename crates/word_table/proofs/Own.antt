@@ -1,5 +1,40 @@
 -- What a driver's sequences have of their own stays what counts tell.
-use Rattle.std.proofs.Common.{◌≡◌, ℕ, ◌+◌, ◌-◌, ◌/◌, ◌%◌, ◌<◌, ◌⊎◌, inl, inr, ⊎_elim, Bool, true, false, cond, List, [], map, length, get_or, set, Option, Some, None, refl, sym, ap, subst, arith, ◌∙◌, ℤ, get_or-set_same, get_or-set_other, length-set}
+use Rattle.std.proofs.Common.{
+  ◌≡◌,
+  ℕ,
+  ◌+◌,
+  ◌-◌,
+  ◌/◌,
+  ◌%◌,
+  ◌<◌,
+  ◌⊎◌,
+  inl,
+  inr,
+  ⊎_elim,
+  Bool,
+  true,
+  false,
+  cond,
+  List,
+  [],
+  map,
+  length,
+  get_or,
+  set,
+  Option,
+  Some,
+  None,
+  refl,
+  sym,
+  ap,
+  subst,
+  arith,
+  ◌∙◌,
+  ℤ,
+  get_or-set_same,
+  get_or-set_other,
+  length-set,
+}
 use Rattle.std.specs.Prelude.{slice_get, nat_lt, replicate}
 use Rattle.std.proofs.lemmas.List.{length-replicate}
 use Rattle.std.proofs.lemmas.Bool.{cases_eq}
@@ -222,7 +257,8 @@ module _ (j : JobData) (f : IsFormed j) (right : AreValues (system j) (stored_va
       let o = told_own cs l s n here i in (o.own_cells_there, o.own_rows_there)
 
   -- The part of a driver that is private.
-  module _ (k : Knowledge) (regs : List (List ℤ)) (cells : Values) (rows : List Values) (h : HasOwn j k regs cells rows) (s n : ℕ) (mine : count_in k.driven s ≡ Some n) (here : s < length j.program.seqs) where
+  module _ (k : Knowledge) (regs : List (List ℤ)) (cells : Values) (rows : List Values) (h : HasOwn j k regs cells rows) (s n : ℕ)
+      (mine : count_in k.driven s ≡ Some n) (here : s < length j.program.seqs) where
     abbrev pub Mine : Own
     Mine = record { registers = get_or regs s []; cells = cells; rows = rows }
 
@@ -251,7 +287,8 @@ module _ (j : JobData) (f : IsFormed j) (right : AreValues (system j) (stored_va
         cells_there = i.cells_there;
         rows_there = i.rows_there;
         own_registers = λ t m e. ⊎_elim
-            (λ q. (λ w. get_or (set regs s c.registers) (q.0 w) []) ∙ get_or-set_same regs s c.registers [] inside ∙ i.registers ∙ a.same_registers ∙ sym (λ w. (own_after j (q.0 w) (q.1 w)).registers))
+            (λ q. (λ w. get_or (set regs s c.registers) (q.0 w) []) ∙ get_or-set_same regs s c.registers [] inside ∙ i.registers
+            ∙ a.same_registers ∙ sym (λ w. (own_after j (q.0 w) (q.1 w)).registers))
             (λ q. get_or-set_other regs s t c.registers [] q.0 ∙ h.own_registers t m q.1) (which t m e);
         own_cells = λ t m v d x e is g w. ⊎_elim
             (λ q. i.cells_same v d x is g (w ∙ q.0) ∙ a.same_cells v d x is g (w ∙ q.0) ∙ sym (λ y. vector_at (own_after j (q.0 y) (q.1 y)).cells d))
@@ -281,12 +318,15 @@ module _ (j : JobData) (f : IsFormed j) (right : AreValues (system j) (stored_va
       → (counts : List ℕ) → length counts ≡ length j.program.seqs → ((s n : ℕ) → count_in k.driven s ≡ Some n → get_or counts s 0 ≡ n) → IsOwnOf j k regs cells rows (told j counts)
   told_is k regs cells rows there h counts long agree = record {
     same_registers = λ s n e. (driver_own k regs cells rows h s n e (there s n e)).registers ∙ sym (told_own counts long s n (there s n e) (agree s n e)).registers;
-    same_cells = λ s n v d x e is g w. (driver_own k regs cells rows h s n e (there s n e)).cells_same v d x is g w ∙ sym ((told_own counts long s n (there s n e) (agree s n e)).cells_same v d x is g w);
-    same_rows = λ s n v a i x e is g w. (driver_own k regs cells rows h s n e (there s n e)).rows_same v a i x is g w ∙ sym ((told_own counts long s n (there s n e) (agree s n e)).rows_same v a i x is g w);
+    same_cells = λ s n v d x e is g w. (driver_own k regs cells rows h s n e (there s n e)).cells_same v d x is g w
+        ∙ sym ((told_own counts long s n (there s n e) (agree s n e)).cells_same v d x is g w);
+    same_rows = λ s n v a i x e is g w. (driver_own k regs cells rows h s n e (there s n e)).rows_same v a i x is g w
+        ∙ sym ((told_own counts long s n (there s n e) (agree s n e)).rows_same v a i x is g w);
   }
 
   -- The three ways in which a micro-step leaves what the driver has.
-  module _ (k : Knowledge) (regs : List (List ℤ)) (cells : Values) (rows : List Values) (h : HasOwn j k regs cells rows) (s n r : ℕ) (mine : count_in k.driven s ≡ Some n) (here : s < length j.program.seqs)
+  module _ (k : Knowledge) (regs : List (List ℤ)) (cells : Values) (rows : List Values) (h : HasOwn j k regs cells rows) (s n r : ℕ)
+      (mine : count_in k.driven s ≡ Some n) (here : s < length j.program.seqs)
       (more : n < full j s) (in_reaction : reaction_at (steps j.program s) n ≡ r) (l : Knowledge) (driven : l.driven ≡ raised k.driven s) where
     abbrev pub Own_now : Own
     Own_now = record { registers = get_or regs s []; cells = cells; rows = rows }
@@ -295,10 +335,13 @@ module _ (j : JobData) (f : IsFormed j) (right : AreValues (system j) (stored_va
     after_quiet m e q = quiet_own k regs cells rows h s n mine here l driven (quiet s n r m more e q)
 
     -- where the value is the one that was found
-    pub after_load : (g : RunsOnWords j) (counts : List ℕ) → AreTold j counts → get_or counts s 0 ≡ n → (x : Place) (then : OnLoad) → step_at (steps j.program s) n ≡ Some (Load x then) → s < length regs
+    pub after_load : (g : RunsOnWords j) (counts : List ℕ) → AreTold j counts → get_or counts s 0 ≡ n → (x : Place) (then : OnLoad)
+        → step_at (steps j.program s) n ≡ Some (Load x then) → s < length regs
         → (v : ℤ) → element_of j (told j counts) x r ≡ v
         → HasOwn j l (set regs s (absorb_by j.graph j.sensors then r Own_now v).registers) (absorb_by j.graph j.sensors then r Own_now v).cells (absorb_by j.graph j.sensors then r Own_now v).rows
-    after_load g counts c counted x then e inside v value = subst (λ (w : ℤ). HasOwn j l (set regs s (absorb_by j.graph j.sensors then r Own_now w).registers) (absorb_by j.graph j.sensors then r Own_now w).cells (absorb_by j.graph j.sensors then r Own_now w).rows) value
+    after_load g counts c counted x then e inside v value =
+        subst (λ (w : ℤ). HasOwn j l (set regs s (absorb_by j.graph j.sensors then r Own_now w).registers)
+        (absorb_by j.graph j.sensors then r Own_now w).cells (absorb_by j.graph j.sensors then r Own_now w).rows) value
         (kept_own k regs cells rows h s n mine here l driven (absorb_by j.graph j.sensors then r Own_now el) (absorb_by j.graph j.sensors then r (own_after j s n) el) inside
         (absorb_same j f cells rows s then r Own_now (own_after j s n) el there (driver_own k regs cells rows h s n mine here))
         (then_too s (absorb_by j.graph j.sensors then r (own_after j s n) el) (Loaded g counts c s n r x then here more e in_reaction counted) (own_after j s (n + 1))
@@ -320,7 +363,8 @@ module _ (j : JobData) (f : IsFormed j) (right : AreValues (system j) (stored_va
         → HasOwn j l (set regs s (after_by j.graph j.sensors what r Own_now).registers) (after_by j.graph j.sensors what r Own_now).cells (after_by j.graph j.sensors what r Own_now).rows
     after_store x what e inside = kept_own k regs cells rows h s n mine here l driven (after_by j.graph j.sensors what r Own_now) (after_by j.graph j.sensors what r (own_after j s n)) inside
         (after_same j f cells rows s what r Own_now (own_after j s n) (stores_here s n x what e) (driver_own k regs cells rows h s n mine here))
-        (subst (Alike s (after_by j.graph j.sensors what r (own_after j s n))) (sym (stored_behind s n r x what more e in_reaction)) (record { same_registers = refl; same_cells = λ v d y is g w. refl; same_rows = λ v a i y is g w. refl }))
+        (subst (Alike s (after_by j.graph j.sensors what r (own_after j s n))) (sym (stored_behind s n r x what more e in_reaction))
+        (record { same_registers = refl; same_cells = λ v d y is g w. refl; same_rows = λ v a i y is g w. refl }))
 
     -- what is stored
     pub emits : (x : Place) (what : OnStore) → step_at (steps j.program s) n ≡ Some (Store x what) → (counts : List ℕ) → length counts ≡ length j.program.seqs → get_or counts s 0 ≡ n

@@ -22,7 +22,8 @@ any_default [] i d e h = absurd (omega arith)
 any_default (x ∷ xs) zero d e h = refl
 any_default (x ∷ xs) (suc i) d e h = any_default xs i d e (omega arith)
 
-module _ (f : FabricParts) (d : DriverParts) (s : ℕ) (is : AreFabricParts f) (o : IsOf f d) (there : s < length f.job.now.program.seqs) (drives : s % d.groups ≡ d.group) (code : SeqSteps) (code_is : code ≡ get_or f.steps.items s code)
+module _ (f : FabricParts) (d : DriverParts) (s : ℕ) (is : AreFabricParts f) (o : IsOf f d) (there : s < length f.job.now.program.seqs)
+    (drives : s % d.groups ≡ d.group) (code : SeqSteps) (code_is : code ≡ get_or f.steps.items s code)
     (n : ℕ) (n_at : n ≡ get_or d.counts.items s n) (N : ℕ) (reactions_are : N ≡ length f.job.now.sensors) where
   abbrev J : JobData
   J = f.job.now
@@ -74,7 +75,17 @@ module _ (f : FabricParts) (d : DriverParts) (s : ℕ) (is : AreFabricParts f) (
       step_there = is.runs.there s count m (stands_at J s count m (next_here ∙ e))
 
       pub can_make : (word : ℕ) → word ≡ word_at f.job.now k m → CanMake f d (record { seq = s; reaction = k; word = word; step = m })
-      can_make word w = record { knowledge = o.0; count = count; driver = driver; drives = driven; more = not_past J s count m (next_here ∙ e); next_step = stands_at J s count m (next_here ∙ e); in_reaction = reaction_is; word_is = w }
+      can_make word w = record {
+        knowledge = o.0;
+        count = count;
+        driver = driver;
+        drives = driven;
+        more =
+            not_past J s count m (next_here ∙ e);
+        next_step = stands_at J s count m (next_here ∙ e);
+        in_reaction = reaction_is;
+        word_is = w;
+      }
 
 -- s has a next micro-step, as contracts see it
 pub has_next : (f : FabricParts) (d : DriverParts) (next : Next) → CanMake f d next → HasNext (driver_view d) next.seq next.reaction next.step

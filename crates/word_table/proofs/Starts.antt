@@ -34,7 +34,8 @@ starts_at first (xs ∷ xss) zero l = let e : first ≡ first + 0 = omega arith 
 starts_at first (xs ∷ xss) (suc h) l = let e = starts_at (first + length xs) xss h (omega arith) in let c = sum-cons (length xs) (take h (map (length {A = ℤ}) xss)) in
     by e c
   where
-    by : get_or (starts_from (first + length xs) xss) h 0 ≡ first + length xs + sum (take h (map (length {A = ℤ}) xss)) → sum (length xs ∷ take h (map (length {A = ℤ}) xss)) ≡ length xs + sum (take h (map (length {A = ℤ}) xss))
+    by : get_or (starts_from (first + length xs) xss) h 0 ≡ first + length xs + sum (take h (map (length {A = ℤ}) xss))
+        → sum (length xs ∷ take h (map (length {A = ℤ}) xss)) ≡ length xs + sum (take h (map (length {A = ℤ}) xss))
         → get_or (starts_from (first + length xs) xss) h 0 ≡ first + sum (length xs ∷ take h (map (length {A = ℤ}) xss))
     by e c = omega (arith, e, c)
 
@@ -52,7 +53,8 @@ pub starts_are : (j : JobData) (first turns : ℕ) (starts : List ℕ) → turns
 starts_are j first turns starts turns_are at e = (ap (length {A = ℕ}) e ∙ starts_long first (opening j).elements, λ h l. each h l)
   where
     each : (h : ℕ) → h < length starts → get_or starts h 0 ≡ elements_start j h
-    each h l = let q = starts_at first (opening j).elements h (let q = ap (length {A = ℕ}) e in omega (arith, q, l)) in let s = ap (λ (xs : List ℕ). get_or xs h 0) e in omega (arith, q, s, at, turns_are)
+    each h l = let q = starts_at first (opening j).elements h (let q = ap (length {A = ℕ}) e in omega (arith, q, l)) in
+        let s = ap (λ (xs : List ℕ). get_or xs h 0) e in omega (arith, q, s, at, turns_are)
 
 -- the number of words is where the elements end
 pub words_are : (j : JobData) (first : ℕ) → first ≡ 1 + 2 * length j.program.pairs + j.media → end_from first (opening j).elements ≡ table_len j

@@ -30,24 +30,35 @@ module _ (j : JobData) (old others : Reactions) (callers : List ℕ) (groups gro
 
   pub one_taken : is_flat j.graph ≡ true → (v a : ℕ) (y : Vertex) → slice_get j.graph.vertices v ≡ Some y → y.kind ≡ Actuator a → get_or callers v 0 % groups ≡ group
       → (rows new : Reactions) → TakesRow rows new others a → AreTaken v rows → AreTaken (v + 1) new
-  one_taken valid v a y stands kind grouped rows new t i = (t.lens ∙ i.0, t.many ∙ i.1, t.wide, λ u b k x l e q g. here u b k x l e q g (cases_eq b a), λ u b k x e q n. t.elsewhere k b (other u b x e q n) ∙ i.4 u b k x e q n)
+  one_taken valid v a y stands kind grouped rows new t i = (
+    t.lens ∙ i.0,
+    t.many ∙ i.1,
+    t.wide,
+    λ u b k x l e q g. here u b k x l e q g (cases_eq b a),
+    λ u b k x e q n. t.elsewhere k b (other u b x e q n) ∙ i.4 u b k x e q n,
+  )
     where
       -- an operation after the other, but not this one
       before : (u b : ℕ) (x : Vertex) → u < v + 1 → slice_get j.graph.vertices u ≡ Some x → x.kind ≡ Actuator b → (b ≡ a → ⊥) → (u < v) ⊎ (u ≡ v) → u < v
       before u b x l e q n (inl h) = h
-      before u b x l e q n (inr h) = let s : x ≡ y = same_Some x y (sym e ∙ ap (λ (m : ℕ). slice_get j.graph.vertices m) h ∙ stands) in absurd (n (same_number b a (sym q ∙ ap (λ (z : Vertex). z.kind) s ∙ kind)))
+      before u b x l e q n (inr h) = let s : x ≡ y = same_Some x y (sym e ∙ ap (λ (m : ℕ). slice_get j.graph.vertices m) h ∙ stands) in
+          absurd (n (same_number b a (sym q ∙ ap (λ (z : Vertex). z.kind) s ∙ kind)))
 
-      here : (u b k : ℕ) (x : Vertex) → u < v + 1 → slice_get j.graph.vertices u ≡ Some x → x.kind ≡ Actuator b → get_or callers u 0 % groups ≡ group → (b ≡ a) ⊎ (b ≡ a → ⊥) → row_at new.reactions k b ≡ row_at others.reactions k b
+      here : (u b k : ℕ) (x : Vertex) → u < v + 1 → slice_get j.graph.vertices u ≡ Some x → x.kind ≡ Actuator b
+          → get_or callers u 0 % groups ≡ group → (b ≡ a) ⊎ (b ≡ a → ⊥) → row_at new.reactions k b ≡ row_at others.reactions k b
       here u b k x l e q g (inl h) = subst (λ (c : ℕ). row_at new.reactions k c ≡ row_at others.reactions k c) (sym h) (t.here k)
       here u b k x l e q g (inr n) = t.elsewhere k b n ∙ i.3 u b k x (before u b x l e q n (⊎_elim (λ h. inr h) (λ h. inl (omega (arith, h, l))) (cases_eq u v))) e q g
 
       other : (u b : ℕ) (x : Vertex) → slice_get j.graph.vertices u ≡ Some x → x.kind ≡ Actuator b → (get_or callers u 0 % groups ≡ group → ⊥) → b ≡ a → ⊥
       other u b x e q n h = n (ap (λ (w : ℕ). get_or callers w 0 % groups) (same_actuator j.graph valid u v a x y e stands (q ∙ ap Actuator h) kind) ∙ grouped)
 
-  pub none_taken : (v : ℕ) (rows : Reactions) → ((x : Vertex) (a : ℕ) → slice_get j.graph.vertices v ≡ Some x → x.kind ≡ Actuator a → get_or callers v 0 % groups ≡ group → ⊥) → AreTaken v rows → AreTaken (v + 1) rows
+  pub none_taken : (v : ℕ) (rows : Reactions)
+      → ((x : Vertex) (a : ℕ) → slice_get j.graph.vertices v ≡ Some x → x.kind ≡ Actuator a → get_or callers v 0 % groups ≡ group → ⊥)
+      → AreTaken v rows → AreTaken (v + 1) rows
   none_taken v rows none i = (i.0, i.1, i.2, λ u b k x l e q g. at u b k x l e q g (cases_eq u v), i.4)
     where
-      at : (u b k : ℕ) (x : Vertex) → u < v + 1 → slice_get j.graph.vertices u ≡ Some x → x.kind ≡ Actuator b → get_or callers u 0 % groups ≡ group → (u ≡ v) ⊎ (u ≡ v → ⊥) → row_at rows.reactions k b ≡ row_at others.reactions k b
+      at : (u b k : ℕ) (x : Vertex) → u < v + 1 → slice_get j.graph.vertices u ≡ Some x → x.kind ≡ Actuator b → get_or callers u 0 % groups
+          ≡ group → (u ≡ v) ⊎ (u ≡ v → ⊥) → row_at rows.reactions k b ≡ row_at others.reactions k b
       at u b k x l e q g (inl h) = absurd (none x b (ap (λ (m : ℕ). slice_get j.graph.vertices m) (sym h) ∙ e) q (ap (λ (m : ℕ). get_or callers m 0 % groups) (sym h) ∙ g))
       at u b k x l e q g (inr n) = i.3 u b k x (omega (arith, n, l)) e q g
 

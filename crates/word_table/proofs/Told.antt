@@ -37,7 +37,11 @@ pub own_driver : (f : FabricParts) (d : DriverParts) → IsOf f d → AreDriverP
 own_driver f d (k, i) = (k, subst (λ (j : JobData). IsDriver j d.seat.table k d) (sym i.of_job) (subst (λ (t : TableId). IsDriver f.job.now t k d) (sym i.of_table) i))
 
 pub of_views : (f : FabricParts) (d : DriverParts) → (driver_view d).fabric ≡ fabric_view f → AreDriverParts d → IsOf f d
-of_views f d e (k, i) = (k, subst (λ (t : TableId). IsDriver f.job.now t k d) (ap (λ (w : FabricData). w.table) e) (subst (λ (j : JobData). IsDriver j d.seat.table k d) (ap (λ (w : FabricData). w.job) e) i))
+of_views f d e (k, i) = (
+  k,
+  subst (λ (t : TableId). IsDriver f.job.now t k d) (ap (λ (w : FabricData). w.table) e)
+      (subst (λ (j : JobData). IsDriver j d.seat.table k d) (ap (λ (w : FabricData). w.job) e) i),
+)
 
 pub told_of : (f : FabricParts) (d : DriverParts) → AreFabricParts f → IsOf f d → IsTold (driver_view d)
 told_of f d is o = is_told d (own_driver f d o) (subst RunsOnWords (sym o.1.of_job) is.runs)
@@ -64,7 +68,8 @@ module _ (d : DriverData) (many : length d.counts ≡ length d.fabric.job.progra
   step_answer : (s r : ℕ) (m : MicroStep) (b : Bool) → s < length J.program.seqs → HasNext d s r m → enabled_in Z r m ≡ b → cond b Stepped NotYet ≡ answer_in J Z s
   step_answer s r m b l h e = ap (λ (c : Bool). cond c Stepped NotYet) (sym (ap (λ (k : ℕ). enabled_in Z k m) h.in_reaction ∙ e)) ∙ ap (answer_by J Z s) (sym (next_is s r m l h))
 
-  pub alone : (new : DriverData) (s : ℕ) (answer : MicroAnswer) → s < length d.fabric.job.program.seqs → AreReached d.fabric.job d.counts → AreReached d.fabric.job new.counts → Answers d new s answer → AnswersAlone d new s answer
+  pub alone : (new : DriverData) (s : ℕ) (answer : MicroAnswer) → s < length d.fabric.job.program.seqs → AreReached d.fabric.job d.counts
+      → AreReached d.fabric.job new.counts → Answers d new s answer → AnswersAlone d new s answer
   alone new s Finished l was now (e, q) = record {
     was_reached = was;
     is_reached = now;
@@ -74,10 +79,17 @@ module _ (d : DriverData) (many : length d.counts ≡ length d.fabric.job.progra
       done : next J Z s ≡ None
       done = rw (lt-ltb s (length J.program.seqs) l, le-ltb (get_or d.counts s 0) (full J s) (omega (arith, e))) refl
   alone new s Stepped l was now (r, m, h, st) = record { was_reached = was; is_reached = now; is = step_answer s r m true l h (known (λ z. enabled_in z r m ≡ true) st.enabled) }
-  alone new s NotYet l was now (r, m, h, st) = record { was_reached = was; is_reached = now; is = step_answer s r m false l h (known (λ z. (st.found ≡ get_or (table_of z) (word_at J r m) 0) × (enabled_in z r m ≡ false)) st.stood).1 }
+  alone new s NotYet l was now (r, m, h, st) =
+      record {
+        was_reached = was;
+        is_reached = now;
+        is =
+            step_answer s r m false l h (known (λ z. (st.found ≡ get_or (table_of z) (word_at J r m) 0) × (enabled_in z r m ≡ false)) st.stood).1;
+      }
 
 -- its counts are reached
-pub counts_reached : (j : JobData) → RunsOnWords j → (d : DriverParts) (k : Knowledge) → IsDriver j d.seat.table k d → ((s : ℕ) → s < length j.program.seqs → s % d.groups ≡ d.group) → AreReached j d.counts.items
+pub counts_reached : (j : JobData) → RunsOnWords j → (d : DriverParts) (k : Knowledge) → IsDriver j d.seat.table k d
+    → ((s : ℕ) → s < length j.program.seqs → s % d.groups ≡ d.group) → AreReached j d.counts.items
 counts_reached j g d k i all = subst (AreReached j) same r.reached
   where
     r : Reaches j k
@@ -91,7 +103,8 @@ counts_reached j g d k i all = subst (AreReached j) same r.reached
         (λ s l. let c = i.all s (let q = many in omega (arith, l, q)) (all s (let q = many in omega (arith, l, q))) in r.agree s c.0 c.1 ∙ sym (i.counted s c.0 c.1))
 
 -- A driver of every sequence of a fabric.
-pub alone_answers : (f : FabricParts) (d e : DriverParts) (s : ℕ) (answer : MicroAnswer) → AreFabricParts f → IsOf f d → IsOf f e → DrivesEvery (driver_view d) → e.groups ≡ d.groups → e.group ≡ d.group → s < length f.job.now.program.seqs
+pub alone_answers : (f : FabricParts) (d e : DriverParts) (s : ℕ) (answer : MicroAnswer) → AreFabricParts f → IsOf f d → IsOf f e
+    → DrivesEvery (driver_view d) → e.groups ≡ d.groups → e.group ≡ d.group → s < length f.job.now.program.seqs
     → Answers (driver_view d) (driver_view e) s answer → AnswersAlone (driver_view d) (driver_view e) s answer
 alone_answers f d e s answer is od oe every gs g l a = alone (driver_view d) many (λ t q. record { there = q; grouped = every t q }) e' s answer there was now a
   where
@@ -114,7 +127,9 @@ alone_answers f d e s answer is od oe every gs g l a = alone (driver_view d) man
     of_new t q = ap (λ (n : ℕ). t % n) gs ∙ of_fabric t q ∙ sym g
 
     was : AreReached d.job.now d.counts.items
-    was = subst (λ (j : JobData). AreReached j d.counts.items) (sym job) (counts_reached f.job.now is.runs d od.0 (subst (λ (t : TableId). IsDriver f.job.now t od.0 d) (sym od.1.of_table) od.1) of_fabric)
+    was = subst (λ (j : JobData). AreReached j d.counts.items) (sym job)
+        (counts_reached f.job.now is.runs d od.0 (subst (λ (t : TableId). IsDriver f.job.now t od.0 d) (sym od.1.of_table) od.1) of_fabric)
 
     now : AreReached d.job.now e.counts.items
-    now = subst (λ (j : JobData). AreReached j e.counts.items) (sym job) (counts_reached f.job.now is.runs e oe.0 (subst (λ (t : TableId). IsDriver f.job.now t oe.0 e) (sym oe.1.of_table) oe.1) of_new)
+    now = subst (λ (j : JobData). AreReached j e.counts.items) (sym job)
+        (counts_reached f.job.now is.runs e oe.0 (subst (λ (t : TableId). IsDriver f.job.now t oe.0 e) (sym oe.1.of_table) oe.1) of_new)

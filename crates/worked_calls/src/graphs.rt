@@ -1,7 +1,7 @@
 //! Graphs: what is no flat graph and no architecture, each beside what is one (`flat_graph`, `archi_graph`).
 
 use crate::lists::{one, three, two};
-use sequence_build_laws::{Kind, Medium, Source, Vertex, is_archi, is_flat};
+use sequence_build_laws::{Kind, Medium, MediumKind, Source, Vertex, is_archi, is_flat};
 use std::alloc::Global;
 use std::test::Fail;
 use syn_base::{Items, Name};
@@ -88,6 +88,59 @@ fn an_operation_does_not_read_itself(rt: HostRuntime) -> Result<(), Fail> {
     Ok(())
 }
 
+/// A constant of six elements.
+fn six(alloc: Global) -> Result<Vertex, Fail> {
+    let made = operation(alloc, b"c", &[], &[6])?;
+    let values = Items::new(Vec::from_slice(alloc, &[1, 2, 3, 4, 5, 6])?);
+    Ok(made_into(made, Kind::Constant(values), None))
+}
+
+/// An explode of what operation 0 gives, into these parts.
+fn explode(alloc: Global, parts: &[u32]) -> Result<Vertex, Fail> {
+    let source = Source { vertex: 0, port: 0 };
+    let made = operation(alloc, b"x", &[source], parts)?;
+    Ok(made_into(made, Kind::Explode, None))
+}
+
+/// Whether six elements and an explode of them into these parts are the operations of a flat graph.
+fn may_explode(alloc: Global, parts: &[u32]) -> Result<bool, Fail> {
+    let operations = two(alloc, six(alloc)?, explode(alloc, parts)?)?;
+    Ok(is_flat(&operations, &[]))
+}
+
+#[test]
+fn the_parts_of_an_explode_are_equally_long(rt: HostRuntime) -> Result<(), Fail> {
+    let alloc = rt.alloc();
+    assert_eq!(rt; may_explode(alloc, &[2, 2, 2])?, true);
+    assert_eq!(rt; may_explode(alloc, &[1, 2, 3])?, false);
+    assert_eq!(rt; may_explode(alloc, &[2, 2])?, false);
+    assert_eq!(rt; may_explode(alloc, &[6])?, true);
+    assert_eq!(rt; may_explode(alloc, &[])?, false);
+    Ok(())
+}
+
+/// Whether six elements, an explode of them into three parts, and an implode of the first part and of the
+/// output of this operation to this length are the operations of a flat graph.
+fn may_implode(alloc: Global, second: u32, len: u32) -> Result<bool, Fail> {
+    let part = Source { vertex: 1, port: 0 };
+    let other = Source {
+        vertex: second,
+        port: 0,
+    };
+    let implode = operation(alloc, b"y", &[part, other], &[len])?;
+    let operations = three(alloc, six(alloc)?, explode(alloc, &[2, 2, 2])?, implode)?;
+    Ok(is_flat(&operations, &[]))
+}
+
+#[test]
+fn the_parts_of_an_implode_are_equally_long(rt: HostRuntime) -> Result<(), Fail> {
+    let alloc = rt.alloc();
+    assert_eq!(rt; may_implode(alloc, 1, 4)?, true);
+    assert_eq!(rt; may_implode(alloc, 1, 6)?, false);
+    assert_eq!(rt; may_implode(alloc, 0, 8)?, false);
+    Ok(())
+}
+
 /// Operators of these names.
 pub fn operators(alloc: Global, names: &[&[u8]]) -> Result<Vec<Name>, Fail> {
     let mut operators = Vec::new(alloc);
@@ -103,7 +156,7 @@ pub fn bus(alloc: Global) -> Result<Vec<Medium>, Fail> {
     let stands = Items::new(Vec::from_slice(alloc, &[0, 1])?);
     let medium = Medium {
         name,
-        multi: false,
+        kind: MediumKind::PointToPoint,
         fixed: 1,
         per: 1,
         stands,

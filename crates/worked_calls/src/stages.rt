@@ -2,8 +2,6 @@
 ghost use Rattle.std.specs.Prelude.{◌≡◌, ◌≤◌, IfOk, IsTrue, length};
 ghost use Rattle.algo_print.specs.Canonical.{ArePrintable};
 ghost use Rattle.algo_laws.specs.WellRead.{AreWellRead};
-ghost use Rattle.algo_laws.specs.Bounded.{HasBounds};
-ghost use Rattle.algo_laws.specs.Named.{HasNames};
 ghost use Rattle.elaboration.specs.Stand.{HavePeriods};
 ghost use Rattle.sequence_build_laws.specs.Fitting.{IsOf};
 ghost use Rattle.sequence_build_laws.specs.DurationLines.{AreDurations};
@@ -52,8 +50,6 @@ pub fn read_defs(alloc: Global, text: &[u8]) -> Result<Defs, AlgoError>
 /// The tree of a text.
 pub fn read_tree(alloc: Global, text: &[u8]) -> Result<Tree, AlgoError>
     requires { length text.now ≤ 4000 }
-    ensures named { IfOk result (λ tree. HasNames tree) }
-    ensures bounded { IfOk result (λ tree. HasBounds tree) }
 {
     let defs = read_defs(alloc, text)?;
     elaborate(alloc, &defs)

@@ -1,8 +1,6 @@
 //! The texts of a program and what it runs on: the flat graph of an algorithm, an architecture, macro-code and rows.
 //! The programs here are read by it.
 ghost use Rattle.std.specs.Prelude.{◌≡◌, ◌≤◌, IfOk, length, sum};
-ghost use Rattle.algo_laws.specs.Bounded.{HasBounds};
-ghost use Rattle.algo_laws.specs.Named.{HasNames};
 ghost use Rattle.executive_program.specs.FlatLaws.{sensor_lens};
 
 use crate::moves::number_of;
@@ -59,8 +57,6 @@ impl Drop for Worked {
 #[tactic(auto, using(algo_reader::proofs::LineCounts::lines_at_most))]
 fn resolved(alloc: Global, text: &[u8]) -> Result<Tree, AlgoError>
     requires { length text.now ≤ 4000 }
-    ensures named { IfOk result (λ tree. HasNames tree) }
-    ensures bounded { IfOk result (λ tree. HasBounds tree) }
 {
     let defs = read_algo(alloc, text)?;
     accepted_are_well_read();

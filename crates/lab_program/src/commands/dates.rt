@@ -13,17 +13,20 @@ ghost use Rattle.self_timed.specs.Built.{program_of};
 ghost use Rattle.self_timed.specs.Told.{HaveEntries, IsValidForSome, entries_of};
 ghost use Rattle.self_timed.specs.Entries.{AreWithin};
 ghost use Rattle.top_plans.specs.Shelf.{Stays, file_bound};
-ghost use Rattle.lab_program.specs.Found.{problem_of};
+ghost use Rattle.lab_program.specs.Found.{request_of};
 ghost use Rattle.lab_program.specs.Texts.{Carries, Gives, GivesOfFound};
 
 use crate::found::find_schedule;
 use chart_picture::dates_picture;
-use compiler::{Compilation, build_program, read_algorithm, read_architecture, read_file};
+use compiler::{Problem, build_program};
 use lab_words::{Effort, Form};
 use self_timed::{Actual, Program, Schedule};
 use std::alloc::Global;
 use syn_base::OutOfMemory;
-use top_plans::{File, Shelf, Status, actual_are_within, actual_of, repeated};
+use top_plans::{
+    File, Shelf, Status, actual_are_within, actual_of, read_algorithm, read_architecture,
+    read_file, repeated,
+};
 use trace_events::dates_trace;
 
 /// In which form how many reactions are dated, and how their schedule is searched.
@@ -50,101 +53,101 @@ pub fn dates_text<S: Shelf>(
         durations.now extent.reactions (effort_view extent.effort)) (S.held shelf.old) (S.held shelf.new) result }
 {
     let algorithm = read_algorithm(alloc, shelf, algorithm)?;
-    let compilation = read_architecture(alloc, shelf, architecture, &algorithm.tree)?;
+    let problem = read_architecture(alloc, shelf, architecture, &algorithm.tree)?;
     let text = read_file(alloc, shelf, File::Durations, durations)?;
-    dates_of_found(alloc, &compilation, &text, extent)
+    dates_of_found(alloc, &problem, &text, extent)
 }
 
 /// The same of what was compiled, by the text of the durations: a schedule is searched.
 fn dates_of_found(
     alloc: Global,
-    compilation: &Compilation,
+    problem: &Problem,
     text: &[u8],
     extent: Extent,
 ) -> Result<Vec<u8>, Status>
     requires few { extent.reactions ≤ 1000 }
     requires short { length text.now ≤ file_bound }
-    requires durations { HasDurations compilation.now }
+    requires durations { HasDurations problem.now }
     ensures { GivesOfFound (of_dates (form_view extent.form)
-        (problem_of compilation.now (effort_view extent.effort)) text.now extent.reactions) result }
+        (request_of problem.now (effort_view extent.effort)) text.now extent.reactions) result }
 {
-    let schedule = find_schedule(alloc, compilation, extent.effort)?;
-    date_reactions(alloc, compilation, &schedule, text, extent)
+    let schedule = find_schedule(alloc, problem, extent.effort)?;
+    date_reactions(alloc, problem, &schedule, text, extent)
 }
 
 /// The dates of the reactions of the schedule by the text of the durations, or why there are none.
 fn date_reactions(
     alloc: Global,
-    compilation: &Compilation,
+    problem: &Problem,
     schedule: &Schedule,
     text: &[u8],
     extent: Extent,
 ) -> Result<Vec<u8>, Status>
     requires few { extent.reactions ≤ 1000 }
     requires short { length text.now ≤ file_bound }
-    requires valid { IsTrue (is_valid compilation.now.flat compilation.now.text.archi
-        (entry_in compilation.now.durations) schedule.now) }
-    ensures { (effort : Tried) → Gives (dates_of (form_view extent.form) (problem_of compilation.now effort)
+    requires valid { IsTrue (is_valid problem.now.flat problem.now.text.archi
+        (entry_in problem.now.durations) schedule.now) }
+    ensures { (effort : Tried) → Gives (dates_of (form_view extent.form) (request_of problem.now effort)
         text.now extent.reactions schedule.now) result }
 {
     let ticks = actual_of(
         alloc,
-        &compilation.flat,
-        &compilation.text.archi,
-        &compilation.durations,
+        &problem.flat,
+        &problem.text.archi,
+        &problem.durations,
         schedule,
         text,
     )?;
     actual_are_within();
-    let program = build_program(alloc, compilation, schedule)?;
-    Ok(write_reactions(alloc, compilation, schedule, &program, &ticks, extent)?)
+    let program = build_program(alloc, problem, schedule)?;
+    Ok(write_reactions(alloc, problem, schedule, &program, &ticks, extent)?)
 }
 
 /// The dates of so many reactions that last these ticks each.
 fn write_reactions(
     alloc: Global,
-    compilation: &Compilation,
+    problem: &Problem,
     schedule: &Schedule,
     program: &Program,
     ticks: &[u64],
     extent: Extent,
 ) -> Result<Vec<u8>, OutOfMemory>
     requires few { extent.reactions ≤ 1000 }
-    requires valid { IsTrue (is_valid compilation.now.flat compilation.now.text.archi
-        (entry_in compilation.now.durations) schedule.now) }
-    requires program { program.now ≡ program_of compilation.now.flat compilation.now.text.archi schedule.now }
-    requires entries { HaveEntries (entries_of compilation.now.flat schedule.now)
+    requires valid { IsTrue (is_valid problem.now.flat problem.now.text.archi
+        (entry_in problem.now.durations) schedule.now) }
+    requires program { program.now ≡ program_of problem.now.flat problem.now.text.archi schedule.now }
+    requires entries { HaveEntries (entries_of problem.now.flat schedule.now)
         (replicate extent.reactions ticks.now) }
-    requires within { AreWithin compilation.now.flat.vertices (acts schedule.now)
+    requires within { AreWithin problem.now.flat.vertices (acts schedule.now)
         (replicate extent.reactions ticks.now) }
-    ensures { IfOk result (λ text. text.items ≡ form_text (form_view extent.form) compilation.now.flat
-        compilation.now.text.archi schedule.now (replicate extent.reactions ticks.now)) }
+    ensures { IfOk result (λ text. text.items ≡ form_text (form_view extent.form) problem.now.flat
+        problem.now.text.archi schedule.now (replicate extent.reactions ticks.now)) }
 {
     // By this call the proof knows what the table of durations keeps: no duration is above 1,000,000,000.
-    let _operators = compilation.durations.operators();
+    let _operators = problem.durations.operators();
     let actual = repeated(alloc, ticks, extent.reactions as usize)?;
-    write_dates(alloc, compilation, schedule, program, &actual, extent.form)
+    write_dates(alloc, problem, schedule, program, &actual, extent.form)
 }
 
 /// The dates of reactions that last these ticks, in this form.
 fn write_dates(
     alloc: Global,
-    compilation: &Compilation,
+    problem: &Problem,
     schedule: &Schedule,
     program: &Program,
     actual: &Actual,
     form: Form,
 ) -> Result<Vec<u8>, OutOfMemory>
-    requires valid { IsValidForSome compilation.now.flat compilation.now.text.archi schedule.now }
-    requires program { program.now ≡ program_of compilation.now.flat compilation.now.text.archi schedule.now }
+    requires valid { IsValidForSome problem.now.flat problem.now.text.archi schedule.now }
+    requires program { program.now ≡ program_of problem.now.flat problem.now.text.archi schedule.now }
     requires few { length actual.now ≤ 1000 }
-    requires entries { HaveEntries (entries_of compilation.now.flat schedule.now) actual.now }
-    requires within { AreWithin compilation.now.flat.vertices (acts schedule.now) actual.now }
-    ensures { IfOk result (λ text. text.items ≡ form_text (form_view form) compilation.now.flat
-        compilation.now.text.archi schedule.now actual.now) }
+    requires entries { HaveEntries (entries_of problem.now.flat schedule.now) actual.now }
+    requires within { AreWithin problem.now.flat.vertices (acts schedule.now) actual.now }
+    ensures { IfOk result (λ text. text.items ≡ form_text (form_view form) problem.now.flat
+        problem.now.text.archi schedule.now actual.now) }
 {
-    let flat = &compilation.flat;
-    let archi = &compilation.text.archi;
+    let flat = &problem.flat;
+    let archi = &problem.text.archi;
     match form {
         Form::Drawn => dates_picture(alloc, flat, archi, schedule, program, actual),
         Form::Traced => dates_trace(alloc, flat, archi, schedule, program, actual),

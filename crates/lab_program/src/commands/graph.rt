@@ -6,11 +6,10 @@ ghost use Rattle.top_plans.specs.Shelf.{Stays};
 ghost use Rattle.lab_program.specs.Texts.{Carries};
 
 use algo_laws::Defs;
-use compiler::read_algorithm;
 use definition_drawing::print_definitions;
 use std::alloc::Global;
 use syn_base::OutOfMemory;
-use top_plans::{Shelf, Status};
+use top_plans::{Shelf, Status, read_algorithm};
 
 /// The definitions of an accepted algorithm as a graph, or why there is none.
 pub fn graph_text<S: Shelf>(

@@ -1,8 +1,6 @@
 //! The command `lint A [H]`: what is accepted and probably not meant. `commands` calls `lint_text`.
 ghost use Rattle.std.specs.Prelude.{◌≡◌, IfOk, map, option_map};
 ghost use Rattle.algo_laws.specs.Well.{AreDistinctNames};
-ghost use Rattle.algo_laws.specs.Bounded.{HasBounds};
-ghost use Rattle.algo_laws.specs.Named.{HasNames};
 ghost use Rattle.lab_plans.specs.Asked.{of_text};
 ghost use Rattle.lab_plans.specs.Plans.{lint_behind, lint_of_algorithm, lint_of_both, lint_plan};
 ghost use Rattle.top_plans.specs.Plan.{give};
@@ -13,12 +11,12 @@ ghost use Rattle.lab_program.specs.Texts.{Carries};
 ghost use Rattle.self_timed.specs.Text.{described_by};
 
 use algo_laws::{Defs, accepted_are_well_read};
-use compiler::{Algorithm, compile_to_durations, read_algorithm, read_file};
+use compiler::{Algorithm, compile_to_durations};
 use self_timed::ArchiText;
 use std::alloc::Global;
 use syn_base::OutOfMemory;
 use text_lint::{algorithm_findings, architecture_findings, print_findings};
-use top_plans::{File, Shelf, Status};
+use top_plans::{File, Shelf, Status, read_algorithm, read_file};
 
 /// What is accepted and probably not meant in an algorithm, and in an architecture beside it where one is named; or why
 /// there is no answer.
@@ -44,9 +42,7 @@ fn lint_of_read<S: Shelf>(
     algorithm: &Algorithm,
     architecture: Option<&str>,
 ) -> Result<Vec<u8>, Status>
-    requires names { HasNames algorithm.now.tree }
-    requires bounds { HasBounds algorithm.now.tree }
-    requires distinct { AreDistinctNames (map (λ d. d.name) algorithm.now.defs.defs) }
+    requires { AreDistinctNames (map (λ d. d.name) algorithm.now.defs.defs) }
     ensures stays { Stays (S.held shelf.old) (S.held shelf.new) }
     ensures carries { Carries (lint_behind (option_map (λ h. h.now) architecture.entry)
         algorithm.now.defs algorithm.now.tree) (S.held shelf.old) (S.held shelf.new) result }
@@ -64,9 +60,7 @@ fn lint_both<S: Shelf>(
     algorithm: &Algorithm,
     name: &str,
 ) -> Result<Vec<u8>, Status>
-    requires names { HasNames algorithm.now.tree }
-    requires bounds { HasBounds algorithm.now.tree }
-    requires distinct { AreDistinctNames (map (λ d. d.name) algorithm.now.defs.defs) }
+    requires { AreDistinctNames (map (λ d. d.name) algorithm.now.defs.defs) }
     ensures stays { Stays (S.held shelf.old) (S.held shelf.new) }
     ensures carries { Carries (read_file Architecture name.now (λ text.
         architecture_in text algorithm.now.tree (λ d t.
@@ -74,8 +68,8 @@ fn lint_both<S: Shelf>(
         (S.held shelf.old) (S.held shelf.new) result }
 {
     let text = read_file(alloc, shelf, File::Architecture, name)?;
-    let compilation = compile_to_durations(alloc, &text, &algorithm.tree)?;
-    Ok(print_both(alloc, &algorithm.defs, &text, &compilation.text)?)
+    let problem = compile_to_durations(alloc, &text, &algorithm.tree)?;
+    Ok(print_both(alloc, &algorithm.defs, &text, &problem.text)?)
 }
 
 /// The findings of definitions.

@@ -1,8 +1,6 @@
 //! The command `plot A S`: what the actuators take, as a picture. `commands` calls `plot_text`.
 ghost use Rattle.std.specs.Prelude.{◌≡◌, IfOk};
 ghost use Rattle.algo_laws.specs.Ends.{sensor_lengths};
-ghost use Rattle.algo_laws.specs.Bounded.{HasBounds};
-ghost use Rattle.algo_laws.specs.Named.{HasNames};
 ghost use Rattle.top_plans.specs.ActNames.{actuator_names};
 ghost use Rattle.top_plans.specs.Shelf.{Held, Stays};
 ghost use Rattle.lab_plans.specs.Plans.{plot_plan, plotted};
@@ -11,12 +9,12 @@ ghost use Rattle.sync_meaning.specs.Simulated.{simulated};
 ghost use Rattle.lab_program.specs.Texts.{Carries};
 
 use algo_laws::Tree;
-use compiler::{excess, output_width, read_algorithm, read_table};
+use compiler::{excess, output_width};
 use std::alloc::Global;
 use svg_text::plot_rows;
 use syn_base::{OutOfMemory, SensorRows};
 use sync_meaning::simulate;
-use top_plans::{Shelf, Status, actuators_of};
+use top_plans::{Shelf, Status, actuators_of, read_algorithm, read_table};
 
 /// What the actuators take over a table, as a picture, or why there is none.
 pub fn plot_text<S: Shelf>(
@@ -35,9 +33,7 @@ pub fn plot_text<S: Shelf>(
 
 /// The same over these rows, where it is within its bound.
 fn plot_over(alloc: Global, tree: &Tree, rows: &SensorRows) -> Result<Vec<u8>, Status>
-    requires lens { rows.now.lens ≡ sensor_lengths tree.now }
-    requires names { HasNames tree.now }
-    requires bounds { HasBounds tree.now }
+    requires { rows.now.lens ≡ sensor_lengths tree.now }
     ensures { (held : Held) → Carries (plotted tree.now rows.now) held held result }
 {
     let width = output_width(alloc, tree)?;
@@ -49,9 +45,7 @@ fn plot_over(alloc: Global, tree: &Tree, rows: &SensorRows) -> Result<Vec<u8>, S
 
 /// The picture of what the actuators take over these rows.
 fn print_plot(alloc: Global, tree: &Tree, rows: &SensorRows) -> Result<Vec<u8>, OutOfMemory>
-    requires lens { rows.now.lens ≡ sensor_lengths tree.now }
-    requires names { HasNames tree.now }
-    requires bounds { HasBounds tree.now }
+    requires { rows.now.lens ≡ sensor_lengths tree.now }
     ensures { IfOk result (λ text. text.items ≡ plot (actuator_names tree.now) (simulated tree.now rows.now)) }
 {
     let Ok(acts) = simulate(alloc, tree, rows) else {

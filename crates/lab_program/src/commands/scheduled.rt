@@ -13,19 +13,19 @@ ghost use Rattle.lab_words.specs.View.{effort_view, subject_view};
 ghost use Rattle.trace_events.specs.Trace.{chart_trace};
 ghost use Rattle.top_plans.specs.Shelf.{Stays};
 ghost use Rattle.lab_program.specs.Counts.{IsCountedOf};
-ghost use Rattle.lab_program.specs.Found.{problem_of};
+ghost use Rattle.lab_program.specs.Found.{request_of};
 ghost use Rattle.lab_program.specs.Texts.{Carries, Gives, GivesOfFound};
 
 use crate::commands::report::print_numbers;
 use crate::found::find_schedule;
 use chart_picture::print_picture;
-use compiler::{Compilation, build_program, read_algorithm, read_architecture};
+use compiler::{Problem, build_program};
 use graph_drawing::print_placed_graph;
 use lab_words::{Effort, Subject};
 use self_timed::Schedule;
 use std::alloc::Global;
 use syn_base::OutOfMemory;
-use top_plans::{Shelf, Status, print_code};
+use top_plans::{Shelf, Status, print_code, read_algorithm, read_architecture};
 use trace_events::print_chart_trace;
 
 /// What is written of a schedule of an algorithm on an architecture, or why there is none.
@@ -43,34 +43,30 @@ pub fn schedule_text<S: Shelf>(
         (effort_view effort)) (S.held shelf.old) (S.held shelf.new) result }
 {
     let algorithm = read_algorithm(alloc, shelf, algorithm)?;
-    let compilation = read_architecture(alloc, shelf, architecture, &algorithm.tree)?;
-    text_of_found(alloc, &compilation, subject, effort)
+    let problem = read_architecture(alloc, shelf, architecture, &algorithm.tree)?;
+    text_of_found(alloc, &problem, subject, effort)
 }
 
 /// The same of what was compiled: a schedule is searched.
 fn text_of_found(
     alloc: Global,
-    compilation: &Compilation,
+    problem: &Problem,
     subject: Subject,
     effort: Effort,
 ) -> Result<Vec<u8>, Status>
     requires counted { IsCountedOf (subject_view subject) }
-    requires durations { HasDurations compilation.now }
+    requires durations { HasDurations problem.now }
     ensures { GivesOfFound (of_schedule (subject_view subject)
-        (problem_of compilation.now (effort_view effort))) result }
+        (request_of problem.now (effort_view effort))) result }
 {
-    let schedule = find_schedule(alloc, compilation, effort)?;
+    let schedule = find_schedule(alloc, problem, effort)?;
     match subject {
-        Subject::Chart => Ok(print_chart(alloc, compilation, &schedule)?),
-        Subject::Trace => Ok(print_trace(alloc, compilation, &schedule)?),
-        Subject::Flat => Ok(print_flat(alloc, compilation, &schedule)?),
-        Subject::Code => print_program(alloc, compilation, &schedule),
+        Subject::Chart => Ok(print_chart(alloc, problem, &schedule)?),
+        Subject::Trace => Ok(print_trace(alloc, problem, &schedule)?),
+        Subject::Flat => Ok(print_flat(alloc, problem, &schedule)?),
+        Subject::Code => print_program(alloc, problem, &schedule),
         Subject::Report(reactions) => Ok(print_numbers(
-            alloc,
-            compilation,
-            &schedule,
-            reactions,
-            effort,
+            alloc, problem, &schedule, reactions, effort,
         )?),
     }
 }
@@ -78,17 +74,17 @@ fn text_of_found(
 /// The chart of a schedule as a picture.
 fn print_chart(
     alloc: Global,
-    compilation: &Compilation,
+    problem: &Problem,
     schedule: &Schedule,
 ) -> Result<Vec<u8>, OutOfMemory>
     ensures { IfOk result (λ text. text.items ≡
-        picture compilation.now.flat compilation.now.text.archi schedule.now) }
+        picture problem.now.flat problem.now.text.archi schedule.now) }
 {
     let mut text = Vec::new(alloc);
     print_picture(
         alloc,
-        &compilation.flat,
-        &compilation.text.archi,
+        &problem.flat,
+        &problem.text.archi,
         schedule,
         &mut text,
     )?;
@@ -98,17 +94,17 @@ fn print_chart(
 /// The chart of a schedule as trace events.
 fn print_trace(
     alloc: Global,
-    compilation: &Compilation,
+    problem: &Problem,
     schedule: &Schedule,
 ) -> Result<Vec<u8>, OutOfMemory>
     ensures { IfOk result (λ text. text.items ≡
-        chart_trace compilation.now.flat compilation.now.text.archi schedule.now) }
+        chart_trace problem.now.flat problem.now.text.archi schedule.now) }
 {
     let mut text = Vec::new(alloc);
     print_chart_trace(
         alloc,
-        &compilation.flat,
-        &compilation.text.archi,
+        &problem.flat,
+        &problem.text.archi,
         schedule,
         &mut text,
     )?;
@@ -116,19 +112,15 @@ fn print_trace(
 }
 
 /// The flat graph in the colours that a schedule gives it.
-fn print_flat(
-    alloc: Global,
-    compilation: &Compilation,
-    schedule: &Schedule,
-) -> Result<Vec<u8>, OutOfMemory>
+fn print_flat(alloc: Global, problem: &Problem, schedule: &Schedule) -> Result<Vec<u8>, OutOfMemory>
     ensures { IfOk result (λ text. text.items ≡
-        placed_drawing compilation.now.flat compilation.now.text.archi schedule.now) }
+        placed_drawing problem.now.flat problem.now.text.archi schedule.now) }
 {
     let mut text = Vec::new(alloc);
     print_placed_graph(
         alloc,
-        &compilation.flat,
-        &compilation.text.archi,
+        &problem.flat,
+        &problem.text.archi,
         schedule,
         &mut text,
     )?;
@@ -136,22 +128,18 @@ fn print_flat(
 }
 
 /// The macro-code of the program of a schedule, or the limit that it is above.
-fn print_program(
-    alloc: Global,
-    compilation: &Compilation,
-    schedule: &Schedule,
-) -> Result<Vec<u8>, Status>
-    requires { IsTrue (is_valid compilation.now.flat compilation.now.text.archi
-        (entry_in compilation.now.durations) schedule.now) }
-    ensures { (effort : Tried) → Gives (subject_text code (problem_of compilation.now effort) schedule.now) result }
+fn print_program(alloc: Global, problem: &Problem, schedule: &Schedule) -> Result<Vec<u8>, Status>
+    requires { IsTrue (is_valid problem.now.flat problem.now.text.archi
+        (entry_in problem.now.durations) schedule.now) }
+    ensures { (effort : Tried) → Gives (subject_text code (request_of problem.now effort) schedule.now) result }
 {
-    let program = build_program(alloc, compilation, schedule)?;
+    let program = build_program(alloc, problem, schedule)?;
     let mut text = Vec::new(alloc);
     print_code(
         alloc,
         &program,
-        &compilation.flat,
-        &compilation.text.archi,
+        &problem.flat,
+        &problem.text.archi,
         &mut text,
     )?;
     Ok(text)

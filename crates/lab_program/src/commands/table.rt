@@ -3,9 +3,8 @@ ghost use Rattle.lab_plans.specs.Plans.{template_plan};
 ghost use Rattle.top_plans.specs.Shelf.{Stays};
 ghost use Rattle.lab_program.specs.Texts.{Carries};
 
-use compiler::read_algorithm;
 use std::alloc::Global;
-use top_plans::{Shelf, Status, template_text};
+use top_plans::{Shelf, Status, read_algorithm, template_text};
 
 /// The header of the sensor table of an accepted algorithm and one reaction of zeros, or why there is none.
 pub fn table_text<S: Shelf>(

@@ -9,12 +9,12 @@ ghost use Rattle.lab_program.specs.Texts.{Carries};
 
 use check_places::find_why;
 use code_reader::read_code;
-use compiler::{flatten_tree, read_algorithm, read_description, read_file};
+use compiler::flatten_tree;
 use macro_check::loops_are_short;
 use self_timed::{Archi, Flat, Program};
 use std::alloc::Global;
 use syn_base::OutOfMemory;
-use top_plans::{File, Shelf, Status};
+use top_plans::{File, Shelf, Status, read_algorithm, read_description, read_file};
 use why_text::{Asked, print_answer};
 
 /// Where macro-code fails that is checked for an algorithm on an architecture, or that it is well formed; or why there is

@@ -10,12 +10,16 @@ returns-in_err-write_whole g c =
     let p = err_from_is_err_and c.from_residual.result c.from_residual.ensures.1 in
     let i = c.loop-piece.invariant in
     let w = c.in_err-write_whole.ensures in
-    rw p.1 (piece_failed (E c.args.sink.now) (E c.loop-piece.sink) (E c.write_whole.new.sink) i.0 _ (rest (drop (c.loop-piece.piece-index + 1) c.args.pieces.now)) _ i.1 w (ap (λ (t : Bytes). i.0 ++ t) (sym (rest_at c.args.pieces.now c.loop-piece.piece-index _ c.loop-piece-test.true)) ∙ i.2))
+    rw p.1 (piece_failed (E c.args.sink.now) (E c.loop-piece.sink) (E c.write_whole.new.sink) i.0 _
+    (rest (drop (c.loop-piece.piece-index + 1) c.args.pieces.now)) _ i.1 w
+    (ap (λ (t : Bytes). i.0 ++ t) (sym (rest_at c.args.pieces.now c.loop-piece.piece-index _ c.loop-piece-test.true)) ∙ i.2))
 
 pub loop-piece-preserved : goal.loop-piece-preserved
 loop-piece-preserved g c =
     let E = g.K.Sink.sunk in
     let i = c.loop-piece.invariant in
     let w = c.in_ok-write_whole.ensures in
-    let m = piece_more (E c.args.sink.now) (E c.loop-piece.sink) (E c.write_whole.new.sink) i.0 _ (rest (drop (c.loop-piece.piece-index + 1) c.args.pieces.now)) _ i.1 w (ap (λ (t : Bytes). i.0 ++ t) (sym (rest_at c.args.pieces.now c.loop-piece.piece-index _ c.loop-piece-test.true)) ∙ i.2) in
+    let m = piece_more (E c.args.sink.now) (E c.loop-piece.sink) (E c.write_whole.new.sink) i.0 _
+    (rest (drop (c.loop-piece.piece-index + 1) c.args.pieces.now)) _ i.1 w
+    (ap (λ (t : Bytes). i.0 ++ t) (sym (rest_at c.args.pieces.now c.loop-piece.piece-index _ c.loop-piece-test.true)) ∙ i.2) in
     (_, m.0, m.1)

@@ -17,9 +17,11 @@ pub returns-in-Ok-Some-clause-replies : goal.returns-in-Ok-Some-clause-replies
 returns-in-Ok-Some-clause-replies g c =
     let H = g.S.Shelf.held in
     let K = g.K.Sink.sunk in
-    subst (λ (o : Option Command). Replies o (H c.args.shelf.now) (H c.carry_out.new.shelf) (K c.args.out.now) (K c.carry_out.new.out) c.args.driven.now c.carry_out.new.driven (ending_of c.carry_out.result))
+    subst (λ (o : Option Command). Replies o (H c.args.shelf.now) (H c.carry_out.new.shelf) (K c.args.out.now)
+    (K c.carry_out.new.out) c.args.driven.now c.carry_out.new.driven (ending_of c.carry_out.result))
     (rw c.in-Ok-Some.field-0-is at c.in-Ok-Some.ensures)
-    (c.commands_reply.ensures (Some (view_of c.in-Ok-Some.command)) (H c.args.shelf.now) (H c.carry_out.new.shelf) (K c.args.out.now) (K c.carry_out.new.out) c.args.driven.now c.carry_out.new.driven (ending_of c.carry_out.result) c.carry_out.ensures.ran)
+    (c.commands_reply.ensures (Some (view_of c.in-Ok-Some.command)) (H c.args.shelf.now) (H c.carry_out.new.shelf) (K c.args.out.now)
+    (K c.carry_out.new.out) c.args.driven.now c.carry_out.new.driven (ending_of c.carry_out.result) c.carry_out.ensures.ran)
 
 pub returns-in-Ok-None-clause-replies : goal.returns-in-Ok-None-clause-replies
 returns-in-Ok-None-clause-replies g c =

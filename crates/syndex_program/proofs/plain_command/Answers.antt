@@ -19,7 +19,8 @@ returns-in-Some-clause-replies g c =
     let H = g.S.Shelf.held in
     let K = g.K.Sink.sunk in
     let E = g.E.Sink.sunk in
-    subst (λ (s : Status). PlainReplies (command_of (map string_bytes c.args.words.now)) (H c.args.shelf.now) (H c.plain_ending.new.shelf) (K c.args.out.now) (K c.plain_ending.new.out) (E c.args.err.now) (E c.report.new.err) (Some (ending_of s)))
+    subst (λ (s : Status). PlainReplies (command_of (map string_bytes c.args.words.now)) (H c.args.shelf.now) (H c.plain_ending.new.shelf)
+    (K c.args.out.now) (K c.plain_ending.new.out) (E c.args.err.now) (E c.report.new.err) (Some (ending_of s)))
     (sym c.report.ensures.same) (c.in-Some.ensures.replies (E c.args.err.now))
 
 pub returns-in-Some-clause-line : goal.returns-in-Some-clause-line
@@ -46,5 +47,6 @@ returns-in-Some-clause-values g c done =
     let H = g.S.Shelf.held in
     let K = g.K.Sink.sunk in
     let E = g.E.Sink.sunk in
-    done_writes c.values_are_written.ensures (map string_bytes c.args.words.now) (H c.args.shelf.now) (H c.plain_ending.new.shelf) (K c.args.out.now) (K c.plain_ending.new.out) (E c.args.err.now) (E c.args.err.now) c.in-Some.status
+    done_writes c.values_are_written.ensures (map string_bytes c.args.words.now) (H c.args.shelf.now) (H c.plain_ending.new.shelf)
+    (K c.args.out.now) (K c.plain_ending.new.out) (E c.args.err.now) (E c.args.err.now) c.in-Some.status
     (c.in-Some.ensures.replies (E c.args.err.now)) (sym c.report.ensures.same ∙ same_status c.report.result Done done)

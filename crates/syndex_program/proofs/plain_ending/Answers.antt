@@ -19,14 +19,17 @@ pub returns-in-Ok-Some-clause-replies : goal.returns-in-Ok-Some-clause-replies
 returns-in-Ok-Some-clause-replies g c =
     let H = g.S.Shelf.held in
     let K = g.K.Sink.sunk in
-    subst (λ (o : Option Command). RepliesOrLeaves o (H c.args.shelf.now) (H c.carry_out_plain.new.shelf) (K c.args.out.now) (K c.carry_out_plain.new.out) c.carry_out_plain.result) (rw c.in-Ok-Some.field-0-is at c.in-Ok-Some.ensures)
-    (λ (err : Sunk). answered c.plain_commands_reply.ensures (H c.args.shelf.now) (H c.carry_out_plain.new.shelf) (K c.args.out.now) (K c.carry_out_plain.new.out) err (view_of c.in-Ok-Some.command) c.carry_out_plain.result c.carry_out_plain.ensures.ran)
+    subst (λ (o : Option Command). RepliesOrLeaves o (H c.args.shelf.now) (H c.carry_out_plain.new.shelf) (K c.args.out.now)
+    (K c.carry_out_plain.new.out) c.carry_out_plain.result) (rw c.in-Ok-Some.field-0-is at c.in-Ok-Some.ensures)
+    (λ (err : Sunk). answered c.plain_commands_reply.ensures (H c.args.shelf.now) (H c.carry_out_plain.new.shelf) (K c.args.out.now)
+    (K c.carry_out_plain.new.out) err (view_of c.in-Ok-Some.command) c.carry_out_plain.result c.carry_out_plain.ensures.ran)
 
 pub returns-in-Ok-None-clause-replies : goal.returns-in-Ok-None-clause-replies
 returns-in-Ok-None-clause-replies g c =
     let held = g.S.Shelf.held c.args.shelf.now in
     let sunk = g.K.Sink.sunk c.args.out.now in
-    λ err. subst (λ (o : Option Command). PlainReplies o held held sunk sunk err err (Some (refused usage))) (rw c.in-Ok-None.field-0-is at c.in-Ok-None.ensures) (none_answered c.plain_commands_reply.ensures held sunk err)
+    λ err. subst (λ (o : Option Command). PlainReplies o held held sunk sunk err err (Some (refused usage)))
+    (rw c.in-Ok-None.field-0-is at c.in-Ok-None.ensures) (none_answered c.plain_commands_reply.ensures held sunk err)
 
 pub returns-in-Err-clause-replies : goal.returns-in-Err-clause-replies
 returns-in-Err-clause-replies g c =

@@ -14,7 +14,8 @@ pub returns-clause-replies : goal.returns-clause-replies
 returns-clause-replies g c =
     let H = g.S.Shelf.held in
     let K = g.K.Sink.sunk in
-    subst (λ (s : Status). Replies (command_of (map string_bytes c.args.words.now)) (H c.args.shelf.now) (H c.ending-status.new.shelf) (K c.args.out.now) (K c.ending-status.new.out) c.args.driven.now c.ending-status.new.driven (ending_of s))
+    subst (λ (s : Status). Replies (command_of (map string_bytes c.args.words.now)) (H c.args.shelf.now) (H c.ending-status.new.shelf)
+    (K c.args.out.now) (K c.ending-status.new.out) c.args.driven.now c.ending-status.new.driven (ending_of s))
     (sym c.report.ensures.same) c.ending-status.ensures.replies
 
 pub returns-clause-line : goal.returns-clause-line
@@ -26,6 +27,8 @@ pub returns-clause-values : goal.returns-clause-values
 returns-clause-values g c done =
     let H = g.S.Shelf.held in
     let K = g.K.Sink.sunk in
-    c.values_are_written.ensures (map string_bytes c.args.words.now) (H c.args.shelf.now) (H c.ending-status.new.shelf) (K c.args.out.now) (K c.ending-status.new.out) c.args.driven.now c.ending-status.new.driven
-    (subst (λ (s : Status). Replies (command_of (map string_bytes c.args.words.now)) (H c.args.shelf.now) (H c.ending-status.new.shelf) (K c.args.out.now) (K c.ending-status.new.out) c.args.driven.now c.ending-status.new.driven (ending_of s))
+    c.values_are_written.ensures (map string_bytes c.args.words.now) (H c.args.shelf.now) (H c.ending-status.new.shelf) (K c.args.out.now)
+    (K c.ending-status.new.out) c.args.driven.now c.ending-status.new.driven
+    (subst (λ (s : Status). Replies (command_of (map string_bytes c.args.words.now)) (H c.args.shelf.now) (H c.ending-status.new.shelf)
+    (K c.args.out.now) (K c.ending-status.new.out) c.args.driven.now c.ending-status.new.driven (ending_of s))
     (sym c.report.ensures.same ∙ done) c.ending-status.ensures.replies)

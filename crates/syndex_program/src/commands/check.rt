@@ -1,7 +1,7 @@
 //! The command `check A [H]`: the canonical texts. `commands` calls `check_texts`.
 ghost use Rattle.std.specs.Prelude.{◌≡◌, IfOk, None, Some, option_map};
 ghost use Rattle.algo_print.specs.Canonical.{canonical_text, ArePrintable};
-ghost use Rattle.compiler.specs.Reads.{text_in};
+ghost use Rattle.top_plans.specs.Reads.{text_in};
 ghost use Rattle.top_plans.specs.Run.{Makes};
 ghost use Rattle.top_plans.specs.Shelf.{Stays};
 ghost use Rattle.top_plans.specs.Plans.{both_texts, check_plan};
@@ -10,11 +10,10 @@ ghost use Rattle.self_timed.specs.Text.{described_by};
 use algo_print::{canonical_text_reads_back, print_algo};
 use algo_text::Defs;
 use archi_reader::print_archi;
-use compiler::{read_algorithm, read_architecture};
 use self_timed::ArchiText;
 use std::alloc::Global;
 use syn_base::OutOfMemory;
-use top_plans::{Shelf, Status};
+use top_plans::{Shelf, Status, read_algorithm, read_architecture};
 
 /// The canonical text of an algorithm, and after an empty line that of an architecture where one is
 /// named; or why there is none.
@@ -57,9 +56,9 @@ fn check_both<S: Shelf>(
         (check_plan algorithm.now (Some architecture.now)) (text_in result) }
 {
     let algorithm = read_algorithm(alloc, shelf, algorithm)?;
-    let compilation = read_architecture(alloc, shelf, architecture, &algorithm.tree)?;
+    let problem = read_architecture(alloc, shelf, architecture, &algorithm.tree)?;
     canonical_text_reads_back();
-    Ok(print_both(alloc, &algorithm.defs, &compilation.text)?)
+    Ok(print_both(alloc, &algorithm.defs, &problem.text)?)
 }
 
 /// The canonical text of definitions.

@@ -2,17 +2,17 @@
 //! `print_program`.
 ghost use Rattle.std.specs.Prelude.{◌≡◌, IfOk};
 ghost use Rattle.compiler.specs.Compiles.{HasDurations};
-ghost use Rattle.compiler.specs.Reads.{text_in};
+ghost use Rattle.top_plans.specs.Reads.{text_in};
 ghost use Rattle.top_plans.specs.Run.{Makes};
 ghost use Rattle.top_plans.specs.CodeText.{macro_code};
 ghost use Rattle.top_plans.specs.Shelf.{Held, Stays};
 ghost use Rattle.top_plans.specs.Plans.{code_plan, macro_plan};
 
-use compiler::{Compilation, compile_to_program, read_algorithm, read_architecture};
+use compiler::{Problem, compile_to_program};
 use self_timed::{Archi, Flat, Program};
 use std::alloc::Global;
 use syn_base::OutOfMemory;
-use top_plans::{Shelf, Status, print_code};
+use top_plans::{Shelf, Status, print_code, read_algorithm, read_architecture};
 
 /// The macro-code of an algorithm on an architecture, or why there is none.
 pub fn code_text<S: Shelf>(
@@ -26,19 +26,19 @@ pub fn code_text<S: Shelf>(
         (code_plan algorithm.now architecture.now) (text_in result) }
 {
     let algorithm = read_algorithm(alloc, shelf, algorithm)?;
-    let compilation = read_architecture(alloc, shelf, architecture, &algorithm.tree)?;
-    compile_code(alloc, &compilation)
+    let problem = read_architecture(alloc, shelf, architecture, &algorithm.tree)?;
+    compile_code(alloc, &problem)
 }
 
 /// The macro-code of the program that is built of the schedule, or why there is none.
-fn compile_code(alloc: Global, compilation: &Compilation) -> Result<Vec<u8>, Status>
-    requires { HasDurations compilation.now }
+fn compile_code(alloc: Global, problem: &Problem) -> Result<Vec<u8>, Status>
+    requires { HasDurations problem.now }
     ensures { (held : Held) → Makes held held
-        (macro_plan compilation.now.flat compilation.now.text.archi compilation.now.durations)
+        (macro_plan problem.now.flat problem.now.text.archi problem.now.durations)
         (text_in result) }
 {
-    let program = compile_to_program(alloc, compilation)?;
-    Ok(print_program(alloc, &program, &compilation.flat, &compilation.text.archi)?)
+    let program = compile_to_program(alloc, problem)?;
+    Ok(print_program(alloc, &program, &problem.flat, &problem.text.archi)?)
 }
 
 /// The macro-code of a program.

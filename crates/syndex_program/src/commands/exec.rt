@@ -19,16 +19,16 @@ ghost use Rattle.syndex_program.specs.Foreign.{MakesProgram, ReadsProgram};
 
 use crate::execution::{Execution, execution_of};
 use crate::lines::{lines_of, status_of, write_lines};
-use compiler::{
-    CheckedError, flatten_tree, read_algorithm, read_checked, read_description, read_file,
-    read_table,
-};
+use compiler::{CheckedError, flatten_tree, read_checked};
 use job_windows::Drive;
 use self_timed::{Archi, Flat, Program};
 use std::alloc::Global;
 use std::sync::Wait;
 use std::thread::Threads;
-use top_plans::{File, Gate, Shelf, Sink, Status, accepted_have_flat};
+use top_plans::{
+    File, Gate, Shelf, Sink, Status, accepted_have_flat, read_algorithm, read_description,
+    read_file, read_table,
+};
 use word_table::Driven;
 
 /// What the files of an execution say is to be executed, or the first refusal. The durations of the

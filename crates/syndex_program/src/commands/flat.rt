@@ -1,9 +1,7 @@
 //! The command `flat A`: the listing of a flat graph. `commands` calls `listing_text`.
 ghost use Rattle.std.specs.Prelude.{◌≡◌, IfOk};
 ghost use Rattle.flat_text.specs.Listing.{listing};
-ghost use Rattle.algo_tree.specs.Bounded.{HasBounds};
-ghost use Rattle.algo_tree.specs.Named.{HasNames};
-ghost use Rattle.compiler.specs.Reads.{text_in};
+ghost use Rattle.top_plans.specs.Reads.{text_in};
 ghost use Rattle.top_plans.specs.Run.{Makes};
 ghost use Rattle.top_plans.specs.FlatOf.{flat_of};
 ghost use Rattle.top_plans.specs.Shelf.{Stays};
@@ -11,11 +9,11 @@ ghost use Rattle.top_plans.specs.Plans.{text_plan};
 ghost use Rattle.command_words.specs.declared.table.AlgorithmText.TheVariants.{Listing};
 
 use algo_tree::Tree;
-use compiler::{flatten_tree, read_algorithm};
+use compiler::flatten_tree;
 use flat_text::print_flat;
 use std::alloc::Global;
 use syn_base::OutOfMemory;
-use top_plans::{Shelf, Status};
+use top_plans::{Shelf, Status, read_algorithm};
 
 /// The listing of an algorithm's flat graph, or why there is none.
 pub fn listing_text<S: Shelf>(
@@ -32,8 +30,6 @@ pub fn listing_text<S: Shelf>(
 
 /// The listing of the flat graph of a tree.
 fn print_listing(alloc: Global, tree: &Tree) -> Result<Vec<u8>, OutOfMemory>
-    requires names { HasNames tree.now }
-    requires bounds { HasBounds tree.now }
     ensures { IfOk result (λ text. text.items ≡ listing (flat_of tree.now)) }
 {
     let flat = flatten_tree(alloc, tree)?;

@@ -1,5 +1,6 @@
 //! The command `load N`: the sum of all that the actuators take in a load. `commands` calls `finish_load`.
 ghost use Rattle.std.specs.Prelude.{◌≡◌, ◌≤◌, ◌<◌, ◌+ℤ◌, [], length, slice_index_or, IfOk, OnErr};
+ghost use Rattle.compiler.specs.Executions.{one_job};
 ghost use Rattle.syn_base.specs.Arithmetic.{wrapped};
 ghost use Rattle.algo_tree.specs.Level.{all_joined};
 ghost use Rattle.algo_text.specs.Expr.{total};
@@ -9,7 +10,7 @@ ghost use Rattle.word_rule.specs.Driven.{driven_by};
 ghost use Rattle.top_plans.specs.Run.{Ends, Performs};
 ghost use Rattle.top_plans.specs.Status.{ending_of};
 ghost use Rattle.top_plans.specs.Stage.{after_jobs, RunsSome};
-ghost use Rattle.top_plans.specs.Given.{one_job, stages, summed, performed};
+ghost use Rattle.top_plans.specs.Given.{stages, summed, performed};
 ghost use Rattle.top_plans.specs.Plans.{summary, summary_with};
 ghost use Rattle.syndex_program.specs.Executes.{IsExecuted, executed, made_of};
 ghost use Rattle.syndex_program.specs.Left.{jobs_left};

@@ -1,20 +1,18 @@
 //! The command `sim A S`: what the actuators take by the synchronous meaning. `commands` calls `sim_text`.
 ghost use Rattle.std.specs.Prelude.{◌≡◌, IfOk};
+ghost use Rattle.compiler.specs.Executions.{output_of};
 ghost use Rattle.algo_tree.specs.Ends.{sensor_lengths};
-ghost use Rattle.algo_tree.specs.Bounded.{HasBounds};
-ghost use Rattle.algo_tree.specs.Named.{HasNames};
-ghost use Rattle.compiler.specs.Reads.{text_in};
+ghost use Rattle.top_plans.specs.Reads.{text_in};
 ghost use Rattle.top_plans.specs.Run.{Makes};
 ghost use Rattle.top_plans.specs.Shelf.{Held, Stays};
-ghost use Rattle.top_plans.specs.Given.{output_of};
 ghost use Rattle.top_plans.specs.Plans.{rows_plan, sim_plan};
 
 use algo_tree::Tree;
-use compiler::{excess, output_width, read_algorithm, read_table};
+use compiler::{excess, output_width};
 use std::alloc::Global;
 use syn_base::{OutOfMemory, SensorRows};
 use sync_meaning::simulate;
-use top_plans::{Shelf, Status, acts_text};
+use top_plans::{Shelf, Status, acts_text, read_algorithm, read_table};
 
 /// The text of what the actuators take, or why there is none.
 pub fn sim_text<S: Shelf>(
@@ -33,9 +31,7 @@ pub fn sim_text<S: Shelf>(
 
 /// The text of what the actuators take over these rows, where it is within its bound.
 fn text_over(alloc: Global, tree: &Tree, rows: &SensorRows) -> Result<Vec<u8>, Status>
-    requires lens { rows.now.lens ≡ sensor_lengths tree.now }
-    requires names { HasNames tree.now }
-    requires bounds { HasBounds tree.now }
+    requires { rows.now.lens ≡ sensor_lengths tree.now }
     ensures { (held : Held) → Makes held held (rows_plan tree.now rows.now) (text_in result) }
 {
     let width = output_width(alloc, tree)?;
@@ -47,9 +43,7 @@ fn text_over(alloc: Global, tree: &Tree, rows: &SensorRows) -> Result<Vec<u8>, S
 
 /// The text of what the actuators take over these rows.
 pub fn print_acts(alloc: Global, tree: &Tree, rows: &SensorRows) -> Result<Vec<u8>, OutOfMemory>
-    requires lens { rows.now.lens ≡ sensor_lengths tree.now }
-    requires names { HasNames tree.now }
-    requires bounds { HasBounds tree.now }
+    requires { rows.now.lens ≡ sensor_lengths tree.now }
     ensures { IfOk result (λ text. text.items ≡ output_of tree.now rows.now.reactions) }
 {
     let Ok(acts) = simulate(alloc, tree, rows) else {

@@ -10,7 +10,8 @@ use Rattle.text_lines.proofs.spans.Goals as goal
 pub loop-at-preserved : goal.loop-at-preserved
 loop-at-preserved c =
     let code = c.args.code.now in
-    let w : Word code code (length code) c.loop-at.at c.word_end-to.result = record { code_is = sym (take-length code); inside = c.loop-at-test.true; letter = sym c.if-is_blank_byte.ensures; next = c.word_end-to.ensures.next } in
+    let w : Word code code (length code) c.loop-at.at c.word_end-to.result =
+    record { code_is = sym (take-length code); inside = c.loop-at-test.true; letter = sym c.if-is_blank_byte.ensures; next = c.word_end-to.ensures.next } in
     let within = word_within _ _ _ _ _ w in
     let span : Span = record { from = c.loop-at.at; to = c.word_end-to.result } in
     let pushed : c.push.new.self.items ≡ c.loop-at.spans.items ++ span ∷ [] = c.in_ok-push.ensures.items in

@@ -7,4 +7,5 @@ returns-then-not-may_stand_at c =
     c.if-not-may_stand_at.ensures c.line.ensures c.def.ensures c.misplaced.ensures)
 
 pub loop-k-preserved : goal.loop-k-preserved
-loop-k-preserved c = line_goes c.args.defs.now c.args.owner.now c.args.mentions.now c.args.places.now _ _ c.requires c.loop-k-test.true c.index-mentions-k.is c.loop-k.invariant c.if-not-may_stand_at.ensures
+loop-k-preserved c = line_goes c.args.defs.now c.args.owner.now c.args.mentions.now c.args.places.now _ _ c.requires c.loop-k-test.true
+    c.index-mentions-k.is c.loop-k.invariant c.if-not-may_stand_at.ensures

@@ -19,4 +19,5 @@ check_body-requires-clause-placed c =
 
 pub returns : goal.returns
 returns c = λ d at.
-    subst (λ (x : Def). Checks c.check_body.result (body_fault c.args.defs.now x.line x.body)) (sym (is_found c.args.defs.now c.args.place d c.index-defs-place.result at c.index-defs-place.is)) c.check_body.ensures
+    subst (λ (x : Def). Checks c.check_body.result (body_fault c.args.defs.now x.line x.body))
+    (sym (is_found c.args.defs.now c.args.place d c.index-defs-place.result at c.index-defs-place.is)) c.check_body.ensures

@@ -33,5 +33,7 @@ returns c =
     let is = sym (level_is ds c.args.levels.now.links c.args.levels.now.depths c.requires.leveled c.args.place c.requires.place) ∙ c.requires.this_depth in
     let at = found_at ds c.args.place c.index-defs-place.result c.requires.place c.index-defs-place.is in
     let ports : (w : Bytes) → IsLinked ds w c.args.place → c.in_ok-table.field-0 ≡ ports_of ds w
-    = λ w linked. c.in_ok-table.ensures.ports ∙ sym (ports_are ds c.requires.leveled.known c.requires.leveled.ends c.args.place w c.index-defs-place.result linked at (omega (arith, is, c.requires.depth))) in
+    = λ w linked. c.in_ok-table.ensures.ports
+    ∙ sym (ports_are ds c.requires.leveled.known c.requires.leveled.ends c.args.place w c.index-defs-place.result linked at
+    (omega (arith, is, c.requires.depth))) in
     put ds c.args.depth c.args.place c.args.table.now c.in_ok-table.field-0 c.requires.place is c.requires.table c.in_ok-table.ensures.small ports

@@ -2,7 +2,7 @@ use Rattle.std.proofs.Common.{◌≡◌, ◌+◌, ◌++◌, ◌∙◌, sym, ap, 
 use Rattle.std.specs.Global.{Vec}
 use Rattle.std.proofs.Math.Seq.{take-append_seam}
 use Rattle.std.proofs.lemmas.Result.{err_from_is_err_and}
-use Rattle.algo_rules.specs.declared.AlgoError.{AlgoError}
+use Rattle.algo_rules.specs.Refusals.{AlgoRefusal}
 use Rattle.algo_rules.specs.Resolved.{bodies_fault, faults_at}
 use Rattle.algo_rules.specs.declared.ports.Ports.{Ports}
 use Rattle.algo_check.specs.Tables.{IsTable}
@@ -14,12 +14,14 @@ use Rattle.algo_check.proofs.tables.ports_of_bodies.Goals as goal
 pub returns-in_err-pass-clause-checks : goal.returns-in_err-pass-clause-checks
 returns-in_err-pass-clause-checks c =
     let p = err_from_is_err_and c.from_residual-in_err-pass.result c.from_residual-in_err-pass.ensures.1 in
-    let f : ℕ → List (Option AlgoError) = λ n. faults_at c.args.defs.now n c.args.defs.now c.args.levels.now.depths in
-    rw (p.1, p.2) (told (Vec Ports) _ _ (depth_told f c.loop-depth.depth c.loop-depth-test.true (bodies_fault c.args.defs.now) c.loop-depth.invariant.left _ (tells (Unit {0}) _ _ c.in_err-pass.ensures.checks)))
+    let f : ℕ → List (Option AlgoRefusal) = λ n. faults_at c.args.defs.now n c.args.defs.now c.args.levels.now.depths in
+    rw (p.1, p.2) (told (Vec Ports) _ _
+    (depth_told f c.loop-depth.depth c.loop-depth-test.true (bodies_fault c.args.defs.now) c.loop-depth.invariant.left _
+    (tells (Unit {0}) _ _ c.in_err-pass.ensures.checks)))
 
 pub loop-depth-preserved : goal.loop-depth-preserved
 loop-depth-preserved c =
-    let f : ℕ → List (Option AlgoError) = λ n. faults_at c.args.defs.now n c.args.defs.now c.args.levels.now.depths in
+    let f : ℕ → List (Option AlgoRefusal) = λ n. faults_at c.args.defs.now n c.args.defs.now c.args.levels.now.depths in
     let new = c.pass.new.table in
     let rest = drop (length new) c.loop-depth.table.items in
     let len : c.loop-depth.table.len ≡ length new = omega (arith, c.in_ok-pass.ensures.table.rows, c.loop-depth.invariant.table.rows, c.loop-depth.table.ok) in

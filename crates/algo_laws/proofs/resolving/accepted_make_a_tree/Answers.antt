@@ -1,4 +1,4 @@
-use Rattle.algo_laws.proofs.Trees.{make_a_tree}
+use Rattle.algo_laws.proofs.Whole.{make_a_tree}
 use Rattle.algo_laws.proofs.resolving.accepted_make_a_tree.Goals as goal
 
 pub returns : goal.returns

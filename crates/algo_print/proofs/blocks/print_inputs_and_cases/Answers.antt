@@ -7,4 +7,5 @@ pub returns : goal.returns
 returns c =
     bytes_last c.print_cases.result _ _ _ (line_of (codes "on" ∷ c.args.switch.now.on.now ∷ [])) _ c.in_ok-print_named.ensures
     (lines_last c.print_cases.result _ _ _ (map (port_words (codes "in")) c.args.switch.now.ins.now) _ c.in_ok-print_ports.ensures
-    (lines_last c.print_cases.result _ _ _ (map (port_words (codes "out")) c.args.switch.now.outs.now) (map case_words c.args.switch.now.cases.now) c.in_ok-print_ports-2.ensures c.print_cases.ensures))
+    (lines_last c.print_cases.result _ _ _ (map (port_words (codes "out")) c.args.switch.now.outs.now)
+    (map case_words c.args.switch.now.cases.now) c.in_ok-print_ports-2.ensures c.print_cases.ensures))

@@ -13,7 +13,8 @@ of_lines : (copies : ℕ) (inner own : Ports) (ks ls lines : List FrontierLine) 
     → tree.repeat copies feeds gives ≡ tree.repeat copies (map (λ p. feed_of inner own lines p.name) inner.ins) (flat_map (λ l. give_by inner own l.frontier) lines)
 of_lines copies inner own ks ls lines feeds gives first second fed given =
     ap (λ (fs : List Feed). tree.repeat copies fs gives) (fed ∙ ap (λ (ms : List FrontierLine). map (λ p. feed_of inner own ms p.name) inner.ins) first)
-    ∙ ap (λ (gs : List Give). tree.repeat copies (map (λ p. feed_of inner own lines p.name) inner.ins) gs) (given own ∙ ap (λ (ms : List FrontierLine). flat_map (λ l. give_by inner own l.frontier) ms) second)
+    ∙ ap (λ (gs : List Give). tree.repeat copies (map (λ p. feed_of inner own lines p.name) inner.ins) gs)
+    (given own ∙ ap (λ (ms : List FrontierLine). flat_map (λ l. give_by inner own l.frontier) ms) second)
 
 pub returns : goal.returns
 returns c =

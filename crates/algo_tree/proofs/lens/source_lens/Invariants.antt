@@ -5,4 +5,5 @@ use Rattle.algo_tree.proofs.lens.source_lens.Given as goal
 
 -- those that are left decide
 abbrev pub invariant-loop-source : goal.invariant-loop-source
-invariant-loop-source l = l.lens.items ++ map (source_length l.own (outs_of (vertices_view l.vertices))) (drop l.source-index l.sources) ≡ map (source_length l.own (outs_of (vertices_view l.vertices))) l.sources
+invariant-loop-source l = l.lens.items ++ map (source_length l.own (outs_of (vertices_view l.vertices))) (drop l.source-index l.sources)
+    ≡ map (source_length l.own (outs_of (vertices_view l.vertices))) l.sources

@@ -19,4 +19,5 @@ one_more f done now all o n l so_far step =
 
 pub loop-operator-preserved : goal.loop-operator-preserved
 loop-operator-preserved c =
-    one_more (sequences_of c.args.media.now) c.loop-operator.sequences.items c.add_sequences.new.sequences.items _ c.loop-operator.operator c.args.operators c.loop-operator-test.true c.loop-operator.invariant c.in_ok-add_sequences.ensures
+    one_more (sequences_of c.args.media.now) c.loop-operator.sequences.items c.add_sequences.new.sequences.items _ c.loop-operator.operator
+    c.args.operators c.loop-operator-test.true c.loop-operator.invariant c.in_ok-add_sequences.ensures

@@ -4,4 +4,5 @@ use Rattle.archi_reader.proofs.print.print_stands.Given as goal
 
 -- what is left completes the text
 abbrev pub invariant-loop-operator : goal.invariant-loop-operator
-invariant-loop-operator l = l.text.items ++ text_of (map (connect_words l.operators l.medium) (drop l.operator-index l.stands)) ≡ l.fn.text.items ++ text_of (map (connect_words l.operators l.medium) l.stands)
+invariant-loop-operator l = l.text.items ++ text_of (map (connect_words l.operators l.medium) (drop l.operator-index l.stands))
+    ≡ l.fn.text.items ++ text_of (map (connect_words l.operators l.medium) l.stands)

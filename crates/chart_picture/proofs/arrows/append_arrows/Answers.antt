@@ -14,6 +14,8 @@ unfolding arrows_text
 returns c =
     subst (λ (l : Bytes). OnOk c.append.result (c.append.new.out.items ≡ l))
     (three c.args.out.now.items c.begin_group.new.out.items c.append_links.new.out.items
-    (group_text (codes "arrows") [] (point 0 0)) (flat_map (links_from c.args.sheet.now.flat.now.vertices (length c.args.sheet.now.archi.now.operators) c.args.sheet.now.scale (acts_of c.args.decisions.now)) (acts_of c.args.decisions.now)) END_GROUP.now
+    (group_text (codes "arrows") [] (point 0 0))
+    (flat_map (links_from c.args.sheet.now.flat.now.vertices (length c.args.sheet.now.archi.now.operators) c.args.sheet.now.scale
+    (acts_of c.args.decisions.now)) (acts_of c.args.decisions.now)) END_GROUP.now
     c.in_ok-begin_group.ensures c.in_ok-append_links.ensures)
     c.append.ensures.text

@@ -12,7 +12,12 @@ unfolding bar_line
 returns c =
     subst (λ (l : Bytes). OnOk c.append_label.result (c.append_label.new.out.items ≡ l))
     (four c.args.out.now.items c.begin_bar.new.out.items c.append_title_of_run.new.out.items c.end_bar.new.out.items
-    (bar_text c.class_of_run.result.now c.place-left.result c.place-right.result) (title_of c.args.sheet.now.flat.now c.args.sheet.now.archi.now c.args.decision.now.start c.args.decision.now.end (run c.args.decision.now)) bar_end (label_text c.place-left.result c.place-right.result c.operation_name.result.now)
+    (bar_text c.class_of_run.result.now c.place-left.result c.place-right.result)
+    (title_of c.args.sheet.now.flat.now c.args.sheet.now.archi.now c.args.decision.now.start c.args.decision.now.end
+    (run c.args.decision.now)) bar_end (label_text c.place-left.result c.place-right.result c.operation_name.result.now)
     c.in_ok-begin_bar.ensures c.in_ok-append_title_of_run.ensures c.in_ok-end_bar.ensures
-    ∙ (λ i. c.args.out.now.items ++ (bar_text (c.class_of_run.ensures i) (c.place-left.ensures.place i) (c.place-right.ensures.place i) ++ (title_of c.args.sheet.now.flat.now c.args.sheet.now.archi.now c.args.decision.now.start c.args.decision.now.end (run c.args.decision.now) ++ (bar_end ++ label_text (c.place-left.ensures.place i) (c.place-right.ensures.place i) (c.operation_name.ensures i))))))
+    ∙ (λ i. c.args.out.now.items ++
+    (bar_text (c.class_of_run.ensures i) (c.place-left.ensures.place i) (c.place-right.ensures.place i)
+    ++ (title_of c.args.sheet.now.flat.now c.args.sheet.now.archi.now c.args.decision.now.start c.args.decision.now.end
+    (run c.args.decision.now) ++ (bar_end ++ label_text (c.place-left.ensures.place i) (c.place-right.ensures.place i) (c.operation_name.ensures i))))))
     c.append_label.ensures

@@ -14,7 +14,13 @@ unfolding lane_part
 returns c =
     subst (λ (l : Bytes). OnOk c.append.result (c.append.new.out.items ≡ l))
     (three c.args.out.now.items c.begin_lane.new.out.items c.append_over.new.out.items
-    (lane_text c.args.sheet.now.scale.width (codes "medium") (codes "medium-") c.args.name.now (c.operators_in.result + c.args.number)) (bars_text c.args.sheet.now.flat.now c.args.sheet.now.archi.now c.args.sheet.now.scale (is_over c.args.number) (acts_of c.args.decisions.now)) END_GROUP.now
+    (lane_text c.args.sheet.now.scale.width (codes "medium") (codes "medium-") c.args.name.now (c.operators_in.result + c.args.number))
+    (bars_text c.args.sheet.now.flat.now c.args.sheet.now.archi.now c.args.sheet.now.scale (is_over c.args.number)
+    (acts_of c.args.decisions.now)) END_GROUP.now
     c.in_ok-begin_lane.ensures c.in_ok-append_over.ensures
-    ∙ (λ i. c.args.out.now.items ++ (lane_text c.args.sheet.now.scale.width (codes "medium") (codes "medium-") c.args.name.now (c.operators_in.ensures.same i + c.args.number) ++ (bars_text c.args.sheet.now.flat.now c.args.sheet.now.archi.now c.args.sheet.now.scale (is_over c.args.number) (acts_of c.args.decisions.now) ++ END_GROUP.now))))
+    ∙ (λ i. c.args.out.now.items ++
+    (lane_text c.args.sheet.now.scale.width (codes "medium") (codes "medium-") c.args.name.now
+    (c.operators_in.ensures.same i + c.args.number)
+    ++ (bars_text c.args.sheet.now.flat.now c.args.sheet.now.archi.now c.args.sheet.now.scale (is_over c.args.number)
+    (acts_of c.args.decisions.now) ++ END_GROUP.now))))
     c.append.ensures.text

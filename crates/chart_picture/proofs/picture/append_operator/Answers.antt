@@ -14,6 +14,8 @@ unfolding lane_part
 returns c =
     subst (λ (l : Bytes). OnOk c.append.result (c.append.new.out.items ≡ l))
     (three c.args.out.now.items c.begin_lane.new.out.items c.append_on.new.out.items
-    (lane_text c.args.sheet.now.scale.width (codes "lane") (codes "operator-") c.args.name.now c.args.operator) (bars_text c.args.sheet.now.flat.now c.args.sheet.now.archi.now c.args.sheet.now.scale (is_on c.args.operator) (acts_of c.args.decisions.now)) END_GROUP.now
+    (lane_text c.args.sheet.now.scale.width (codes "lane") (codes "operator-") c.args.name.now c.args.operator)
+    (bars_text c.args.sheet.now.flat.now c.args.sheet.now.archi.now c.args.sheet.now.scale (is_on c.args.operator)
+    (acts_of c.args.decisions.now)) END_GROUP.now
     c.in_ok-begin_lane.ensures c.in_ok-append_on.ensures)
     c.append.ensures.text

@@ -12,6 +12,8 @@ unfolding whole_text
 returns c =
     subst (λ (l : Bytes). OnOk c.end_picture.result (c.end_picture.new.out.items ≡ l))
     (four c.args.out.now.items c.begin_picture.new.out.items c.append_plot.new.out.items c.append_legend.new.out.items
-    (begin_text c.args.sheet.now.archi.now c.args.sheet.now.scale) (plot_text c.args.sheet.now.flat.now c.args.sheet.now.archi.now c.args.sheet.now.scale (acts_of c.args.decisions.now)) (legend_text c.args.sheet.now.archi.now) (END_GROUP.now ++ END.now)
+    (begin_text c.args.sheet.now.archi.now c.args.sheet.now.scale)
+    (plot_text c.args.sheet.now.flat.now c.args.sheet.now.archi.now c.args.sheet.now.scale (acts_of c.args.decisions.now))
+    (legend_text c.args.sheet.now.archi.now) (END_GROUP.now ++ END.now)
     c.in_ok-begin_picture.ensures c.in_ok-append_plot.ensures c.in_ok-append_legend.ensures)
     c.end_picture.ensures

@@ -13,7 +13,13 @@ unfolding plot_text
 returns c =
     subst (λ (l : Bytes). OnOk c.append_arrows.result (c.append_arrows.new.out.items ≡ l))
     (three c.args.out.now.items c.append_axis.new.out.items c.append_lanes.new.out.items
-    (axis_text (codes "length ") c.args.sheet.now.scale c.height_of_lanes.result) (lanes_text c.args.sheet.now.flat.now c.args.sheet.now.archi.now c.args.sheet.now.scale (acts_of c.args.decisions.now)) (arrows_text c.args.sheet.now.flat.now.vertices (length c.args.sheet.now.archi.now.operators) c.args.sheet.now.scale (acts_of c.args.decisions.now))
+    (axis_text (codes "length ") c.args.sheet.now.scale c.height_of_lanes.result)
+    (lanes_text c.args.sheet.now.flat.now c.args.sheet.now.archi.now c.args.sheet.now.scale (acts_of c.args.decisions.now))
+    (arrows_text c.args.sheet.now.flat.now.vertices (length c.args.sheet.now.archi.now.operators) c.args.sheet.now.scale (acts_of c.args.decisions.now))
     c.in_ok-append_axis.ensures c.in_ok-append_lanes.ensures
-    ∙ (λ i. c.args.out.now.items ++ (axis_text (codes "length ") c.args.sheet.now.scale (c.height_of_lanes.ensures.same i) ++ (lanes_text c.args.sheet.now.flat.now c.args.sheet.now.archi.now c.args.sheet.now.scale (acts_of c.args.decisions.now) ++ arrows_text c.args.sheet.now.flat.now.vertices (length c.args.sheet.now.archi.now.operators) c.args.sheet.now.scale (acts_of c.args.decisions.now)))))
+    ∙ (λ i. c.args.out.now.items ++
+    (axis_text (codes "length ") c.args.sheet.now.scale (c.height_of_lanes.ensures.same i)
+    ++ (lanes_text c.args.sheet.now.flat.now c.args.sheet.now.archi.now c.args.sheet.now.scale (acts_of c.args.decisions.now)
+    ++ arrows_text c.args.sheet.now.flat.now.vertices (length c.args.sheet.now.archi.now.operators) c.args.sheet.now.scale
+    (acts_of c.args.decisions.now)))))
     c.append_arrows.ensures

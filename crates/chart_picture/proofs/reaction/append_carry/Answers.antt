@@ -19,5 +19,7 @@ returns c =
     subst (λ (l : Bytes). OnOk c.end_bar.result (c.end_bar.new.out.items ≡ l))
     (three c.args.out.now.items c.begin_bar.new.out.items c.append_title_of_transfer.new.out.items (tile ++ number) title bar_end c.in_ok-begin_bar.ensures c.in_ok-append_title_of_transfer.ensures
     ∙ ap (λ (l : Bytes). c.args.out.now.items ++ l) (append_assoc tile number (title ++ bar_end))
-    ∙ (λ i. c.args.out.now.items ++ (tile_text (place sheet.scale c.args.span.start) (place sheet.scale c.args.span.end) (36 * (c.operators_in.ensures.same i + c.args.transfer.medium) + 6) ++ (number ++ (title ++ bar_end)))))
+    ∙ (λ i. c.args.out.now.items ++
+    (tile_text (place sheet.scale c.args.span.start) (place sheet.scale c.args.span.end)
+    (36 * (c.operators_in.ensures.same i + c.args.transfer.medium) + 6) ++ (number ++ (title ++ bar_end)))))
     c.end_bar.ensures

@@ -15,6 +15,9 @@ unfolding reaction_text
 returns c =
     subst (λ (l : Bytes). OnOk c.append.result (c.append.new.out.items ≡ l))
     (three c.args.out.now.items c.begin_shade.new.out.items c.append_decisions.new.out.items
-    (shade_text (codes "reaction-") c.args.reaction.now.number) (tiles_text c.args.reaction.now.sheet.now.flat.now c.args.reaction.now.sheet.now.archi.now c.args.reaction.now.sheet.now.scale (dated_by c.args.reaction.now.number (reaction_at c.args.reaction.now.dates.now c.args.reaction.now.number) (length c.args.reaction.now.sheet.now.flat.now.vertices) (acts_of c.args.decisions.now))) END_GROUP.now
+    (shade_text (codes "reaction-") c.args.reaction.now.number)
+    (tiles_text c.args.reaction.now.sheet.now.flat.now c.args.reaction.now.sheet.now.archi.now c.args.reaction.now.sheet.now.scale
+    (dated_by c.args.reaction.now.number (reaction_at c.args.reaction.now.dates.now c.args.reaction.now.number)
+    (length c.args.reaction.now.sheet.now.flat.now.vertices) (acts_of c.args.decisions.now))) END_GROUP.now
     c.in_ok-begin_shade.ensures c.in_ok-append_decisions.ensures)
     c.append.ensures.text

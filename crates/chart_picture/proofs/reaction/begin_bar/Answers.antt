@@ -15,5 +15,7 @@ returns c =
     (four c.args.out.now.items c.begin_tile.new.out.items c.append.new.out.items c.append_count.new.out.items
     (tile_text c.place.result c.place-2.result (36 * c.args.lane + 6)) (codes "reaction ") (decimal c.args.reaction.now.number) (codes ", ")
     c.in_ok-begin_tile.ensures c.in_ok-append.ensures.text c.in_ok-append_count.ensures.text
-    ∙ (λ i. c.args.out.now.items ++ (tile_text (c.place.ensures.place i) (c.place-2.ensures.place i) (36 * c.args.lane + 6) ++ (codes "reaction " ++ (decimal c.args.reaction.now.number ++ codes ", ")))))
+    ∙ (λ i. c.args.out.now.items ++
+    (tile_text (c.place.ensures.place i) (c.place-2.ensures.place i) (36 * c.args.lane + 6)
+    ++ (codes "reaction " ++ (decimal c.args.reaction.now.number ++ codes ", ")))))
     c.append-2.ensures.text

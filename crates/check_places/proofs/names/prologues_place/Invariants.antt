@@ -7,4 +7,7 @@ use Rattle.check_places.proofs.names.prologues_place.Given as goal
 
 -- what is left gives the first
 abbrev pub invariant-loop-sequence : goal.invariant-loop-sequence
-invariant-loop-sequence l = first_from (λ s (c : SeqCode). first_from (name_place l.program l.known.operations l.known.operators Prologue s) 0 c.prologue) l.sequence (drop l.sequence l.program.seqs) ≡ first_from (λ s (c : SeqCode). first_from (name_place l.program l.known.operations l.known.operators Prologue s) 0 c.prologue) 0 l.program.seqs
+invariant-loop-sequence l = first_from
+    (λ s (c : SeqCode). first_from (name_place l.program l.known.operations l.known.operators Prologue s) 0 c.prologue) l.sequence
+    (drop l.sequence l.program.seqs)
+    ≡ first_from (λ s (c : SeqCode). first_from (name_place l.program l.known.operations l.known.operators Prologue s) 0 c.prologue) 0 l.program.seqs

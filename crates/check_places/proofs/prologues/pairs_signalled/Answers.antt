@@ -16,6 +16,7 @@ loop-pair-preserved c =
       | then-reading-sequence+in_ok-push_repeated w ↦ with_it c.args.program.now c.args.found.now c.requires c.args.sequence pair (get_or c.args.found.now pair none) there c.loop-pair.pairs.items
           c.if-reading-sequence.pairs.items w.if-reading-sequence.true c.loop-pair.invariant
           ((λ i. (w.pairs-is i).items) ∙ (w.in_ok-push_repeated.ensures ∙ ap (λ (n : ℕ). c.loop-pair.pairs.items ++ repeated pair n) w.depth_of.ensures))
-      | else-reading-sequence w ↦ (λ i. (w.pairs-is i).items) ∙ without_it c.args.program.now c.args.found.now c.requires c.args.sequence pair (get_or c.args.found.now pair none) there c.loop-pair.pairs.items
+      | else-reading-sequence w ↦ (λ i. (w.pairs-is i).items)
+          ∙ without_it c.args.program.now c.args.found.now c.requires c.args.sequence pair (get_or c.args.found.now pair none) there c.loop-pair.pairs.items
           w.if-reading-sequence.false c.loop-pair.invariant
     ]

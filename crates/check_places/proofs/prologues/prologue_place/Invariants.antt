@@ -6,4 +6,5 @@ use Rattle.check_places.proofs.prologues.prologue_place.Given as goal
 
 -- what is left gives the first
 abbrev pub invariant-loop-sequence : goal.invariant-loop-sequence
-invariant-loop-sequence l = first_from (λ s (c : SeqCode). signal_place s 0 c.prologue (pairs_signalled l.program s)) l.sequence (drop l.sequence l.program.seqs) ≡ first_from (λ s (c : SeqCode). signal_place s 0 c.prologue (pairs_signalled l.program s)) 0 l.program.seqs
+invariant-loop-sequence l = first_from (λ s (c : SeqCode). signal_place s 0 c.prologue (pairs_signalled l.program s)) l.sequence
+    (drop l.sequence l.program.seqs) ≡ first_from (λ s (c : SeqCode). signal_place s 0 c.prologue (pairs_signalled l.program s)) 0 l.program.seqs

@@ -5,4 +5,5 @@ use Rattle.check_places.proofs.transfers.awaited_place.Given as goal
 
 -- what is left gives the first
 abbrev pub invariant-loop-sequence : goal.invariant-loop-sequence
-invariant-loop-sequence l = first_from (awaited_place l.program l.moved.medium l.moved.number l.moved.ends) l.sequence (drop l.sequence l.program.seqs) ≡ first_from (awaited_place l.program l.moved.medium l.moved.number l.moved.ends) 0 l.program.seqs
+invariant-loop-sequence l = first_from (awaited_place l.program l.moved.medium l.moved.number l.moved.ends) l.sequence
+    (drop l.sequence l.program.seqs) ≡ first_from (awaited_place l.program l.moved.medium l.moved.number l.moved.ends) 0 l.program.seqs

@@ -5,4 +5,5 @@ use Rattle.check_places.proofs.values.first_fit.Given as goal
 
 -- what is left gives the first
 abbrev pub invariant-loop-operation : goal.invariant-loop-operation
-invariant-loop-operation l = first_from (fit_place l.carried.program.now l.carried.vertices.now) l.operation (drop l.operation l.carried.vertices.now) ≡ first_from (fit_place l.carried.program.now l.carried.vertices.now) 0 l.carried.vertices.now
+invariant-loop-operation l = first_from (fit_place l.carried.program.now l.carried.vertices.now) l.operation
+    (drop l.operation l.carried.vertices.now) ≡ first_from (fit_place l.carried.program.now l.carried.vertices.now) 0 l.carried.vertices.now

@@ -5,4 +5,6 @@ use Rattle.check_places.proofs.values.first_guard.Given as goal
 
 -- what is left gives the first
 abbrev pub invariant-loop-number : goal.invariant-loop-number
-invariant-loop-number l = first_from (guard_place l.carried.program.now l.carried.vertices.now l.call.operation l.call.sequence l.call.at l.ins) l.number (drop l.number l.guards) ≡ first_from (guard_place l.carried.program.now l.carried.vertices.now l.call.operation l.call.sequence l.call.at l.ins) 0 l.guards
+invariant-loop-number l = first_from
+    (guard_place l.carried.program.now l.carried.vertices.now l.call.operation l.call.sequence l.call.at l.ins) l.number
+    (drop l.number l.guards) ≡ first_from (guard_place l.carried.program.now l.carried.vertices.now l.call.operation l.call.sequence l.call.at l.ins) 0 l.guards

@@ -15,7 +15,8 @@ pub first_kept_on-requires-clause-low : goal.first_kept_on-requires-clause-low
 first_kept_on-requires-clause-low c t l =
     let p = c.args.carried.now.program.now in
     let there = slice_get_read c.args.found.now (length c.args.found.now) c.loop-medium.medium c.index-found-medium.result refl c.loop-medium-test.true c.index-found-medium.is in
-    let many = many_here p c.loop-medium.medium c.as_slice.result.now (c.as_slice.ensures ∙ row_here p c.args.media c.loop-medium.medium c.args.found.now c.index-found-medium.result c.requires.here there) in
+    let many = many_here p c.loop-medium.medium c.as_slice.result.now
+    (c.as_slice.ensures ∙ row_here p c.args.media c.loop-medium.medium c.args.found.now c.index-found-medium.result c.requires.here there) in
     let rows = many_rows p c.args.media c.args.found.now c.requires.here in
     let k = c.loop-medium-test.true in
     (c.requires.low.sent c.loop-medium.medium t (omega arith) (omega arith), c.requires.low.received c.loop-medium.medium t (omega arith) (omega arith))

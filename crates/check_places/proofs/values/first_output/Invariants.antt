@@ -5,4 +5,6 @@ use Rattle.check_places.proofs.values.first_output.Given as goal
 
 -- what is left gives the first
 abbrev pub invariant-loop-number : goal.invariant-loop-number
-invariant-loop-number l = first_from (output_place l.carried.program.now l.carried.vertices.now l.call.operation l.call.sequence l.call.at l.outs) l.number (drop l.number l.lens) ≡ first_from (output_place l.carried.program.now l.carried.vertices.now l.call.operation l.call.sequence l.call.at l.outs) 0 l.lens
+invariant-loop-number l = first_from
+    (output_place l.carried.program.now l.carried.vertices.now l.call.operation l.call.sequence l.call.at l.outs) l.number
+    (drop l.number l.lens) ≡ first_from (output_place l.carried.program.now l.carried.vertices.now l.call.operation l.call.sequence l.call.at l.outs) 0 l.lens

@@ -24,7 +24,9 @@ returns-in-Err-Refused-clause-none c =
     let p = c.args.program.now in
     let a = c.args.archi.now in
     let cause = cause_of c.in-Err-Refused.cause in
-    let told = ap (λ (vs : List Vertex). why_of p vs (sequences a) (length a.operators) (length a.media) cause) c.vertices-vertices.ensures.same ∙ of_cause p c.args.flat.now a cause (rw c.in-Err-Refused.field-0-is at c.in-Err-Refused.ensures.told) in
+    let told = ap (λ (vs : List Vertex). why_of p vs (sequences a) (length a.operators)
+    (length a.media) cause) c.vertices-vertices.ensures.same
+    ∙ of_cause p c.args.flat.now a cause (rw c.in-Err-Refused.field-0-is at c.in-Err-Refused.ensures.told) in
     if_ok c.explain.result _ _ (λ found h. exactly p c.args.flat.now a c.media-media.ensures.valid found (h ∙ told)) c.explain.ensures
 
 pub returns-in-Err-Refused-clause-shown : goal.returns-in-Err-Refused-clause-shown
@@ -32,5 +34,7 @@ returns-in-Err-Refused-clause-shown c =
     let p = c.args.program.now in
     let a = c.args.archi.now in
     let cause = cause_of c.in-Err-Refused.cause in
-    let told = ap (λ (vs : List Vertex). why_of p vs (sequences a) (length a.operators) (length a.media) cause) c.vertices-vertices.ensures.same ∙ of_cause p c.args.flat.now a cause (rw c.in-Err-Refused.field-0-is at c.in-Err-Refused.ensures.told) in
+    let told = ap (λ (vs : List Vertex). why_of p vs (sequences a) (length a.operators)
+    (length a.media) cause) c.vertices-vertices.ensures.same
+    ∙ of_cause p c.args.flat.now a cause (rw c.in-Err-Refused.field-0-is at c.in-Err-Refused.ensures.told) in
     if_ok c.explain.result _ _ (λ found h. shows p c.args.flat.now a c.media-media.ensures.valid found (h ∙ told)) c.explain.ensures

@@ -9,7 +9,8 @@ returns-in_default-cut_at c = two_declared c.args.list.now _ _ _ _ _ c.in-Some.e
 
 pub returns-in-None : goal.returns-in-None
 returns-in-None c =
-    three_declared c.args.list.now _ _ _ _ _ _ _ _ c.in-Some.ensures c.in-Some-cut_at.ensures c.in-None.ensures c.read_buffer-in-None.ensures c.read_length-in-None.ensures c.read_places.ensures c.make_declaration-in-None.ensures
+    three_declared c.args.list.now _ _ _ _ _ _ _ _ c.in-Some.ensures c.in-Some-cut_at.ensures c.in-None.ensures
+    c.read_buffer-in-None.ensures c.read_length-in-None.ensures c.read_places.ensures c.make_declaration-in-None.ensures
 
 pub returns-in-Some-cut_at-2 : goal.returns-in-Some-cut_at-2
 returns-in-Some-cut_at-2 c = more_than_three c.args.list.now _ _ _ _ _ _ c.in-Some.ensures c.in-Some-cut_at.ensures c.in-Some-cut_at-2.ensures

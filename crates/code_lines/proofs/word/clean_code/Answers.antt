@@ -10,4 +10,5 @@ pub returns-in-Some : goal.returns-in-Some
 returns-in-Some c = clean_to c.args.line.now c.in-Some.place (sym c.in-Some.ensures.place) c.in-Some.ensures.within (eq-eqb (get_or c.args.line.now c.in-Some.place 0) 35 c.if-line-place-eq35.true)
 
 pub returns-in-Some-2 : goal.returns-in-Some-2
-returns-in-Some-2 c = foreign_before c.args.line.now c.in-Some.place (sym c.in-Some.ensures.place) c.in-Some.ensures.within (ne_eqb (get_or c.args.line.now c.in-Some.place 0) 35 c.if-line-place-eq35.false)
+returns-in-Some-2 c = foreign_before c.args.line.now c.in-Some.place (sym c.in-Some.ensures.place) c.in-Some.ensures.within
+    (ne_eqb (get_or c.args.line.now c.in-Some.place 0) 35 c.if-line-place-eq35.false)

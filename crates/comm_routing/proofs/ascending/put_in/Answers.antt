@@ -10,5 +10,7 @@ loop-place-preserved c =
     let room = c.requires in
     record {
       size = length-set c.loop-place.ready c.loop-place.place c.min.result ∙ size;
-      left = moved_on c.loop-place.ready c.loop-place.place (c.loop-place.place + 1) c.args.count c.loop-place.later _ c.min.result c.max-later.result more (omega arith) (omega arith) refl c.min.ensures c.max-later.ensures ∙ c.loop-place.invariant.left;
+      left = moved_on c.loop-place.ready c.loop-place.place
+          (c.loop-place.place + 1) c.args.count c.loop-place.later _ c.min.result c.max-later.result more (omega arith)
+          (omega arith) refl c.min.ensures c.max-later.ensures ∙ c.loop-place.invariant.left;
     }

@@ -17,7 +17,8 @@ loop-place-preserved c =
         size = ap length w.ready-is ∙ length-set c.loop-place.ready c.loop-place.left _ ∙ size;
         within = omega arith;
         left = (λ i. take c.if-other-op.left (w.ready-is i) ++ without_place c.args.op (drop (c.loop-place.place + 1) (take c.args.count (w.ready-is i))))
-            ∙ other_left c.loop-place.ready c.loop-place.left c.if-other-op.left c.loop-place.place (c.loop-place.place + 1) c.args.count c.args.op _ within more (omega arith) (omega arith) (omega arith) refl w.if-other-op.true
+            ∙ other_left c.loop-place.ready c.loop-place.left c.if-other-op.left c.loop-place.place
+            (c.loop-place.place + 1) c.args.count c.args.op _ within more (omega arith) (omega arith) (omega arith) refl w.if-other-op.true
             ∙ c.loop-place.invariant.left;
       })
       | else-other-op w ↦ (let e = w.left-is in record {

@@ -15,7 +15,8 @@ list_over-requires-clause-place c = (c.requires.route c.loop-hop.hop-index (reco
 
 pub list_over-requires-clause-fits : goal.list_over-requires-clause-fits
 list_over-requires-clause-fits c =
-    (hop_fits c.args.network.now.media.now c.args.network.now.board.now c.args.source c.args.route.now c.loop-hop.hop-index (record { medium = 0; to = 0 }) (walk c.loop-hop.ends c.loop-hop.held.date) c.loop-hop-test.true c.loop-hop.invariant.2).0
+    (hop_fits c.args.network.now.media.now c.args.network.now.board.now c.args.source c.args.route.now c.loop-hop.hop-index
+    (record { medium = 0; to = 0 }) (walk c.loop-hop.ends c.loop-hop.held.date) c.loop-hop-test.true c.loop-hop.invariant.2).0
 
 pub loop-hop-preserved : goal.loop-hop-preserved
 loop-hop-preserved c =
@@ -25,10 +26,14 @@ loop-hop-preserved c =
 
 pub returns-clause-walk : goal.returns-clause-walk
 returns-clause-walk c =
-    sym (at_drop_all (steps (time_in c.args.network.now.media.now c.args.network.now.board.now) (held_in c.args.network.now.board.now) c.args.source (walk c.loop-hop.ends c.loop-hop.held.date)) c.args.route.now c.loop-hop.hop-index c.loop-hop-test.false)
+    sym (at_drop_all (steps (time_in c.args.network.now.media.now c.args.network.now.board.now)
+    (held_in c.args.network.now.board.now) c.args.source
+    (walk c.loop-hop.ends c.loop-hop.held.date)) c.args.route.now c.loop-hop.hop-index c.loop-hop-test.false)
     ∙ c.loop-hop.invariant.0
 
 pub returns-clause-listed : goal.returns-clause-listed
 returns-clause-listed c =
-    all_appended (listed (time_in c.args.network.now.media.now c.args.network.now.board.now) (held_in c.args.network.now.board.now) c.args.source c.loop-hop.held.operator (walk c.loop-hop.ends c.loop-hop.held.date)) c.args.route.now c.loop-hop.hop-index
+    all_appended (listed (time_in c.args.network.now.media.now c.args.network.now.board.now)
+    (held_in c.args.network.now.board.now) c.args.source c.loop-hop.held.operator
+    (walk c.loop-hop.ends c.loop-hop.held.date)) c.args.route.now c.loop-hop.hop-index
     c.loop-hop.transfers.items _ refl c.loop-hop-test.false c.loop-hop.invariant.1

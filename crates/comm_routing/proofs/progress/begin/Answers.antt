@@ -14,7 +14,8 @@ new-requires-clause-outputs c = all_few c.args.site.now.flat.now c.vertices-vert
 pub returns-clause-keeps : goal.returns-clause-keeps
 returns-clause-keeps c =
     let s = c.args.site.now in
-    let told : IsTold (drafted s []) c.in_ok-board.board c.args.reads.now = told_begin s.flat.now s.archi.now s.routes.now s.durations.now c.requires.site c.in_ok-board.board c.args.reads.now (length c.operators.result.now)
+    let told : IsTold (drafted s []) c.in_ok-board.board c.args.reads.now =
+    told_begin s.flat.now s.archi.now s.routes.now s.durations.now c.requires.site c.in_ok-board.board c.args.reads.now (length c.operators.result.now)
     c.vertices-vertices.result.now c.vertices-vertices.ensures.same c.in_ok-board.ensures (ap length c.operators.ensures.same) c.requires.reads c.requires.short in
     kept_after (drafted s []) c.in_ok-board.board c.args.reads.now told
     c.vertices-vertices.result.now c.vertices-vertices.ensures.same false c.in_ok-candidates.candidates c.fill.new.self c.in_ok-candidates.ensures.dependents c.fill.ensures

@@ -88,7 +88,8 @@ returns-clause-keeps c =
     let m = routing s.flat.now s.archi.now s.routes.now in
     let is = c.in_ok-quiet.ensures.tables
     ∙ ap (λ n. after_operation (after_transfers g.board (transfers_in m g.board c.args.op c.args.operator)) (outs_of m c.args.op) (decision_in m g.board c.args.op c.args.operator n)) time in
-    let told : IsTold (after_placing d c.args.op c.args.operator) c.place.new.board c.args.reads.now = told_after d g.board c.args.reads.now c.requires.keeps.told c.args.op c.args.operator c.requires.may c.place.new.board is in
+    let told : IsTold (after_placing d c.args.op c.args.operator) c.place.new.board c.args.reads.now =
+    told_after d g.board c.args.reads.now c.requires.keeps.told c.args.op c.args.operator c.requires.may c.place.new.board is in
     kept_after (after_placing d c.args.op c.args.operator) c.place.new.board c.args.reads.now told
     c.vertices.result.now c.vertices.ensures.same c.in_ok-quiet.quiet g.candidates c.update.new.self
     (subst (λ xs. AreDependents xs g.candidates.dependents.items) (sym c.vertices.ensures.same) c.requires.keeps.dependents) c.update.ensures

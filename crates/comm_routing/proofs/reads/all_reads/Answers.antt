@@ -23,7 +23,8 @@ loop-op-preserved c =
     record {
       size = ap (λ (l : List ℕ). length l) same ∙ size;
       low = λ i. subst (λ (l : List ℕ). slice_index_or l i 0 ≤ c.loop-op.op + 1) (sym same) (c.in_ok-reads_of.ensures.low i);
-      left = reads_more c.args.vertices.now c.loop-op.op c.index-vertices-op.result c.in_ok-reads_of.field-0 c.loop-op.reads.items c.push.new.self.items _ c.loop-op-test.true c.index-vertices-op.is c.in_ok-reads_of.ensures.reads
+      left = reads_more c.args.vertices.now c.loop-op.op c.index-vertices-op.result c.in_ok-reads_of.field-0 c.loop-op.reads.items
+          c.push.new.self.items _ c.loop-op-test.true c.index-vertices-op.is c.in_ok-reads_of.ensures.reads
           c.in_ok-push.ensures.items c.loop-op.invariant.left;
       short = short_more 131072 c.in_ok-reads_of.field-0 c.loop-op.reads.items c.push.new.self.items c.in_ok-push.ensures.items c.in_ok-reads_of.ensures.short c.loop-op.invariant.short;
     }

@@ -8,5 +8,6 @@ use Rattle.comm_routing.proofs.reads.note_guards.Given as goal
 abbrev pub invariant-loop-guard : goal.invariant-loop-guard
 invariant-loop-guard l = record {
   marked : IsMarked l.operations l.mark l.marks l.reads.items;
-  left : (rest : List Source) → l.reads.items ++ distinct_after l.reads.items (map (λ g. g.source) (drop l.guard-index l.guards) ++ rest) ≡ l.fn.reads.items ++ distinct_after l.fn.reads.items (map (λ g. g.source) l.guards ++ rest);
+  left : (rest : List Source) → l.reads.items ++ distinct_after l.reads.items (map (λ g. g.source) (drop l.guard-index l.guards) ++ rest)
+      ≡ l.fn.reads.items ++ distinct_after l.fn.reads.items (map (λ g. g.source) l.guards ++ rest);
 }

@@ -6,7 +6,8 @@ use Rattle.comm_routing.proofs.reads.reads_of.Goals as goal
 
 pub note_guards-requires-clause-marked : goal.note_guards-requires-clause-marked
 note_guards-requires-clause-marked c =
-    subst (λ l. IsMarked c.args.operations c.args.mark c.args.marks.now l) (sym c.new-reads.ensures.items) (none_marked c.args.operations c.args.mark c.args.marks.now c.requires.size c.requires.unmarked)
+    subst (λ l. IsMarked c.args.operations c.args.mark c.args.marks.now l) (sym c.new-reads.ensures.items)
+    (none_marked c.args.operations c.args.mark c.args.marks.now c.requires.size c.requires.unmarked)
 
 pub note_guards-requires-clause-there : goal.note_guards-requires-clause-there
 note_guards-requires-clause-there c = guards_there c.args.operations c.args.vertex.now c.requires.there c.as_slice.result.now c.as_slice.ensures

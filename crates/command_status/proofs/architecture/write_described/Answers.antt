@@ -21,4 +21,5 @@ returns g c =
     let text = c.args.text.now in
     wrote_then (E c.args.err.now) (E c.write_head.new.err) (E c.write_architecture_detail.new.err) (head text fault.line (architecture_word fault.cause)) (architecture_detail fault.cause)
     (is_ok c.write_architecture_detail.result)
-    (head_wrote (E c.args.err.now) (E c.write_head.new.err) text _ fault.line _ (architecture_word fault.cause) true c.from.ensures c.architecture_word-word.ensures c.in_ok-write_head.ensures) c.write_architecture_detail.ensures
+    (head_wrote (E c.args.err.now) (E c.write_head.new.err) text _ fault.line _
+    (architecture_word fault.cause) true c.from.ensures c.architecture_word-word.ensures c.in_ok-write_head.ensures) c.write_architecture_detail.ensures

@@ -23,4 +23,5 @@ returns g c =
     let text : Bytes = codes "code line " in
     wrote_then (E c.args.err.now) (E c.write_head.new.err) (E c.write_code_detail.new.err) (head text fault.line (code_word fault.cause)) (code_detail fault.cause)
     (is_ok c.write_code_detail.result)
-    (head_wrote (E c.args.err.now) (E c.write_head.new.err) text _ fault.line _ (code_word fault.cause) true c.from.ensures c.code_word-word.ensures c.in_ok-write_head.ensures) c.write_code_detail.ensures
+    (head_wrote (E c.args.err.now) (E c.write_head.new.err) text _ fault.line _
+    (code_word fault.cause) true c.from.ensures c.code_word-word.ensures c.in_ok-write_head.ensures) c.write_code_detail.ensures

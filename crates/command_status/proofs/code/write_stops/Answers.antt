@@ -18,7 +18,8 @@ returns-in_err-write_stop g c =
     let i = c.loop-stop.invariant in
     let k = c.loop-stop.stop-index in
     let here = stops_at c.args.stops.now k _ _ c.loop-stop-test.true refl in
-    rw p.1 (piece_failed (E c.args.err.now) (E c.loop-stop.err) (E c.write_stop.new.err) i.0 _ (stops_line (drop (k + 1) c.args.stops.now)) (stops_line c.args.stops.now) i.1 c.in_err-write_stop.ensures
+    rw p.1 (piece_failed (E c.args.err.now) (E c.loop-stop.err) (E c.write_stop.new.err) i.0 _ (stops_line (drop (k + 1) c.args.stops.now))
+    (stops_line c.args.stops.now) i.1 c.in_err-write_stop.ensures
     (ap (λ (t : Bytes). i.0 ++ t) (sym here) ∙ i.2))
 
 pub loop-stop-preserved : goal.loop-stop-preserved

@@ -23,4 +23,5 @@ returns g c =
     let text : Bytes = codes "algorithm line " in
     wrote_then (E c.args.err.now) (E c.write_head.new.err) (E c.write_algorithm_detail.new.err) (head text fault.line (algorithm_word fault.cause)) (algorithm_detail fault.cause)
     (is_ok c.write_algorithm_detail.result)
-    (head_wrote (E c.args.err.now) (E c.write_head.new.err) text _ fault.line _ (algorithm_word fault.cause) true c.from.ensures c.algorithm_word-word.ensures c.in_ok-write_head.ensures) c.write_algorithm_detail.ensures
+    (head_wrote (E c.args.err.now) (E c.write_head.new.err) text _ fault.line _
+    (algorithm_word fault.cause) true c.from.ensures c.algorithm_word-word.ensures c.in_ok-write_head.ensures) c.write_algorithm_detail.ensures

@@ -19,7 +19,8 @@ returns-in_err-write_pieces g c =
     let k = c.loop-name.name-index in
     let one : Bytes = joined (codes " " ∷ c.as_bytes.result.now ∷ []) in
     let here = names_at c.args.names.now k _ c.as_bytes.result.now c.loop-name-test.true (c.as_bytes.ensures.same ∙ c.name-item.is) in
-    rw p.1 (piece_failed (E c.args.err.now) (E c.loop-name.err) (E c.write_pieces.new.sink) i.0 one (names_line (drop (k + 1) c.args.names.now)) (names_line c.args.names.now) i.1 c.in_err-write_pieces.ensures
+    rw p.1 (piece_failed (E c.args.err.now) (E c.loop-name.err) (E c.write_pieces.new.sink) i.0 one
+    (names_line (drop (k + 1) c.args.names.now)) (names_line c.args.names.now) i.1 c.in_err-write_pieces.ensures
     (ap (λ (t : Bytes). i.0 ++ t) (sym here) ∙ i.2))
 
 pub loop-name-preserved : goal.loop-name-preserved
@@ -29,7 +30,8 @@ loop-name-preserved g c =
     let k = c.loop-name.name-index in
     let one : Bytes = joined (codes " " ∷ c.as_bytes.result.now ∷ []) in
     let here = names_at c.args.names.now k _ c.as_bytes.result.now c.loop-name-test.true (c.as_bytes.ensures.same ∙ c.name-item.is) in
-    let m = piece_more (E c.args.err.now) (E c.loop-name.err) (E c.write_pieces.new.sink) i.0 one (names_line (drop (k + 1) c.args.names.now)) (names_line c.args.names.now) i.1 c.in_ok-write_pieces.ensures
+    let m = piece_more (E c.args.err.now) (E c.loop-name.err) (E c.write_pieces.new.sink) i.0 one
+    (names_line (drop (k + 1) c.args.names.now)) (names_line c.args.names.now) i.1 c.in_ok-write_pieces.ensures
     (ap (λ (t : Bytes). i.0 ++ t) (sym here) ∙ i.2) in
     (_, m.0, m.1)
 

@@ -23,4 +23,5 @@ returns g c =
     let text : Bytes = codes "sensors row " in
     wrote_then (E c.args.err.now) (E c.write_head.new.err) (E c.write_sensors_detail.new.err) (head text fault.row (sensors_word fault.cause)) (sensors_detail fault.cause)
     (is_ok c.write_sensors_detail.result)
-    (head_wrote (E c.args.err.now) (E c.write_head.new.err) text _ fault.row _ (sensors_word fault.cause) true refl c.sensors_word-word.ensures c.in_ok-write_head.ensures) c.write_sensors_detail.ensures
+    (head_wrote (E c.args.err.now) (E c.write_head.new.err) text _ fault.row _
+    (sensors_word fault.cause) true refl c.sensors_word-word.ensures c.in_ok-write_head.ensures) c.write_sensors_detail.ensures

@@ -6,7 +6,8 @@ use Rattle.command_words.proofs.given.given_words.Goals as goal
 
 pub returns-in-Ok : goal.returns-in-Ok
 returns-in-Ok c =
-    ok_gives (map string_bytes c.args.words.now) (app_of c.in_ok-command.command) c.in_ok-command.ensures (texts c.args.words.now) c.in-Ok.matches c.in-Ok.ensures.kinds c.in-Ok.ensures.matches c.given_in.result c.given_in.ensures
+    ok_gives (map string_bytes c.args.words.now) (app_of c.in_ok-command.command) c.in_ok-command.ensures
+    (texts c.args.words.now) c.in-Ok.matches c.in-Ok.ensures.kinds c.in-Ok.ensures.matches c.given_in.result c.given_in.ensures
 
 pub returns : goal.returns
 returns c =

@@ -1,5 +1,5 @@
 use Rattle.std.proofs.lemmas.Result.{err_from_is_err_and}
-use Rattle.compiler.proofs.Architectures.{by_text, compiled_so}
+use Rattle.compiler.proofs.Refused.{by_text, compiled_so}
 use Rattle.compiler.proofs.stages.compile_to_durations.Goals as goal
 
 pub returns-in_err-text : goal.returns-in_err-text

@@ -2,4 +2,4 @@ use Rattle.compiler.proofs.stages.find_schedule.Goals as goal
 use Rattle.sequence_build_laws.specs.Text.{described_by}
 
 pub adequation-requires : goal.adequation-requires
-adequation-requires c = (c.durations_fit.ensures c.args.compilation.now.flat (described_by c.args.compilation.now.text) c.args.compilation.now.durations c.requires).0
+adequation-requires c = (c.durations_fit.ensures c.args.problem.now.flat (described_by c.args.problem.now.text) c.args.problem.now.durations c.requires).0

@@ -1,8 +1,7 @@
 use Rattle.std.proofs.lemmas.Result.{err_from_is_err_and}
-use Rattle.top_plans.proofs.Bounded.{elaborated}
-use Rattle.top_plans.proofs.Whole.{have_periods}
+use Rattle.accepted_laws.proofs.Whole.{have_periods}
 use Rattle.compiler.proofs.Sizes.{few_definitions, few_lines}
-use Rattle.compiler.proofs.Steps.{by_definitions}
+use Rattle.compiler.proofs.Refused.{by_definitions}
 use Rattle.compiler.proofs.stages.parse_algorithm.Goals as goal
 
 pub read_algo-requires : goal.read_algo-requires
@@ -24,12 +23,10 @@ elaborate-requires-clause-periods c =
 pub returns-in_err-tree : goal.returns-in_err-tree
 returns-in_err-tree c =
     let p = err_from_is_err_and c.from_residual-in_err-tree.result c.from_residual-in_err-tree.ensures.1 in
-    rw (p.1, p.2) (by_definitions c.args.text.now c.in_ok-defs.defs c.in_err-tree.field-0.0 c.in_ok-defs.ensures c.in_err-tree.ensures.gives)
+    rw (p.1, p.2) (by_definitions c.args.text.now c.in_ok-defs.defs c.in_err-tree.field-0.0 c.in_ok-defs.ensures c.in_err-tree.ensures)
 
 pub returns : goal.returns
 returns c = record {
   says = c.in_ok-defs.ensures;
-  resolves = elaborated c.in_ok-defs.defs c.in_ok-tree.tree c.in_ok-tree.ensures.gives;
-  named = c.in_ok-tree.ensures.named;
-  bounded = c.in_ok-tree.ensures.bounded;
+  resolves = c.in_ok-tree.ensures;
 }

@@ -1,4 +1,4 @@
-use Rattle.compiler.proofs.Architectures.{are_known}
+use Rattle.compiler.proofs.Refused.{are_known}
 use Rattle.compiler.proofs.Sizes.{few_lines}
 use Rattle.compiler.proofs.stages.parse_architecture.Goals as goal
 

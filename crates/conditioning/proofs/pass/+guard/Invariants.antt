@@ -10,5 +10,6 @@ invariant-guard_each-loop-vertex l = map view l.all.items ≡ map (λ v. guarded
 abbrev pub invariant-guard_cases-loop-vertex : goal.invariant-guard_cases-loop-vertex
 invariant-guard_cases-loop-vertex l = record {
   at : length l.all.items ≡ l.vertex-index;
-  so_far : map view l.all.items ++ cases_listed l.guards l.handed l.values l.vertex-index (map view (drop l.vertex-index l.vertex-items)) ≡ cases_listed l.guards l.handed l.values 0 (map view l.vertex-items);
+  so_far : map view l.all.items ++ cases_listed l.guards l.handed l.values l.vertex-index (map view (drop l.vertex-index l.vertex-items))
+      ≡ cases_listed l.guards l.handed l.values 0 (map view l.vertex-items);
 }

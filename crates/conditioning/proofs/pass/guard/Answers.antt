@@ -2,14 +2,12 @@ use Rattle.std.proofs.Common.{◌≡◌, [], ap, ◌∙◌, sym, subst}
 use Rattle.algo_tree.specs.Counted.{operations}
 use Rattle.algo_tree.specs.Valid.{IsTree}
 use Rattle.algo_tree.specs.View.{view}
-use Rattle.algo_tree.specs.Named.{HasNames}
 use Rattle.algo_tree.specs.SameMeaning.{KeepsMeaning}
 use Rattle.algo_tree.specs.NoRepeat.{HasNoRepeat}
 use Rattle.flat_laws.specs.Guarded.{guard as guarded_tree}
 use Rattle.flat_laws.specs.NoCase.{HasNoCase}
 use Rattle.flat_laws.proofs.Guard.{guard_main-keeps}
 use Rattle.flat_laws.proofs.Uncased.{no_case, no_repeat}
-use Rattle.flat_laws.proofs.GuardedNames.{names-guard}
 use Rattle.flat_laws.proofs.GuardedCounting.{counted-guarded}
 use Rattle.flat_laws.proofs.GuardedTrees.{tree-guard}
 use Rattle.conditioning.proofs.pass.guard.Goals as goal
@@ -38,8 +36,3 @@ pub returns-clause-count : goal.returns-clause-count
 returns-clause-count c =
     let is : c.new.result ≡ guarded_tree c.args.tree.now = c.new.ensures ∙ c.in_ok-guard_main.ensures ∙ ap guarded_tree c.main-main.ensures.same in
     ap operations is ∙ counted-guarded [] 0 c.args.tree.now c.requires
-
-pub returns-clause-names : goal.returns-clause-names
-returns-clause-names c names =
-    let is : c.new.result ≡ guarded_tree c.args.tree.now = c.new.ensures ∙ c.in_ok-guard_main.ensures ∙ ap guarded_tree c.main-main.ensures.same in
-    subst HasNames (sym is) (names-guard c.args.tree.now c.main-main.ensures.valid names)

@@ -13,5 +13,6 @@ invariant-loop-decision l =
     let row = reaction_at r.dates.now k in
     record {
       fit : Fit (length row) l.next (drop l.decision-index l.decisions);
-      left : IsLeft r.flat.now r.archi.now l.fn.out.items l.out.items l.latest (dated_by k row l.next (acts_of (drop l.decision-index l.decisions))) (dated_by k row (length r.flat.now.vertices) (acts_of l.decisions));
+      left : IsLeft r.flat.now r.archi.now l.fn.out.items l.out.items l.latest
+          (dated_by k row l.next (acts_of (drop l.decision-index l.decisions))) (dated_by k row (length r.flat.now.vertices) (acts_of l.decisions));
     }

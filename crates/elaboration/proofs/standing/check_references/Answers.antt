@@ -8,4 +8,5 @@ returns-then-not-may_stand c =
     c.if-not-may_stand.ensures c.bad_every.ensures)
 
 pub loop-k-preserved : goal.loop-k-preserved
-loop-k-preserved c = line_goes c.args.defs.now c.args.owner.now c.args.references.now c.args.places.now _ _ c.requires c.loop-k-test.true c.index-references-k.is c.loop-k.invariant c.if-not-may_stand.ensures
+loop-k-preserved c = line_goes c.args.defs.now c.args.owner.now c.args.references.now c.args.places.now _ _ c.requires c.loop-k-test.true
+    c.index-references-k.is c.loop-k.invariant c.if-not-may_stand.ensures

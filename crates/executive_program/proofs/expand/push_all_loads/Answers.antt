@@ -12,7 +12,9 @@ loop-buffer-preserved c =
     let e = len_at_more c.args.program.now c.args.ins.now c.loop-buffer.buffer-index b c.loop-buffer-test.true refl in
     let first : c.len.result - c.len-begin.result ≡ sum_below (len_at c.args.program.now c.args.ins.now) c.loop-buffer.buffer-index = omega arith in
     record {
-      steps = input_more c.args.program.now c.args.call.vertex c.args.call.loads c.args.call.micros c.args.ins.now c.loop-buffer.buffer-index b (c.len.result - c.len-begin.result) c.buffer_len-len.result
-          c.args.out.now.items c.loop-buffer.out.items c.push_loads.new.out.items c.loop-buffer-test.true refl c.buffer_len-len.ensures first c.loop-buffer.invariant.steps c.in_ok-push_loads.ensures.steps;
+      steps = input_more c.args.program.now c.args.call.vertex c.args.call.loads c.args.call.micros c.args.ins.now
+          c.loop-buffer.buffer-index b (c.len.result - c.len-begin.result) c.buffer_len-len.result
+          c.args.out.now.items c.loop-buffer.out.items c.push_loads.new.out.items c.loop-buffer-test.true refl c.buffer_len-len.ensures
+          first c.loop-buffer.invariant.steps c.in_ok-push_loads.ensures.steps;
       made = omega arith;
     }

@@ -13,6 +13,7 @@ loop-buffer-preserved c =
     let first : c.len.result - c.args.begin ≡ c.args.call.loads + sum_below (len_at c.args.program.now c.args.outs.now) c.loop-buffer.buffer-index = omega arith in
     record {
       steps = output_more c.args.program.now c.args.call.vertex c.args.call.loads c.args.call.micros c.args.outs.now c.loop-buffer.buffer-index b (c.len.result - c.args.begin) c.buffer_len-len.result
-          c.args.out.now.items c.loop-buffer.out.items c.push_stores.new.out.items c.loop-buffer-test.true refl c.buffer_len-len.ensures first c.loop-buffer.invariant.steps c.in_ok-push_stores.ensures.steps;
+          c.args.out.now.items c.loop-buffer.out.items c.push_stores.new.out.items c.loop-buffer-test.true refl c.buffer_len-len.ensures
+          first c.loop-buffer.invariant.steps c.in_ok-push_stores.ensures.steps;
       made = omega arith;
     }

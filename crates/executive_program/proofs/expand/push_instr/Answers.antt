@@ -15,7 +15,8 @@ returns-in_ok-push_call-in-Call c =
     c.as_slice.ensures c.as_slice-in-Call.ensures c.in_ok-push_call-in-Call.ensures)
 
 -- the table has the places of the pair's buffer
-take_more : (p : Program) (depths : List ℕ) (depth q x : ℕ) (old new : List MicroStep) → depths ≡ pair_depths p → depth ≡ get_or depths q 1 → new ≡ old ++ take_steps depth x → new ≡ old ++ take_steps (pair_depth p q) x
+take_more : (p : Program) (depths : List ℕ) (depth q x : ℕ) (old new : List MicroStep) → depths ≡ pair_depths p → depth ≡ get_or depths q 1
+    → new ≡ old ++ take_steps depth x → new ≡ old ++ take_steps (pair_depth p q) x
 take_more p depths depth q x old new d e n = n ∙ ap (λ (k : ℕ). old ++ take_steps k x) (e ∙ ap (λ (l : List ℕ). get_or l q 1) d ∙ pair_depth_is p q)
 
 pub returns-in_ok-push_take-in-Suc0 : goal.returns-in_ok-push_take-in-Suc0
@@ -23,5 +24,7 @@ returns-in_ok-push_take-in-Suc0 c = rw c.in-Suc0.is (take_more c.args.program.no
     c.requires.depths c.depth_at.ensures c.in_ok-push_take-in-Suc0.ensures)
 
 pub returns-in_ok-push_take-in-Suc1 : goal.returns-in_ok-push_take-in-Suc1
-returns-in_ok-push_take-in-Suc1 c = rw c.in-Suc1.is (take_more c.args.program.now c.args.depths.now c.depth_at-in-Suc1.result c.in-Suc1.pair (2 * c.in-Suc1.pair + 1) c.args.out.now.items c.push_take-in-Suc1.new.out.items
+returns-in_ok-push_take-in-Suc1 c =
+    rw c.in-Suc1.is (take_more c.args.program.now c.args.depths.now c.depth_at-in-Suc1.result c.in-Suc1.pair
+    (2 * c.in-Suc1.pair + 1) c.args.out.now.items c.push_take-in-Suc1.new.out.items
     c.requires.depths c.depth_at-in-Suc1.ensures c.in_ok-push_take-in-Suc1.ensures)

@@ -34,12 +34,16 @@ loop-driver-preserved c =
 
 pub group_of-requires-clause-of : goal.group_of-requires-clause-of
 group_of-requires-clause-of c =
-    let here : IsNext c.args.fabric.now (vec_len c.loop-driver.groups + 0) c.in-Some.driver = each-first (λ k. IsNext c.args.fabric.now (vec_len c.loop-driver.groups + k)) c.in-Some.driver (into_iter_items c.next.new.self) (into_iter_items c.loop-driver.driver-iterator) c.in-Some.ensures.steps.0 c.loop-driver.invariant.2 in
+    let here : IsNext c.args.fabric.now (vec_len c.loop-driver.groups + 0) c.in-Some.driver =
+    each-first (λ k. IsNext c.args.fabric.now (vec_len c.loop-driver.groups + k)) c.in-Some.driver (into_iter_items c.next.new.self)
+    (into_iter_items c.loop-driver.driver-iterator) c.in-Some.ensures.steps.0 c.loop-driver.invariant.2 in
     here.fabric
 
 pub group_of-requires-clause-new : goal.group_of-requires-clause-new
 group_of-requires-clause-new c =
-    let here : IsNext c.args.fabric.now (vec_len c.loop-driver.groups + 0) c.in-Some.driver = each-first (λ k. IsNext c.args.fabric.now (vec_len c.loop-driver.groups + k)) c.in-Some.driver (into_iter_items c.next.new.self) (into_iter_items c.loop-driver.driver-iterator) c.in-Some.ensures.steps.0 c.loop-driver.invariant.2 in
+    let here : IsNext c.args.fabric.now (vec_len c.loop-driver.groups + 0) c.in-Some.driver =
+    each-first (λ k. IsNext c.args.fabric.now (vec_len c.loop-driver.groups + k)) c.in-Some.driver (into_iter_items c.next.new.self)
+    (into_iter_items c.loop-driver.driver-iterator) c.in-Some.ensures.steps.0 c.loop-driver.invariant.2 in
     here.new
 
 pub returns : goal.returns

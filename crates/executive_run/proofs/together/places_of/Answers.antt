@@ -26,7 +26,8 @@ loop-group-preserved c =
 pub new-place-requires : goal.new-place-requires
 new-place-requires c =
     let here : Belongs c.args.fabric.now (vec_len c.loop-group.places + 0) c.in-Some.group
-    = each-first (λ k. Belongs c.args.fabric.now (vec_len c.loop-group.places + k)) c.in-Some.group (into_iter_items c.next.new.self) (into_iter_items c.loop-group.group-iterator) c.in-Some.ensures.steps.0 c.loop-group.invariant.3 in
+    = each-first (λ k. Belongs c.args.fabric.now (vec_len c.loop-group.places + k)) c.in-Some.group (into_iter_items c.next.new.self)
+    (into_iter_items c.loop-group.group-iterator) c.in-Some.ensures.steps.0 c.loop-group.invariant.3 in
     here.fabric
 
 pub push_reserved-requires : goal.push_reserved-requires

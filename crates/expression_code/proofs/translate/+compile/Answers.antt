@@ -9,14 +9,16 @@ pub overflow_add-result : goal.overflow_add-result
 overflow_add-result t c =
     let p = rw c.in-Elem.is at c.requires.ports in
     let below = c.requires.below c.in-Elem.port p.0 in
-    let fits : (get_or c.args.ports.now c.in-Elem.port (record { start = 0; len = 0 })).start + c.in-Some.offset < 2 ^ 64 = omega (arith, below, c.in-Some.ensures.room, end_above c.args.code.now.from c.args.code.now.steps) in
+    let fits : (get_or c.args.ports.now c.in-Elem.port (record { start = 0; len = 0 })).start + c.in-Some.offset
+    < 2 ^ 64 = omega (arith, below, c.in-Some.ensures.room, end_above c.args.code.now.from c.args.code.now.steps) in
     search (rules, fits)
 
 pub overflow_add-port : goal.overflow_add-port
 overflow_add-port t c =
     let p = rw c.in-Elem.is at c.requires.ports in
     let below = c.requires.below c.in-Elem.port p.0 in
-    let fits : (get_or c.args.ports.now c.in-Elem.port (record { start = 0; len = 0 })).start + c.in-Some-back_in.offset < 2 ^ 64 = omega (arith, below, c.in-Some-back_in.ensures.inside, end_above c.args.code.now.from c.args.code.now.steps) in
+    let fits : (get_or c.args.ports.now c.in-Elem.port (record { start = 0; len = 0 })).start + c.in-Some-back_in.offset
+    < 2 ^ 64 = omega (arith, below, c.in-Some-back_in.ensures.inside, end_above c.args.code.now.from c.args.code.now.steps) in
     search (rules, fits)
 
 pub push-requires-in-Some-back_in : goal.push-requires-in-Some-back_in
@@ -57,14 +59,16 @@ returns-in-Some-back_in t c =
     let p = rw c.in-Elem.is at c.requires.ports in
     let same : view c.deref-in-Elem.result.now ≡ view c.in-Elem.at.value = cc in
     rw c.in-Elem.is (if_ok _ c.push-in-Some-back_in.result _ _
-    (λ at q. for_same (for_back c.args.ports.now c.args.len c.args.code.now _ c.in-Elem.port _ _ _ c.requires.below p.0 c.in-Some-back_in.ensures q) (ap (element c.in-Elem.port) same)) c.push-in-Some-back_in.ensures)
+    (λ at q. for_same (for_back c.args.ports.now c.args.len c.args.code.now _ c.in-Elem.port _ _ _ c.requires.below p.0
+    c.in-Some-back_in.ensures q) (ap (element c.in-Elem.port) same)) c.push-in-Some-back_in.ensures)
 
 pub returns-in_ok-numbers-in-Elem : goal.returns-in_ok-numbers-in-Elem
 returns-in_ok-numbers-in-Elem t c =
     let p = rw c.in-Elem.is at c.requires.ports in
     let same : view c.deref-in-Elem-2.result.now ≡ view c.in-Elem.at.value = cc in
     rw c.in-Elem.is (if_ok _ c.push-in-Elem.result _ _
-    (λ at q. for_same (for_gather c.args.ports.now c.args.len c.args.code.now _ _ c.in-Elem.port _ _ _ c.requires.below p.0 c.in_ok-numbers-in-Elem.ensures q) (ap (element c.in-Elem.port) same)) c.push-in-Elem.ensures)
+    (λ at q. for_same (for_gather c.args.ports.now c.args.len c.args.code.now _ _ c.in-Elem.port _ _ _ c.requires.below p.0
+    c.in_ok-numbers-in-Elem.ensures q) (ap (element c.in-Elem.port) same)) c.push-in-Elem.ensures)
 
 pub returns-in-SumOf : goal.returns-in-SumOf
 returns-in-SumOf t c =
@@ -101,6 +105,7 @@ returns-in_ok-right-in-Apply-2 t c =
 
 pub returns-in_ok-second-in-Select : goal.returns-in_ok-second-in-Select
 returns-in_ok-second-in-Select t c =
-    let same : select (view c.deref-in-Select.result.now) (view c.deref-in-Select-2.result.now) (view c.deref-in-Select-3.result.now) ≡ select (view c.in-Select.condition.value) (view c.in-Select.a.value) (view c.in-Select.b.value) = cc in
+    let same : select (view c.deref-in-Select.result.now) (view c.deref-in-Select-2.result.now) (view c.deref-in-Select-3.result.now)
+    ≡ select (view c.in-Select.condition.value) (view c.in-Select.a.value) (view c.in-Select.b.value) = cc in
     rw c.in-Select.is (if_ok _ c.push-in-Select.result _ _
     (λ at p. for_same (for_choice _ _ _ _ _ _ _ _ _ _ _ _ _ _ c.in_ok-chosen-in-Select.ensures c.in_ok-first-in-Select.ensures c.in_ok-second-in-Select.ensures p) same) c.push-in-Select.ensures)

@@ -20,12 +20,14 @@ line_more d c n outs gs i j g old new more all lt at adds new_is so_far =
     ap (λ vs. vs ++ implodes d c n outs (j + 1) rest) new_is ∙ append_assoc old more (implodes d c n outs (j + 1) rest) ∙ ap (λ k. old ++ (more ++ implodes d c n outs k rest)) (sym next)
     ∙ ap (λ vs. old ++ vs) (sym (adds rest)) ∙ ap (λ hs. old ++ implodes d c n outs j hs) (sym split) ∙ so_far
 
-join_adds : (d : List ℕ) (c n : ℕ) (outs : List ℕ) (j : ℕ) (g : Give) (name text : List ℕ) (y len : ℕ) (v : Vertex) → g ≡ Join name y → text ≡ name → len ≡ get_or outs j 0 → v ≡ implode_of d c n text y len
+join_adds : (d : List ℕ) (c n : ℕ) (outs : List ℕ) (j : ℕ) (g : Give) (name text : List ℕ) (y len : ℕ) (v : Vertex) → g ≡ Join name y
+    → text ≡ name → len ≡ get_or outs j 0 → v ≡ implode_of d c n text y len
     → (rest : List Give) → implodes d c n outs j (g ∷ rest) ≡ (v ∷ []) ++ implodes d c n outs (suc j) rest
 join_adds d c n outs j g name text y len v is text_is len_is made rest =
     ap (λ h. implodes d c n outs j (h ∷ rest)) is ∙ ap (λ u. u ∷ implodes d c n outs (suc j) rest) (sym (made ∙ ap₂ (λ t l. implode_of d c n t y l) text_is len_is))
 
-other_adds : (d : List ℕ) (c n : ℕ) (outs : List ℕ) (j : ℕ) (g : Give) → ((name : List ℕ) (y : ℕ) → g ≡ Join name y → ⊥) → (rest : List Give) → implodes d c n outs j (g ∷ rest) ≡ [] ++ implodes d c n outs (suc j) rest
+other_adds : (d : List ℕ) (c n : ℕ) (outs : List ℕ) (j : ℕ) (g : Give) → ((name : List ℕ) (y : ℕ) → g ≡ Join name y → ⊥)
+    → (rest : List Give) → implodes d c n outs j (g ∷ rest) ≡ [] ++ implodes d c n outs (suc j) rest
 other_adds d c n outs j (Join name y) not rest = absurd (not name y refl)
 other_adds d c n outs j (Last y) not rest = refl
 
@@ -44,7 +46,8 @@ loop-give-preserved c =
           elim c.match-give.branch [
             | in-Join+in_ok-implode+in_ok-push w ↦
                 line_more d b n outs c.args.gives.now c.loop-give.give-index j g old (map view c.match-give.all.items) (view w.in_ok-implode.field-0 ∷ []) _ c.loop-give-test.true c.give-item.is
-                (join_adds d b n outs j g w.in-Join.name w.as_slice-name.result.now w.in-Join.output w.len_at-len.result (view w.in_ok-implode.field-0) w.in-Join.is w.as_slice-name.ensures w.len_at-len.ensures w.in_ok-implode.ensures)
+                (join_adds d b n outs j g w.in-Join.name w.as_slice-name.result.now w.in-Join.output w.len_at-len.result
+                (view w.in_ok-implode.field-0) w.in-Join.is w.as_slice-name.ensures w.len_at-len.ensures w.in_ok-implode.ensures)
                 (ap (λ a. map view a.items) w.all-is ∙ ap (map view) w.in_ok-push.ensures.items ∙ map_push view c.loop-give.all.items w.in_ok-implode.field-0) c.loop-give.invariant.so_far
             | in_default w ↦
                 line_more d b n outs c.args.gives.now c.loop-give.give-index j g old (map view c.match-give.all.items) [] _ c.loop-give-test.true c.give-item.is

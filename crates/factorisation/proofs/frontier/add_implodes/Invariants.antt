@@ -6,5 +6,6 @@ use Rattle.factorisation.proofs.frontier.add_implodes.Given as goal
 abbrev pub invariant-loop-give : goal.invariant-loop-give
 invariant-loop-give l = record {
   at : l.place ≡ l.give-index;
-  so_far : map view l.all.items ++ imploded l.definition l.copies.begin l.copies.count l.outs l.place (drop l.give-index l.gives) ≡ map view l.fn.all.items ++ imploded l.definition l.copies.begin l.copies.count l.outs 0 l.gives;
+  so_far : map view l.all.items ++ imploded l.definition l.copies.begin l.copies.count l.outs l.place (drop l.give-index l.gives)
+      ≡ map view l.fn.all.items ++ imploded l.definition l.copies.begin l.copies.count l.outs 0 l.gives;
 }

@@ -5,6 +5,6 @@ use Rattle.factorisation.proofs.frontier.give_sources.Given as goal
 
 abbrev pub invariant-loop-give : goal.invariant-loop-give
 invariant-loop-give l = record {
-  few : l.joins + length (join_names (drop l.give-index l.gives)) ≤ 262144;
+  few : l.joins + length (join_names (drop l.give-index l.gives)) ≤ 2048;
   so_far : l.all.items ++ sources_given l.copies.begin l.copies.count l.joins (drop l.give-index l.gives) ≡ sources_given l.copies.begin l.copies.count 0 l.gives;
 }

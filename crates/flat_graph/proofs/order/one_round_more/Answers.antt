@@ -5,7 +5,8 @@ use Rattle.flat_graph.proofs.order.one_round_more.Goals as goal
 pub loop-v-preserved : goal.loop-v-preserved
 loop-v-preserved c = record {
   long = length-set c.loop-v.done c.loop-v.v c.is_done_now.result ∙ c.loop-v.invariant.long;
-  past = past_more c.args.vertices.now c.args.before.now c.loop-v.done c.loop-v.v c.index-vertices-v.result c.is_done_now.result c.loop-v-test.true (omega arith) c.index-vertices-v.is c.is_done_now.ensures c.loop-v.invariant.past;
+  past = past_more c.args.vertices.now c.args.before.now c.loop-v.done c.loop-v.v c.index-vertices-v.result c.is_done_now.result
+      c.loop-v-test.true (omega arith) c.index-vertices-v.is c.is_done_now.ensures c.loop-v.invariant.past;
   rest = rest_more c.args.vertices.now c.args.before.now c.loop-v.done c.loop-v.v c.is_done_now.result c.loop-v.invariant.rest;
 }
 

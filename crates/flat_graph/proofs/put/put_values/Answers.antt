@@ -31,7 +31,8 @@ loop-port-preserved c =
     let here : slice_index_or es port (view e) ≡ view e = get_or-map view c.args.body.now port e (view e) c.loop-port-test.true ∙ ap view (sym c.index-body-port.is) in
     let vector = vector_of (slice_index_or c.args.lens.now port 0) (value_of (view e) c.args.ins.now) in
     let is_here : vector ≡ slice_index_or target port [] =
-    ap (λ x. vector_of (slice_index_or c.args.lens.now port 0) (value_of x c.args.ins.now)) (sym here) ∙ sym (function_at c.args.lens.now es c.args.ins.now port (view e) (omega arith) (omega arith)) in
+    ap (λ x. vector_of (slice_index_or c.args.lens.now port 0) (value_of x c.args.ins.now)) (sym here)
+    ∙ sym (function_at c.args.lens.now es c.args.ins.now port (view e) (omega arith) (omega arith)) in
     c.put_value.ensures
     ∙ ap (λ vs. slice_set vs port vector) c.loop-port.invariant
     ∙ fill target c.args.outs.now port [] vector (omega arith) (omega arith) is_here

@@ -8,7 +8,7 @@ pub returns-clause-counted : goal.returns-clause-counted
 returns-clause-counted c main g h stands = flattened-count main h g stands
 
 pub returns-clause-valid : goal.returns-clause-valid
-returns-clause-valid c main g h names bounds stands = flattened-flat main h g stands names bounds
+returns-clause-valid c main g h stands = flattened-flat main h g stands
 
 pub returns-clause-lengths : goal.returns-clause-lengths
 returns-clause-lengths c main g h stands = flattened-lengths main h g stands

@@ -39,4 +39,5 @@ returns c =
     let first : Span = get_or inputs 0 (record { start = 0; len = 0 }) in
     let from : Span = get_or inputs (1 + case) (record { start = 0; len = 0 }) in
     let row = merged_row c.args.values.now inputs c.args.store.now first from case c.requires.cases refl (c.selected-case.ensures ∙ ap (selected c.args.values.now) c.row_at.ensures) refl in
-    put_same (length c.args.store.now) c.args.start (words c.args.store.now from.start from.len) (merged c.args.values.now (rows_of c.args.store.now inputs)) c.args.store.now c.put_words.new.store row c.put_words.ensures
+    put_same (length c.args.store.now) c.args.start (words c.args.store.now from.start from.len)
+    (merged c.args.values.now (rows_of c.args.store.now inputs)) c.args.store.now c.put_words.new.store row c.put_words.ensures

@@ -9,5 +9,6 @@ returns c =
     let rest = drop c.end.result c.args.store.now in
     let same = c.run.auto.store in
     let cut = length-take-le c.end.result c.args.store.now (omega (arith, c.end.ensures, c.requires.code)) in
-    has_put c.args.output.now c.end.result c.args.store.now part c.put_words.new.store c.end.ensures (omega (arith, same, cut)) (omega (arith, c.end.ensures, c.requires.code)) c.requires.at c.run.ensures.given c.run.ensures.values
+    has_put c.args.output.now c.end.result c.args.store.now part c.put_words.new.store c.end.ensures (omega (arith, same, cut))
+    (omega (arith, c.end.ensures, c.requires.code)) c.requires.at c.run.ensures.given c.run.ensures.values
     (omega (arith, same, cut, length-append part rest, length-drop c.end.result c.args.store.now, c.end.ensures, c.requires.code)) c.put_words.ensures

@@ -7,7 +7,9 @@ loop-output-preserved c =
     let l = c.loop-output in
     record {
       len = c.run_output.ensures.len ∙ l.invariant.len;
-      put = λ new rest. l.invariant.put new (put_next c.args.outputs.now l.output-index c.output-item.result c.output-item.result l.store c.run_output.new.store new c.loop-output-test.true c.output-item.is c.run_output.ensures rest);
+      put = λ new rest. l.invariant.put new
+          (put_next c.args.outputs.now l.output-index c.output-item.result c.output-item.result l.store c.run_output.new.store new
+          c.loop-output-test.true c.output-item.is c.run_output.ensures rest);
     }
 
 pub returns : goal.returns

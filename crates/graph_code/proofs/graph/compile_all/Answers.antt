@@ -13,7 +13,8 @@ loop-v-preserved c =
       count = count_more l.operations.items _ _ l.v l.invariant.count c.in_ok-push.ensures.items;
       values = made.values ∙ l.invariant.values;
       room = omega (arith, made.room, l.invariant.room);
-      each = operations_more c.args.flat.now l.sizes.all c.compile_operation.new.sizes.all l.v l.operations.items _ _ l.invariant.count made.room made.operation c.in_ok-push.ensures.items l.invariant.each;
+      each = operations_more c.args.flat.now l.sizes.all c.compile_operation.new.sizes.all l.v l.operations.items _ _ l.invariant.count
+          made.room made.operation c.in_ok-push.ensures.items l.invariant.each;
     }
 
 pub returns-clause-operations : goal.returns-clause-operations

@@ -12,7 +12,8 @@ loop-port-preserved c =
       count = count_more l.outputs.items _ _ l.port l.invariant.count c.in_ok-push.ensures.items;
       values = made.values ∙ l.invariant.values;
       room = omega (arith, made.room, l.invariant.room);
-      each = outputs_more c.args.inputs.now c.compile_output.new.sizes.values l.sizes.all c.compile_output.new.sizes.all c.args.start c.args.outs.now c.args.body.now l.port c.index-body-port.result c.in_ok-to.to l.outputs.items _ _
+      each = outputs_more c.args.inputs.now c.compile_output.new.sizes.values l.sizes.all c.compile_output.new.sizes.all c.args.start
+          c.args.outs.now c.args.body.now l.port c.index-body-port.result c.in_ok-to.to l.outputs.items _ _
           c.loop-port-test.true c.index-body-port.is l.invariant.count made.room c.in_ok-to.ensures made.output c.in_ok-push.ensures.items
           (subst (λ w. EachFrom (IsOutputAt c.args.inputs.now w l.sizes.all c.args.start c.args.outs.now (map view c.args.body.now)) 0 l.outputs.items) (sym made.values) l.invariant.each);
     }

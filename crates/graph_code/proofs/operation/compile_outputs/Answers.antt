@@ -46,5 +46,7 @@ returns-in-Function-clause-outputs c =
     let same = rw c.bodies.ensures at c.index-bodies-body.is in
     let whole = c.outputs-body.ensures ∙ body_is g c.args.v x c.in-Function.body c.vertices.ensures.valid is c.in-Function.is body same c.outputs-body.result.now c.outputs-body.ensures in
     if_ok _ _ c.compile_body.result _ _
-    (λ os are. code_for g c.compile_body.new.sizes.all c.args.v x c.in-Function.body c.args.inputs.now c.args.start c.compile_body.new.sizes.values c.as_slice.result.now (map view c.outputs-body.result.now) os.items is c.in-Function.is (c.compile_body.ensures.values ∙ c.requires.values) c.as_slice.ensures whole are)
+    (λ os are. code_for g c.compile_body.new.sizes.all c.args.v x c.in-Function.body c.args.inputs.now c.args.start
+    c.compile_body.new.sizes.values c.as_slice.result.now (map view c.outputs-body.result.now) os.items is c.in-Function.is
+    (c.compile_body.ensures.values ∙ c.requires.values) c.as_slice.ensures whole are)
     c.compile_body.ensures.outputs

@@ -12,6 +12,7 @@ loop-vertex-preserved c =
     let x = c.vertex-item.result in
     let width : c.in_ok-width.width ≡ l.width + sum x.outs = c.in_ok-width.ensures ∙ ap (λ ns. l.width + sum ns) c.as_slice.ensures in
     record {
-      starts = ap₂ (λ ss w. ss ++ starts_from w (drop (i + 1) xs)) c.in_ok-push.ensures.items width ∙ place_more xs i x l.starts.items l.width c.loop-vertex-test.true c.vertex-item.is l.invariant.starts;
+      starts = ap₂ (λ ss w. ss ++ starts_from w (drop (i + 1) xs)) c.in_ok-push.ensures.items width
+          ∙ place_more xs i x l.starts.items l.width c.loop-vertex-test.true c.vertex-item.is l.invariant.starts;
       width = ap (λ w. w + width_of (drop (i + 1) xs)) width ∙ width_more xs i x l.width c.loop-vertex-test.true c.vertex-item.is l.invariant.width;
     }

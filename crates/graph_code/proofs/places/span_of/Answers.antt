@@ -13,7 +13,9 @@ returns-then-v-vertices c =
     let s = c.args.source in
     let x = c.index-vertices-v.result in
     let is = element_there xs s.vertex x c.if-v-vertices.true c.index-vertices-v.is in
-    if_ok _ _ c.output_span.result _ _ (λ span e. e ∙ ap (λ ns. output_span (get_or c.args.starts.now s.vertex 0) ns s.port) c.as_slice.ensures ∙ span_there xs c.args.starts.now s x 0 c.requires c.if-v-vertices.true is) c.output_span.ensures
+    if_ok _ _ c.output_span.result _ _
+    (λ span e. e ∙ ap (λ ns. output_span (get_or c.args.starts.now s.vertex 0) ns s.port) c.as_slice.ensures
+    ∙ span_there xs c.args.starts.now s x 0 c.requires c.if-v-vertices.true is) c.output_span.ensures
 
 pub returns-else-v-vertices : goal.returns-else-v-vertices
 returns-else-v-vertices c = span_none c.args.vertices.now c.args.source c.if-v-vertices.false

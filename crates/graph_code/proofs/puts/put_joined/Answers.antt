@@ -22,14 +22,21 @@ unfolding none
 put_words-requires-clause-to c =
     let l = c.loop-span in
     let first = c.args.store.now in
-    omega (arith, l.invariant.put.len, next_inside c.args.start c.args.spans.now first l.store first l.span-index l.at (get_or c.args.spans.now l.span-index none) c.loop-span-test.true refl c.requires.below c.requires.room c.requires.apart l.invariant.at l.invariant.put)
+    omega (
+      arith,
+      l.invariant.put.len,
+      next_inside c.args.start c.args.spans.now first l.store first l.span-index l.at
+          (get_or c.args.spans.now l.span-index none) c.loop-span-test.true refl c.requires.below c.requires.room c.requires.apart l.invariant.at l.invariant.put,
+    )
 
 pub overflow_add-at : goal.overflow_add-at
 unfolding none
 overflow_add-at c =
     let l = c.loop-span in
     let first = c.args.store.now in
-    let inside = next_inside c.args.start c.args.spans.now first l.store first l.span-index l.at (get_or c.args.spans.now l.span-index none) c.loop-span-test.true refl c.requires.below c.requires.room c.requires.apart l.invariant.at l.invariant.put in
+    let inside = next_inside c.args.start c.args.spans.now first l.store first l.span-index l.at
+    (get_or c.args.spans.now l.span-index none) c.loop-span-test.true refl c.requires.below c.requires.room c.requires.apart
+    l.invariant.at l.invariant.put in
     search (rules, inside)
 
 pub loop-span-preserved : goal.loop-span-preserved
@@ -38,8 +45,12 @@ loop-span-preserved c =
     let l = c.loop-span in
     let first = c.args.store.now in
     record {
-      at = next_place c.args.start c.args.spans.now first l.store first l.span-index l.at (get_or c.args.spans.now l.span-index none) c.loop-span-test.true refl c.requires.below c.requires.room c.requires.apart l.invariant.at l.invariant.put;
-      put = next_put c.args.start c.args.spans.now first l.store c.put_words.new.store l.span-index l.at (get_or c.args.spans.now l.span-index none) c.loop-span-test.true refl c.requires.below c.requires.room c.requires.apart l.invariant.at l.invariant.put c.put_words.ensures;
+      at = next_place c.args.start c.args.spans.now first l.store first l.span-index l.at
+          (get_or c.args.spans.now l.span-index none) c.loop-span-test.true refl c.requires.below c.requires.room c.requires.apart
+          l.invariant.at l.invariant.put;
+      put = next_put c.args.start c.args.spans.now first l.store c.put_words.new.store l.span-index l.at
+          (get_or c.args.spans.now l.span-index none) c.loop-span-test.true refl c.requires.below c.requires.room c.requires.apart
+          l.invariant.at l.invariant.put c.put_words.ensures;
     }
 
 pub returns : goal.returns

@@ -19,7 +19,26 @@ use Rattle.hierarchy.proofs.Leading.{graph_well, well_at}
 use Rattle.hierarchy.proofs.Building.{AddsRest, vertex_added, all_added, level_added}
 use Rattle.hierarchy.proofs.Linking.{linked_left, linked_right}
 use Rattle.hierarchy.proofs.Texting.{prefixes_inside, prefixes_here}
-use Rattle.hierarchy.proofs.Adding.{rest_from, plain_at, named_at, label_named, inside_named, inside_plain, is_run, graph_adds, delay_adds, run_adds, graph_linked, delay_linked, run_linked, level_linked, graph_counted, delay_counted, run_counted, nothing_added}
+use Rattle.hierarchy.proofs.Adding.{
+  rest_from,
+  plain_at,
+  named_at,
+  label_named,
+  inside_named,
+  inside_plain,
+  is_run,
+  graph_adds,
+  delay_adds,
+  run_adds,
+  graph_linked,
+  delay_linked,
+  run_linked,
+  level_linked,
+  graph_counted,
+  delay_counted,
+  run_counted,
+  nothing_added,
+}
 use Rattle.hierarchy.proofs.inlining.+add.Goals as goal
 use Rattle.syn_base.specs.Vectors.{Vector}
 

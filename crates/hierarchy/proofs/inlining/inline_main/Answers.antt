@@ -1,4 +1,5 @@
 use Rattle.std.proofs.Common.{[], length, ap, sym, subst}
+use Rattle.algo_tree.specs.Named.{HasNames}
 use Rattle.algo_tree.proofs.Views.{view_out}
 use Rattle.flat_laws.specs.Inlined.{operations}
 use Rattle.flat_laws.specs.Stands.{Stands}
@@ -13,6 +14,9 @@ add_level-requires-clause-acyclic c = (main_well c.args.main.now c.requires.tree
 
 pub add_level-requires-clause-well : goal.add_level-requires-clause-well
 add_level-requires-clause-well c = (main_well c.args.main.now c.requires.tree).0
+
+pub add_level-requires-clause-names : goal.add_level-requires-clause-names
+add_level-requires-clause-names c = subst HasNames (view_out c.args.main.now) c.requires.tree.named
 
 pub add_level-requires-clause-linked : goal.add_level-requires-clause-linked
 add_level-requires-clause-linked c = main_linked c.args.main.now c.requires.tree c.requires.plain (length c.in_ok-vertices.vertices.items) (ap length c.in_ok-vertices.ensures.items)

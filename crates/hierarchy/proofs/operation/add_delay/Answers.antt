@@ -69,8 +69,10 @@ loop-at-preserved c =
       added = λ at named.
           let pair : Adds (graph_of now) (graph_of next) (λ b. stage_pair w at i l z (map level_source c.in_ok-ins.ins.items)) =
           subst (λ j. Adds (graph_of now) (graph_of next) (λ b. stage_pair w at j l z (map level_source c.in_ok-ins.ins.items))) number
-          (subst (λ v. Adds (graph_of now) (graph_of next) (λ b. stage_pair w at c.in_ok-to_u32.field-0 l v (map level_source c.in_ok-ins.ins.items))) value (c.in_ok-add_stage.ensures.added at named)) in
-          stage_added (graph_of old) (graph_of now) (graph_of next) w at l i z (map level_source c.in_ok-ins.ins.items) vs (stages_from i vs c.loop-at-test.true) taken pair (c.loop-at.invariant.added at named);
+          (subst (λ v. Adds (graph_of now) (graph_of next)
+          (λ b. stage_pair w at c.in_ok-to_u32.field-0 l v (map level_source c.in_ok-ins.ins.items))) value (c.in_ok-add_stage.ensures.added at named)) in
+          stage_added (graph_of old) (graph_of now) (graph_of next) w at l i z (map level_source c.in_ok-ins.ins.items) vs
+          (stages_from i vs c.loop-at-test.true) taken pair (c.loop-at.invariant.added at named);
     }
 
 pub returns-clause-added : goal.returns-clause-added
@@ -78,7 +80,8 @@ returns-clause-added c =
     let w = led c.args.level.now.leds.now c.args.level.now.own.now in
     let l = label_view (out-Vertex c.args.vertex.now) in
     λ at named.
-    stages_end (graph_of c.args.all.now) (graph_of c.loop-at.all) w at l c.loop-at.at c.args.groups.now (drop_all c.loop-at.at c.args.groups.now (omega (arith, c.loop-at-test.false))) (c.loop-at.invariant.added at named)
+    stages_end (graph_of c.args.all.now) (graph_of c.loop-at.all) w at l c.loop-at.at c.args.groups.now
+    (drop_all c.loop-at.at c.args.groups.now (omega (arith, c.loop-at-test.false))) (c.loop-at.invariant.added at named)
 
 pub returns-clause-count : goal.returns-clause-count
 returns-clause-count c = omega (arith, c.loop-at.invariant.count, c.loop-at-test.false, c.loop-at.auto.at-end)

@@ -20,6 +20,12 @@ returns-clause-added c =
     let count = c.len-2.ensures in
     let set : c.in_ok-set.set ≡ suc (length old.vertices.items) = omega (arith, one, count, long) in
     let takes : IsOperation w l (map level_source c.args.ins.items) [] y = c.in_ok-set_half.ensures.is in
-    pair_added (graph_of old) (record { vertices = c.push-2.new.self.items; bodies = old.bodies.items }) w l c.args.stage.now.number c.args.stage.now.values.now (map level_source c.args.ins.items) x y c.args.stage.now.path.now
-    x.name y.name c.in_ok-get.get c.in_ok-set.set (c.in_ok-push-2.ensures.items ∙ ap (λ xs. xs ++ y ∷ []) c.in_ok-push.ensures.items) refl get set c.in_ok-get_half.ensures.name c.in_ok-set_half.ensures.name
+    pair_added (graph_of old) (record {
+      vertices = c.push-2.new.self.items;
+      bodies =
+          old.bodies.items;
+    }) w l c.args.stage.now.number c.args.stage.now.values.now (map level_source c.args.ins.items) x y c.args.stage.now.path.now
+    x.name y.name c.in_ok-get.get c.in_ok-set.set
+    (c.in_ok-push-2.ensures.items ∙ ap
+    (λ xs. xs ++ y ∷ []) c.in_ok-push.ensures.items) refl get set c.in_ok-get_half.ensures.name c.in_ok-set_half.ensures.name
     c.in_ok-get_half.ensures.is refl c.in_ok-get_half.ensures.task c.in_ok-get_half.ensures.twin takes refl c.in_ok-set_half.ensures.task c.in_ok-set_half.ensures.twin

@@ -16,7 +16,7 @@ new-requires c =
     let main = c.args.tree.now in
     let g = graph_of c.in_ok-vertices.field-0 in
     let stands = c.in_ok-vertices.ensures.stands in
-    flattened-flat main c.main-main.ensures.valid g stands c.in_ok-vertices.ensures.names c.requires.bounds
+    flattened-flat main c.main-main.ensures.valid g stands
 
 pub returns-clause-kept : goal.returns-clause-kept
 returns-clause-kept c =

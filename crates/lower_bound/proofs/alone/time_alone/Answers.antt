@@ -9,4 +9,5 @@ returns-in-None c =
     let d = c.args.durations.now in
     let l : c.loop-op.op < length d.rows = omega arith in
     let none : Option ℕ = None in
-    sym (ap (λ (b : Bool). cond b (Some (time_alone (entry_in d) (length d.rows) c.args.operator)) none) (none_stands (entry_in d) (length d.rows) c.args.operator c.loop-op.op l (sym c.in-None.ensures.entry)))
+    sym (ap (λ (b : Bool). cond b (Some (time_alone (entry_in d) (length d.rows) c.args.operator)) none)
+    (none_stands (entry_in d) (length d.rows) c.args.operator c.loop-op.op l (sym c.in-None.ensures.entry)))

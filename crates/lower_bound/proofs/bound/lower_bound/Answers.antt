@@ -22,7 +22,9 @@ longest_carried-requires c =
       few = omega arith;
       rows = c.requires.operations ∙ sym same;
       acyclic = subst (λ (vs : List Vertex). IsTrue (is_acyclic vs)) (sym c.vertices.ensures.same) (acyclic_of flat c.vertices.ensures.valid);
-      short = subst (λ (ms : List Medium). AreShort ms c.vertices.result.now) (sym c.media.ensures.same) (subst (λ (vs : List Vertex). AreShort c.args.archi.now.media vs) (sym c.vertices.ensures.same) (are_short flat c.args.archi.now c.vertices.ensures.valid c.media.ensures.valid));
+      short = subst (λ (ms : List Medium). AreShort ms c.vertices.result.now) (sym c.media.ensures.same)
+          (subst (λ (vs : List Vertex). AreShort c.args.archi.now.media vs) (sym c.vertices.ensures.same)
+          (are_short flat c.args.archi.now c.vertices.ensures.valid c.media.ensures.valid));
     }
 
 pub shared_work-requires : goal.shared_work-requires

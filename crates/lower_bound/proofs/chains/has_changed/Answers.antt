@@ -23,13 +23,18 @@ loop-op-preserved c =
       size = ap length is ∙ length-set dates i date ∙ size;
       low = written_low dates after i date most_date here is (omega arith) c.loop-op.invariant.low;
       chains = λ rounds h.
-          turn_more d.operators (entry_in d) vs ms c.requires.acyclic c.requires.few (entry_low d c.operations-operations.ensures.valid) c.requires.short rounds i dates after c.loop-op-test.true here is (c.loop-op.invariant.chains rounds h);
+          turn_more d.operators (entry_in d) vs ms c.requires.acyclic c.requires.few
+          (entry_low d c.operations-operations.ensures.valid) c.requires.short rounds i dates after c.loop-op-test.true here is
+          (c.loop-op.invariant.chains rounds h);
       settled = λ e. (elim c.if-changed.branch [
         | then-changed w ↦ absurd (true≢false (sym w.if-changed.true ∙ sym w.changed-is ∙ e))
-        | else-changed w ↦ settled_more d.operators (entry_in d) vs ms i dates after here is (kept_is dates after i date here is (c.renew-renewed.ensures.same (sym w.changed-is ∙ e))) (c.loop-op.invariant.settled w.if-changed.false)
+        | else-changed w ↦ settled_more d.operators (entry_in d) vs ms i dates after here is
+            (kept_is dates after i date here is (c.renew-renewed.ensures.same (sym w.changed-is ∙ e))) (c.loop-op.invariant.settled w.if-changed.false)
       ]);
     }
 
 pub returns-clause-chains : goal.returns-clause-chains
 returns-clause-chains c = λ rounds h. (let d = c.args.durations.now in
-    turn_done d.operators (entry_in d) c.args.vertices.now c.args.media.now c.requires.acyclic c.requires.few (entry_low d c.operations-operations.ensures.valid) c.requires.short rounds c.loop-op.op c.loop-op.ends c.loop-op-test.false (c.loop-op.invariant.chains rounds h))
+    turn_done d.operators (entry_in d) c.args.vertices.now c.args.media.now c.requires.acyclic c.requires.few
+    (entry_low d c.operations-operations.ensures.valid) c.requires.short rounds c.loop-op.op c.loop-op.ends c.loop-op-test.false
+    (c.loop-op.invariant.chains rounds h))

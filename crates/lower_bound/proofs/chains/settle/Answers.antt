@@ -21,7 +21,8 @@ pub returns-then-not-has_changed-clause-chains : goal.returns-then-not-has_chang
 returns-then-not-has_changed-clause-chains c = λ v l. (let d = c.args.durations.now in
     let vs = c.args.vertices.now in
     let ms = c.args.media.now in
-    settled_are_chains d.operators (entry_in d) vs ms c.requires.acyclic c.requires.few (entry_low d c.operations-operations.ensures.valid) c.requires.short c.has_changed.new.ends (c.if-not-has_changed.ensures.settled refl) (length vs) v
+    settled_are_chains d.operators (entry_in d) vs ms c.requires.acyclic c.requires.few
+    (entry_low d c.operations-operations.ensures.valid) c.requires.short c.has_changed.new.ends (c.if-not-has_changed.ensures.settled refl) (length vs) v
     (all_done vs c.requires.acyclic v l))
 
 pub returns-clause-chains : goal.returns-clause-chains

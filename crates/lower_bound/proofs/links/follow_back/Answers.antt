@@ -17,7 +17,8 @@ loop-link-init c =
     let first = c.latest_operation-next.ensures ∙ last_is d.operators (entry_in d) vs c.requires.acyclic dates c.requires.chains n c.requires.size in
     record {
       way = λ i. c.new-links.ensures.items i ++ map (link_of d.operators (entry_in d) vs) (back_within d.operators (entry_in d) vs (e i) (first i));
-      within = subst (λ (o : Option ℕ). IfSome o (λ v. v < length vs)) (sym c.latest_operation-next.ensures) (last_within d.operators (entry_in d) vs c.requires.acyclic dates c.requires.chains n c.requires.size);
+      within = subst (λ (o : Option ℕ). IfSome o (λ v. v < length vs)) (sym c.latest_operation-next.ensures)
+          (last_within d.operators (entry_in d) vs c.requires.acyclic dates c.requires.chains n c.requires.size);
     }
 
 pub loop-link-preserved : goal.loop-link-preserved
@@ -35,7 +36,8 @@ loop-link-preserved c =
     let way = ap (λ (o : Option ℕ). links ++ on_way d.operators (entry_in d) vs c.requires.acyclic dates c.requires.chains i o) (sym c.in-Some.is) ∙ c.loop-link.invariant.way in
     record {
       way = ap (λ (ls : List Link). ls ++ on_way d.operators (entry_in d) vs c.requires.acyclic dates c.requires.chains (i + 1) next) c.in_ok-push.ensures.items
-          ∙ way_more d.operators (entry_in d) vs c.requires.acyclic dates c.requires.chains links whole i op c.least-ticks.result x next c.loop-link-test.true there c.least-ticks.ensures.same c.index-vertices-op.is c.latest_before-next.ensures way;
+          ∙ way_more d.operators (entry_in d) vs c.requires.acyclic dates c.requires.chains links whole i op c.least-ticks.result x next
+          c.loop-link-test.true there c.least-ticks.ensures.same c.index-vertices-op.is c.latest_before-next.ensures way;
       within = next_within d.operators (entry_in d) vs c.requires.acyclic dates c.requires.chains op x next there c.index-vertices-op.is c.latest_before-next.ensures;
     }
 
@@ -53,4 +55,6 @@ pub returns : goal.returns
 returns c =
     let d = c.args.durations.now in
     let vs = c.args.vertices.now in
-    way_all d.operators (entry_in d) vs c.requires.acyclic (at c.args.ends.now) c.requires.chains c.loop-link.links.items (map (link_of d.operators (entry_in d) vs) (chain_back d.operators (entry_in d) vs)) c.loop-link._link c.loop-link.next c.loop-link-test.false c.loop-link.invariant.way
+    way_all d.operators (entry_in d) vs c.requires.acyclic (at c.args.ends.now) c.requires.chains c.loop-link.links.items
+    (map (link_of d.operators (entry_in d) vs)
+    (chain_back d.operators (entry_in d) vs)) c.loop-link._link c.loop-link.next c.loop-link-test.false c.loop-link.invariant.way

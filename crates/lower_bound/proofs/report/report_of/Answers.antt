@@ -19,6 +19,8 @@ all_alone-requires c =
 
 pub returns : goal.returns
 returns c =
-    report_is c.args.flat.now c.args.archi.now c.args.durations.now c.args.schedule.now c.requires.fits c.length-length.result c.operators.result.now c.media.result.now c.in_ok-operators.operators c.in_ok-media.media
-    c.in_ok-alone.alone c.in_ok-bound.bound c.ratio_of-above.result c.length-length.ensures c.operators.ensures.same c.media.ensures.same c.in_ok-operators.ensures c.in_ok-media.ensures c.in_ok-alone.ensures
+    report_is c.args.flat.now c.args.archi.now c.args.durations.now c.args.schedule.now c.requires.fits c.length-length.result
+    c.operators.result.now c.media.result.now c.in_ok-operators.operators c.in_ok-media.media
+    c.in_ok-alone.alone c.in_ok-bound.bound c.ratio_of-above.result c.length-length.ensures c.operators.ensures.same c.media.ensures.same
+    c.in_ok-operators.ensures c.in_ok-media.ensures c.in_ok-alone.ensures
     c.in_ok-bound.ensures.bound c.ratio_of-above.ensures

@@ -9,7 +9,9 @@ use Rattle.macro_check.proofs.Told.{receive_told, send_told, wait_told}
 use Rattle.macro_check.proofs.awaiting.awaited.Goals as goal
 
 pub signal_of-requires-clause-within : goal.signal_of-requires-clause-within
-signal_of-requires-clause-within c = c.requires.run.named c.args.sequence c.args.at c.in-Suc1.pair (inl (subst (λ (x : Instr). Stands c.args.program.now c.args.sequence c.args.at x) c.in-Suc1.is c.requires.here))
+signal_of-requires-clause-within c =
+    c.requires.run.named c.args.sequence c.args.at c.in-Suc1.pair
+    (inl (subst (λ (x : Instr). Stands c.args.program.now c.args.sequence c.args.at x) c.in-Suc1.is c.requires.here))
 
 pub transfer_of-requires-clause-within : goal.transfer_of-requires-clause-within
 transfer_of-requires-clause-within c = slice_get_within (turn c.args.program.now c.args.sequence) c.args.at c.args.instr.now c.requires.here

@@ -15,5 +15,7 @@ returns c =
     let a = c.call_of-call.ensures.at in
     c.is_called_at.ensures
     ∙ (λ i. lone (s i) (m i) && is_none (medium c.args.program.now (s i)) && is_before_twin c.args.program.now (s i) (a i) c.args.x.now.kind c.args.x.now.twin)
-    ∙ ap (λ (t : Bool). t && is_none (medium c.args.program.now (caller_of c.args.program.now c.args.operation)) && is_before_twin c.args.program.now (caller_of c.args.program.now c.args.operation) (called_at c.args.program.now c.args.operation) c.args.x.now.kind c.args.x.now.twin)
+    ∙ ap (λ (t : Bool). t && is_none (medium c.args.program.now (caller_of c.args.program.now c.args.operation))
+    && is_before_twin c.args.program.now (caller_of c.args.program.now c.args.operation)
+    (called_at c.args.program.now c.args.operation) c.args.x.now.kind c.args.x.now.twin)
     (lone_is c.args.program.now Called c.args.operation (caller_of c.args.program.now c.args.operation))

@@ -6,7 +6,8 @@ use Rattle.macro_check.proofs.carrying.find_sources.Goals as goal
 
 pub returns-then-count-eq0 : goal.returns-then-count-eq0
 returns-then-count-eq0 c =
-    c.in_ok-all.ensures ∙ nothing c.args.program.now 1 (length c.args.program.now.buffers) (let n = ap length c.as_slice-count.ensures in let z = c.if-count-eq0.true in let e : length c.args.program.now.buffers ≡ 0 = omega arith in e)
+    c.in_ok-all.ensures ∙ nothing c.args.program.now 1 (length c.args.program.now.buffers)
+    (let n = ap length c.as_slice-count.ensures in let z = c.if-count-eq0.true in let e : length c.args.program.now.buffers ≡ 0 = omega arith in e)
 
 pub returns : goal.returns
 returns c = if_ok c.follow_all.result _ _ (λ all h. h ∙ ap (follow_all c.args.program.now) (ap length c.as_slice-count.ensures)) c.follow_all.ensures

@@ -7,7 +7,9 @@ pub are_written-requires-clause-transferred : goal.are_written-requires-clause-t
 are_written-requires-clause-transferred c = transferred_of c.args.program.now c.args.tables.now.media (sym c.are_transferred.ensures ∙ c.if-not-are_transferred.false)
 
 pub are_written-requires-clause-named : goal.are_written-requires-clause-named
-are_written-requires-clause-named c = are_low c.args.program.now c.args.tables.now.media c.requires.named (transferred_of c.args.program.now c.args.tables.now.media (sym c.are_transferred.ensures ∙ c.if-not-are_transferred.false))
+are_written-requires-clause-named c =
+    are_low c.args.program.now c.args.tables.now.media c.requires.named
+    (transferred_of c.args.program.now c.args.tables.now.media (sym c.are_transferred.ensures ∙ c.if-not-are_transferred.false))
 
 pub returns-then-not-branch-2 : goal.returns-then-not-branch-2
 returns-then-not-branch-2 c =

@@ -5,4 +5,5 @@ use Rattle.order_check.specs.Calls.{gives_at}
 use Rattle.macro_check.proofs.fitting.give_all.Given as goal
 
 abbrev pub invariant-loop-port : goal.invariant-loop-port
-invariant-loop-port l = all_at (λ k n. gives_at l.program l.operation k n (slice_get l.outs k)) l.port (drop l.port l.lens) ≡ all_at (λ k n. gives_at l.program l.operation k n (slice_get l.outs k)) 0 l.lens
+invariant-loop-port l = all_at (λ k n. gives_at l.program l.operation k n (slice_get l.outs k)) l.port (drop l.port l.lens)
+    ≡ all_at (λ k n. gives_at l.program l.operation k n (slice_get l.outs k)) 0 l.lens

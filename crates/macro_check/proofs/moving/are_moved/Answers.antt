@@ -24,7 +24,9 @@ returns-then-not-are_moved_on c =
     (let n = many_rows c.args.program.now c.args.media c.args.found.now c.requires.here in let l = c.loop-medium-test.true in omega arith) (sym c.are_moved_on.ensures ∙ c.if-not-are_moved_on.true)
 
 pub loop-medium-preserved : goal.loop-medium-preserved
-loop-medium-preserved c = below_more (λ m. all_below (λ t. is_moved c.args.program.now m t) (transfers c.args.program.now m) ≡ true) c.loop-medium.medium c.loop-medium.invariant (sym c.are_moved_on.ensures ∙ c.if-not-are_moved_on.false)
+loop-medium-preserved c = below_more
+    (λ m. all_below (λ t. is_moved c.args.program.now m t) (transfers c.args.program.now m)
+    ≡ true) c.loop-medium.medium c.loop-medium.invariant (sym c.are_moved_on.ensures ∙ c.if-not-are_moved_on.false)
 
 pub returns : goal.returns
 returns c = all_pass (λ m. all_below (λ t. is_moved c.args.program.now m t) (transfers c.args.program.now m)) c.args.media

@@ -7,7 +7,9 @@ use Rattle.macro_check.proofs.MovedBy.{crossing_here, many_here}
 use Rattle.macro_check.proofs.moving.are_moved_on.Goals as goal
 
 pub is_moved-requires-clause-here : goal.is_moved-requires-clause-here
-is_moved-requires-clause-here c = crossing_here c.args.program.now c.args.medium c.loop-number.number c.args.found.now _ c.requires.here (slice_get-get_or c.args.found.now c.loop-number.number _ c.loop-number-test.true)
+is_moved-requires-clause-here c =
+    crossing_here c.args.program.now c.args.medium c.loop-number.number c.args.found.now _ c.requires.here
+    (slice_get-get_or c.args.found.now c.loop-number.number _ c.loop-number-test.true)
 
 pub returns-then-not-is_moved : goal.returns-then-not-is_moved
 returns-then-not-is_moved c =

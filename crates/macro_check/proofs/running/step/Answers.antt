@@ -11,7 +11,8 @@ push_woken-requires-clause-pairs c q e =
     let t = c.turn_of.ensures in
     let low : slice_index c.args.done.now c.args.sequence < length c.turn_of.result.now = (let n = ap length t in let l = c.requires.there in omega arith) in
     let there = slice_get_read c.turn_of.result.now (length c.turn_of.result.now) (slice_index c.args.done.now c.args.sequence) c.index-turn_of-at.result refl low c.index-turn_of-at.is in
-    c.requires.run.named c.args.sequence (slice_index c.args.done.now c.args.sequence) q (inr (ap (λ (xs : List Instr). slice_get xs (slice_index c.args.done.now c.args.sequence)) (sym t) ∙ there ∙ ap (λ (x : Instr). Some x) e))
+    c.requires.run.named c.args.sequence (slice_index c.args.done.now c.args.sequence) q
+    (inr (ap (λ (xs : List Instr). slice_get xs (slice_index c.args.done.now c.args.sequence)) (sym t) ∙ there ∙ ap (λ (x : Instr). Some x) e))
 
 pub returns : goal.returns
 returns c =

@@ -8,5 +8,6 @@ use Rattle.macro_code.proofs.processor.append_mains.Goals as goal
 
 pub loop-code-preserved : goal.loop-code-preserved
 loop-code-preserved c =
-    each (main_text (names_of c.args.named.now) c.args.seqs.now c.args.operator) c.args.seqs.now c.loop-code.code-index c.code-item.result c.loop-code.out.items c.append_main.new.out.items _ c.loop-code-test.true
+    each (main_text (names_of c.args.named.now) c.args.seqs.now c.args.operator) c.args.seqs.now c.loop-code.code-index c.code-item.result
+    c.loop-code.out.items c.append_main.new.out.items _ c.loop-code-test.true
     (c.in_ok-append_main.ensures ∙ ap (λ (x : SeqCode). c.loop-code.out.items ++ main_text (names_of c.args.named.now) c.args.seqs.now c.args.operator x) c.code-item.is) c.loop-code.invariant

@@ -8,5 +8,6 @@ use Rattle.macro_code.proofs.processor.append_medium_lines.Goals as goal
 
 pub loop-code-preserved : goal.loop-code-preserved
 loop-code-preserved c =
-    each (medium_line (names_of c.args.named.now) c.args.name c.args.operator) c.args.seqs.now c.loop-code.code-index c.code-item.result c.loop-code.out.items c.append_medium_line.new.out.items _ c.loop-code-test.true
+    each (medium_line (names_of c.args.named.now) c.args.name c.args.operator) c.args.seqs.now c.loop-code.code-index c.code-item.result
+    c.loop-code.out.items c.append_medium_line.new.out.items _ c.loop-code-test.true
     (c.in_ok-append_medium_line.ensures ∙ ap (λ (x : SeqCode). c.loop-code.out.items ++ medium_line (names_of c.args.named.now) c.args.name c.args.operator x) c.code-item.is) c.loop-code.invariant

@@ -18,7 +18,9 @@ index-requires c =
 pub period_by-requires : goal.period_by-requires
 period_by-requires c =
     subst (λ o. MayHave o (label_seen c.index-vertices-place.result))
-    (sym (table_at (mark_at c.args.marks.now) (length c.args.vertices.now) c.loop-place.place c.in_ok-table.table.items c.index.result.now c.in_ok-table.ensures c.loop-place-test.true c.index.ensures))
+    (sym (table_at (mark_at c.args.marks.now)
+    (length c.args.vertices.now) c.loop-place.place c.in_ok-table.table.items c.index.result.now c.in_ok-table.ensures
+    c.loop-place-test.true c.index.ensures))
     (may_at (mark_at c.args.marks.now) c.args.vertices.now c.loop-place.place c.index-vertices-place.result c.requires.marked c.loop-place-test.true c.index-vertices-place.is)
 
 pub loop-place-preserved : goal.loop-place-preserved

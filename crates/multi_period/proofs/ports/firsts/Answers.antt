@@ -9,4 +9,5 @@ pub loop-vertex-preserved : goal.loop-vertex-preserved
 loop-vertex-preserved c =
     let i = c.loop-vertex.vertex in
     let one = λ (k : ℕ). Of (suc k) 0 in
-    c.in_ok-push.ensures.items ∙ ap₂ (λ (ss : List Source) (k : ℕ). ss ++ Of k 0 ∷ []) c.loop-vertex.invariant (add-one i) ∙ sym (map_push one (numbers_below i) i) ∙ ap (λ (m : ℕ). map one (numbers_below m)) (sym (add-one i))
+    c.in_ok-push.ensures.items ∙ ap₂ (λ (ss : List Source) (k : ℕ). ss ++ Of k 0 ∷ []) c.loop-vertex.invariant (add-one i)
+    ∙ sym (map_push one (numbers_below i) i) ∙ ap (λ (m : ℕ). map one (numbers_below m)) (sym (add-one i))

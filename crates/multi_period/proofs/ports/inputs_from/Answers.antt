@@ -9,4 +9,5 @@ pub loop-input-preserved : goal.loop-input-preserved
 loop-input-preserved c =
     let i = c.loop-input.input in
     let one = λ (k : ℕ). Own (c.args.first + k) in
-    c.in_ok-push.ensures.items ∙ ap (λ (ss : List Source). ss ++ one i ∷ []) c.loop-input.invariant ∙ sym (map_push one (numbers_below i) i) ∙ ap (λ (m : ℕ). map one (numbers_below m)) (sym (add-one i))
+    c.in_ok-push.ensures.items ∙ ap (λ (ss : List Source). ss ++ one i ∷ []) c.loop-input.invariant
+    ∙ sym (map_push one (numbers_below i) i) ∙ ap (λ (m : ℕ). map one (numbers_below m)) (sym (add-one i))

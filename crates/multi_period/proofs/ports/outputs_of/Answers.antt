@@ -9,4 +9,5 @@ pub loop-output-preserved : goal.loop-output-preserved
 loop-output-preserved c =
     let i = c.loop-output.output in
     let one = λ (k : ℕ). Of c.args.vertex k in
-    c.in_ok-push.ensures.items ∙ ap (λ (ss : List Source). ss ++ one i ∷ []) c.loop-output.invariant ∙ sym (map_push one (numbers_below i) i) ∙ ap (λ (m : ℕ). map one (numbers_below m)) (sym (add-one i))
+    c.in_ok-push.ensures.items ∙ ap (λ (ss : List Source). ss ++ one i ∷ []) c.loop-output.invariant
+    ∙ sym (map_push one (numbers_below i) i) ∙ ap (λ (m : ℕ). map one (numbers_below m)) (sym (add-one i))

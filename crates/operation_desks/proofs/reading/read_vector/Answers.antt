@@ -16,6 +16,8 @@ loop-j-preserved c =
     let f : SFits w64 c.get_wide.result = search rules in
     let h : c.loop-j.j < length (vector_at c.args.ins.now c.args.port) = let a = c.loop-j-test.true in let b = c.loop-j.invariant.len_is in omega arith in
     record {
-      ins_are = element_more c.args.registers.now.values c.args.at c.args.port c.args.ins.now c.loop-j.ins c.set.new.self c.loop-j.j (to_z w64 (of_z w64 c.get_wide.result)) c.requires.port c.loop-j.invariant.ins_are h (to_z-of_z w64 c.get_wide.result f ∙ c.get_wide.ensures) c.set.ensures;
+      ins_are = element_more c.args.registers.now.values c.args.at c.args.port c.args.ins.now c.loop-j.ins c.set.new.self c.loop-j.j
+          (to_z w64 (of_z w64 c.get_wide.result)) c.requires.port c.loop-j.invariant.ins_are h
+          (to_z-of_z w64 c.get_wide.result f ∙ c.get_wide.ensures) c.set.ensures;
       len_is = c.loop-j.invariant.len_is;
     }

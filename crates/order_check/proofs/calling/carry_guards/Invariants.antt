@@ -7,4 +7,5 @@ use Rattle.order_check.proofs.calling.carry_guards.Given as goal
 
 -- the guards that are left decide
 abbrev pub invariant-loop-place : goal.invariant-loop-place
-invariant-loop-place l = all_at (λ (k : ℕ) (d : Guard). carries l.program l.vertices d.source (slice_get l.ins k)) l.place (drop l.place l.guards) ≡ all_at (λ (k : ℕ) (d : Guard). carries l.program l.vertices d.source (slice_get l.ins k)) 0 l.guards
+invariant-loop-place l = all_at (λ (k : ℕ) (d : Guard). carries l.program l.vertices d.source (slice_get l.ins k)) l.place
+    (drop l.place l.guards) ≡ all_at (λ (k : ℕ) (d : Guard). carries l.program l.vertices d.source (slice_get l.ins k)) 0 l.guards

@@ -7,4 +7,5 @@ use Rattle.order_check.proofs.calling.carry_inputs.Given as goal
 
 -- the sources that are left decide
 abbrev pub invariant-loop-place : goal.invariant-loop-place
-invariant-loop-place l = all_at (λ (k : ℕ) (x : Source). carries l.program l.vertices x (slice_get l.ins k)) l.place (drop l.place l.sources) ≡ all_at (λ (k : ℕ) (x : Source). carries l.program l.vertices x (slice_get l.ins k)) 0 l.sources
+invariant-loop-place l = all_at (λ (k : ℕ) (x : Source). carries l.program l.vertices x (slice_get l.ins k)) l.place
+    (drop l.place l.sources) ≡ all_at (λ (k : ℕ) (x : Source). carries l.program l.vertices x (slice_get l.ins k)) 0 l.sources

@@ -16,5 +16,6 @@ returns-in-None c =
 pub loop-operator-preserved : goal.loop-operator-preserved
 loop-operator-preserved c =
     let codes = c.args.seqs.now in
-    sym (range_passed (is_sequence codes) (sequences_of c.args.media.now) c.loop-operator.operator c.args.operators c.loop-operator.next (Some c.in-Some.after) c.loop-operator-test.true (sym c.in-Some.ensures))
+    sym (range_passed (is_sequence codes) (sequences_of c.args.media.now) c.loop-operator.operator c.args.operators c.loop-operator.next
+    (Some c.in-Some.after) c.loop-operator-test.true (sym c.in-Some.ensures))
     ∙ c.loop-operator.invariant

@@ -8,4 +8,5 @@ use Rattle.order_check.proofs.sequencing.are_sequences.Given as goal
 -- the operators that are left decide
 abbrev pub invariant-loop-operator : goal.invariant-loop-operator
 invariant-loop-operator l =
-    passed (is_sequence l.seqs) l.next (flat_map (sequences_of l.media) (range_with_len l.operator (l.operators - l.operator))) ≡ passed (is_sequence l.seqs) 0 (flat_map (sequences_of l.media) (range_with_len 0 l.operators))
+    passed (is_sequence l.seqs) l.next (flat_map (sequences_of l.media) (range_with_len l.operator (l.operators - l.operator)))
+    ≡ passed (is_sequence l.seqs) 0 (flat_map (sequences_of l.media) (range_with_len 0 l.operators))

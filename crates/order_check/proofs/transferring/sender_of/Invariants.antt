@@ -5,4 +5,5 @@ use Rattle.order_check.proofs.transferring.sender_of.Given as goal
 
 -- the sequences that are left decide
 abbrev pub invariant-loop-sequence : goal.invariant-loop-sequence
-invariant-loop-sequence l = l.sequence + position_or_len (sends_at l.program l.crossing.medium l.crossing.number) (drop l.sequence l.program.seqs) ≡ position_or_len (sends_at l.program l.crossing.medium l.crossing.number) l.program.seqs
+invariant-loop-sequence l = l.sequence + position_or_len (sends_at l.program l.crossing.medium l.crossing.number)
+    (drop l.sequence l.program.seqs) ≡ position_or_len (sends_at l.program l.crossing.medium l.crossing.number) l.program.seqs

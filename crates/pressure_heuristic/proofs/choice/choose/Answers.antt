@@ -20,7 +20,8 @@ loop-op-preserved c =
     record {
       best = c.greater-best.ensures.best;
       leads = c.greater-best.ensures.leads (drop (c.loop-op.op-index + 1) c.ready-ready.result.now)
-          ∙ ap (λ (l : List ℕ). first_greatest (urgency (task_of d) (acts_of d.decisions)) (with_best c.loop-op.best l)) (sym (drop_more c.ready-ready.result.now c.loop-op.op-index 0 c.loop-op-test.true))
+          ∙ ap (λ (l : List ℕ). first_greatest (urgency (task_of d) (acts_of d.decisions)) (with_best c.loop-op.best l))
+          (sym (drop_more c.ready-ready.result.now c.loop-op.op-index 0 c.loop-op-test.true))
           ∙ c.loop-op.invariant.leads;
     }
 
@@ -29,4 +30,5 @@ returns c =
     let d = c.args.draft.now in
     subst (λ (vs : List ℕ). IsGreatestChoice (task_of d) (acts_of d.decisions) vs c.loop-op.best) c.ready-ready.ensures
     (leads_last (task_of d) (acts_of d.decisions) c.ready-ready.result.now c.loop-op.best c.loop-op.invariant.best
-    (ap (λ (l : List ℕ). first_greatest (urgency (task_of d) (acts_of d.decisions)) (with_best c.loop-op.best l)) (sym (drop_all c.loop-op.op-index c.ready-ready.result.now c.loop-op-test.false)) ∙ c.loop-op.invariant.leads))
+    (ap (λ (l : List ℕ). first_greatest (urgency (task_of d) (acts_of d.decisions)) (with_best c.loop-op.best l))
+    (sym (drop_all c.loop-op.op-index c.ready-ready.result.now c.loop-op-test.false)) ∙ c.loop-op.invariant.leads))

@@ -10,5 +10,6 @@ use Rattle.pressure_heuristic.proofs.choice.choose.Given as goal
 abbrev pub invariant-loop-op : goal.invariant-loop-op
 invariant-loop-op l = record {
   best : IsBest (task_of l.draft) (acts_of l.draft.decisions) l.best;
-  leads : first_greatest (urgency (task_of l.draft) (acts_of l.draft.decisions)) (with_best l.best (drop l.op-index l.ready)) ≡ first_greatest (urgency (task_of l.draft) (acts_of l.draft.decisions)) l.ready;
+  leads : first_greatest (urgency (task_of l.draft) (acts_of l.draft.decisions)) (with_best l.best (drop l.op-index l.ready))
+      ≡ first_greatest (urgency (task_of l.draft) (acts_of l.draft.decisions)) l.ready;
 }

@@ -17,9 +17,11 @@ loop-operator-preserved-then-may_place c =
     let k = c.loop-operator.operator in
     let within = c.loop-operator.invariant.within in
     let more = c.loop-operator-test.true in
-    let may = (and_parts (is_candidate (task_of d) (acts_of d.decisions) c.args.op) (may_stand (task_of d) (acts_of d.decisions) c.args.op (k - 1)) (sym c.may_place.ensures ∙ c.if-may_place.true)).1 in
+    let may = (and_parts (is_candidate (task_of d) (acts_of d.decisions) c.args.op)
+    (may_stand (task_of d) (acts_of d.decisions) c.args.op (k - 1)) (sym c.may_place.ensures ∙ c.if-may_place.true)).1 in
     record {
-      best = subst (λ (s : Stand). IsLeastStand (task_of d) (acts_of d.decisions) c.args.op (filter (may_stand (task_of d) (acts_of d.decisions) c.args.op) (range_with_len (k - 1) (n - (k - 1)))) (Some s)) (sym c.lower.ensures)
+      best = subst (λ (s : Stand). IsLeastStand (task_of d) (acts_of d.decisions) c.args.op
+          (filter (may_stand (task_of d) (acts_of d.decisions) c.args.op) (range_with_len (k - 1) (n - (k - 1)))) (Some s)) (sym c.lower.ensures)
           (stand_yes (task_of d) (acts_of d.decisions) c.args.op n (k - 1) k _ c.loop-operator.best (omega arith) (omega arith) may c.pressure-pressure.ensures c.loop-operator.invariant.best);
       within = omega arith;
     }

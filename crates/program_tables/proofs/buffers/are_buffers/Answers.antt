@@ -12,4 +12,5 @@ pub loop-buffer-preserved : goal.loop-buffer-preserved
 loop-buffer-preserved c = below_more (λ b. is_buffer c.args.program.now b ≡ true) c.loop-buffer.buffer c.loop-buffer.invariant (sym c.is_right.ensures ∙ c.if-not-is_right.false)
 
 pub returns : goal.returns
-returns c = all_pass (is_buffer c.args.program.now) (length c.args.program.now.buffers) (λ b l. c.loop-buffer.invariant b (let n = ap length c.as_slice-buffer-end.ensures in let m = c.loop-buffer-test.false in omega arith))
+returns c = all_pass (is_buffer c.args.program.now) (length c.args.program.now.buffers)
+    (λ b l. c.loop-buffer.invariant b (let n = ap length c.as_slice-buffer-end.ensures in let m = c.loop-buffer-test.false in omega arith))

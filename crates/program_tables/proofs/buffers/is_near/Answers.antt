@@ -12,5 +12,7 @@ returns c =
     let w = c.requires.writes in
     let r = c.requires.reads in
     c.both_near.ensures
-    ∙ (λ i. list_all (λ (m : Mark). is_operator (slice_get c.args.program.now.buffers c.args.buffer) (operator c.args.program.now m.sequence)) (w i) && list_all (λ (m : Mark). is_operator (slice_get c.args.program.now.buffers c.args.buffer) (operator c.args.program.now m.sequence)) (r i))
+    ∙ (λ i. list_all (λ (m : Mark). is_operator (slice_get c.args.program.now.buffers c.args.buffer)
+    (operator c.args.program.now m.sequence)) (w i)
+    && list_all (λ (m : Mark). is_operator (slice_get c.args.program.now.buffers c.args.buffer) (operator c.args.program.now m.sequence)) (r i))
     ∙ near_is c.args.program.now c.args.buffer

@@ -11,5 +11,7 @@ loop-code-preserved c =
     let k = c.loop-code.code-index in
     let x = c.code-item.result in
     let same = c.as_slice-code-items.ensures in
-    mapped (λ (q : SeqCode). numbers_from 0 q.turn) c.args.program.now.seqs k x c.new.result c.loop-code.rows.items c.push.new.self.items _ (subst (λ (l : List SeqCode). k < length l) same c.loop-code-test.true)
-    (c.code-item.is ∙ ap (λ (l : List SeqCode). get_or l k x) same) (c.new.ensures ∙ c.in_ok-row.ensures ∙ ap (λ (l : List Instr). numbers_from 0 l) c.as_slice.ensures) c.in_ok-push.ensures.items c.loop-code.invariant
+    mapped (λ (q : SeqCode). numbers_from 0 q.turn) c.args.program.now.seqs k x c.new.result c.loop-code.rows.items c.push.new.self.items _
+    (subst (λ (l : List SeqCode). k < length l) same c.loop-code-test.true)
+    (c.code-item.is ∙ ap (λ (l : List SeqCode). get_or l k x) same)
+    (c.new.ensures ∙ c.in_ok-row.ensures ∙ ap (λ (l : List Instr). numbers_from 0 l) c.as_slice.ensures) c.in_ok-push.ensures.items c.loop-code.invariant

@@ -12,4 +12,6 @@ returns-in-Some c =
 
 pub returns-in-None : goal.returns-in-None
 returns-in-None c =
-    no_number c.args.program.now c.args.sequence c.args.at (ap (λ (t : List (List ℕ)). slice_get t c.args.sequence) (sym c.requires.table) ∙ slice_get_past c.args.numbers.now c.args.sequence c.in-None.ensures.lookup.3) c.requires.within
+    no_number c.args.program.now c.args.sequence c.args.at
+    (ap (λ (t : List (List ℕ)). slice_get t c.args.sequence) (sym c.requires.table)
+    ∙ slice_get_past c.args.numbers.now c.args.sequence c.in-None.ensures.lookup.3) c.requires.within

@@ -15,4 +15,5 @@ returns-in-Some c =
 
 pub returns-in-None : goal.returns-in-None
 returns-in-None c =
-    no_place c.args.program.now c.args.sequence c.args.number (ap (λ (t : List (List ℕ)). slice_get t c.args.sequence) (sym c.requires) ∙ slice_get_past c.args.places.now c.args.sequence c.in-None.ensures.lookup.3)
+    no_place c.args.program.now c.args.sequence c.args.number
+    (ap (λ (t : List (List ℕ)). slice_get t c.args.sequence) (sym c.requires) ∙ slice_get_past c.args.places.now c.args.sequence c.in-None.ensures.lookup.3)

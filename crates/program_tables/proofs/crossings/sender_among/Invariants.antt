@@ -3,4 +3,5 @@ use Rattle.program_tables.specs.Crossings.{first_where, sends_in}
 use Rattle.program_tables.proofs.crossings.sender_among.Given as goal
 
 abbrev pub invariant-loop-mark : goal.invariant-loop-mark
-invariant-loop-mark l = first_where (length l.program.seqs) (sends_in l.program l.number) (drop l.mark-index l.communicators) ≡ first_where (length l.program.seqs) (sends_in l.program l.number) l.communicators
+invariant-loop-mark l = first_where (length l.program.seqs) (sends_in l.program l.number) (drop l.mark-index l.communicators)
+    ≡ first_where (length l.program.seqs) (sends_in l.program l.number) l.communicators

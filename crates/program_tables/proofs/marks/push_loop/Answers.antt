@@ -9,5 +9,6 @@ pub loop-at-preserved : goal.loop-at-preserved
 loop-at-preserved c =
     let s = c.args.sequence in
     let k = c.loop-at.at in
-    counted (λ (n : ℕ) (x : Instr). marks_at s n 0 (named c.args.role x)) (marks_in c.args.role s) (λ n x xs. refl) c.args.list.now k c.index-list-at.result c.loop-at.out.items c.push_named.new.out.items _
+    counted (λ (n : ℕ) (x : Instr). marks_at s n 0 (named c.args.role x)) (marks_in c.args.role s)
+    (λ n x xs. refl) c.args.list.now k c.index-list-at.result c.loop-at.out.items c.push_named.new.out.items _
     c.loop-at-test.true c.index-list-at.is (c.in_ok-push_named.ensures ∙ ap (λ (l : List ℕ). c.loop-at.out.items ++ marks_at s k 0 l) c.numbers_named.ensures) c.loop-at.invariant

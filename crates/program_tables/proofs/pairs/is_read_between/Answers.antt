@@ -13,5 +13,6 @@ returns c =
     let s = c.of-2.ensures ∙ c.requires.tables.empty_signalled c.args.pair c.requires.within in
     let r = c.requires.reads in
     c.is_read_within.ensures
-    ∙ (λ i. lone c.args.reading.sequence (t i) && lone c.args.reading.sequence (s i) && list_all (λ (m : Mark). implies (nat_eq m.sequence c.args.reading.sequence) (nat_lt (first_at (t i)) m.at && nat_lt m.at (first_at (s i)))) (r i))
+    ∙ (λ i. lone c.args.reading.sequence (t i) && lone c.args.reading.sequence (s i)
+    && list_all (λ (m : Mark). implies (nat_eq m.sequence c.args.reading.sequence) (nat_lt (first_at (t i)) m.at && nat_lt m.at (first_at (s i)))) (r i))
     ∙ read_is c.args.program.now c.args.pair c.args.reading.buffer c.args.reading.sequence

@@ -6,4 +6,5 @@ use Rattle.program_walks.proofs.searches.caller_of.Given as goal
 
 -- the sequences that are left decide
 abbrev pub invariant-loop-sequence : goal.invariant-loop-sequence
-invariant-loop-sequence l = l.sequence + position_or_len (λ (q : SeqCode). list_any (calls l.operation) q.turn) (drop l.sequence l.program.seqs) ≡ position_or_len (λ (q : SeqCode). list_any (calls l.operation) q.turn) l.program.seqs
+invariant-loop-sequence l = l.sequence + position_or_len (λ (q : SeqCode). list_any (calls l.operation) q.turn)
+    (drop l.sequence l.program.seqs) ≡ position_or_len (λ (q : SeqCode). list_any (calls l.operation) q.turn) l.program.seqs

@@ -11,7 +11,8 @@ loop-step-init c =
 pub loop-step-preserved : goal.loop-step-preserved
 loop-step-preserved c =
     subst (λ (w : List Arc). IsWalk c.args.given.now c.args.lacking (c.loop-step._step + 1) w c.in-Some.next) (sym c.in_ok-push.ensures.items)
-    (walk_goes_on c.args.given.now c.args.lacking c.loop-step._step c.loop-step.way.items c.loop-step.arc c.loop-step.invariant c.in-Some.next c.if-arc-lacking.false (sym c.given_of.ensures ∙ c.in-Some.is))
+    (walk_goes_on c.args.given.now c.args.lacking c.loop-step._step c.loop-step.way.items c.loop-step.arc c.loop-step.invariant
+    c.in-Some.next c.if-arc-lacking.false (sym c.given_of.ensures ∙ c.in-Some.is))
 
 pub returns-then-arc-lacking-clause-some : goal.returns-then-arc-lacking-clause-some
 returns-then-arc-lacking-clause-some c =

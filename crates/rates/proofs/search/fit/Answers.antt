@@ -30,7 +30,8 @@ returns-in-Some-2 c =
     let closes : Closes c.loop-lacking.given.items c.in-Some.lacking c.in-Some-2.cycle =
     subst (λ (w : List (Option Arc)). Closes w c.in-Some.lacking c.in-Some-2.cycle) c.as_slice-in-Some.ensures.value
     (subst (λ (o : Option (List Arc)). IfSome o (Closes c.as_slice-in-Some.result.now c.in-Some.lacking)) c.in-Some-2.is c.in_ok-cycle.ensures.some) in
-    over c.args.arcs.now c.args.long.now c.args.rate c.requires.searchable c.loop-lacking.offsets.items c.loop-lacking.given.items c.loop-lacking.invariant c.in-Some.lacking lacks c.in-Some-2.cycle closes
+    over c.args.arcs.now c.args.long.now c.args.rate c.requires.searchable c.loop-lacking.offsets.items c.loop-lacking.given.items
+    c.loop-lacking.invariant c.in-Some.lacking lacks c.in-Some-2.cycle closes
 
 pub next_offset-requires-clause-low : goal.next_offset-requires-clause-low
 next_offset-requires-clause-low c =
@@ -40,7 +41,8 @@ next_offset-requires-clause-low c =
     let z = low c.args.arcs.now c.args.long.now c.args.rate c.requires.searchable c.loop-lacking.offsets.items c.loop-lacking.given.items c.loop-lacking.invariant c.in-Some.lacking.arc.act there in
     let here = ap (λ (w : List ℕ). at w c.in-Some.lacking.arc.act) c.as_slice-in-Some-2.ensures.value in
     let few = c.requires.searchable.few in
-    let top : c.args.rate.reactions * (length c.args.arcs.now * 2 ^ 30) ≤ 2 ^ 30 * (2 ^ 22 * 2 ^ 30) = mul-le c.args.rate.reactions (length c.args.arcs.now * 2 ^ 30) (2 ^ 30) (2 ^ 22 * 2 ^ 30) c.requires.low (omega arith) in
+    let top : c.args.rate.reactions * (length c.args.arcs.now * 2 ^ 30)
+    ≤ 2 ^ 30 * (2 ^ 22 * 2 ^ 30) = mul-le c.args.rate.reactions (length c.args.arcs.now * 2 ^ 30) (2 ^ 30) (2 ^ 22 * 2 ^ 30) c.requires.low (omega arith) in
     omega arith
 
 pub loop-lacking-preserved : goal.loop-lacking-preserved
@@ -50,11 +52,15 @@ loop-lacking-preserved c =
     let misses : Misses c.loop-lacking.given.items c.in-Some.lacking =
     subst (λ (w : List (Option Arc)). Misses w c.in-Some.lacking) c.as_slice-in-Some.ensures.value
     (subst (λ (o : Option (List Arc)). IfNone o (Misses c.as_slice-in-Some.result.now c.in-Some.lacking)) c.in_default-2.is c.in_ok-cycle.ensures.none) in
-    let told : c.next_offset.result + c.in-Some.lacking.arc.lag * c.args.rate.ticks ≡ at c.as_slice-in-Some-2.result.now c.in-Some.lacking.arc.act + c.args.rate.reactions * at c.args.long.now c.in-Some.lacking.act = c.next_offset.ensures in
+    let told : c.next_offset.result + c.in-Some.lacking.arc.lag * c.args.rate.ticks
+    ≡ at c.as_slice-in-Some-2.result.now c.in-Some.lacking.arc.act + c.args.rate.reactions * at c.args.long.now c.in-Some.lacking.act =
+    c.next_offset.ensures in
     let here = ap (λ (w : List ℕ). at w c.in-Some.lacking.arc.act) c.as_slice-in-Some-2.ensures.value in
-    let is : c.next_offset.result + c.in-Some.lacking.arc.lag * c.args.rate.ticks ≡ at c.loop-lacking.offsets.items c.in-Some.lacking.arc.act + c.args.rate.reactions * at c.args.long.now c.in-Some.lacking.act =
+    let is : c.next_offset.result + c.in-Some.lacking.arc.lag * c.args.rate.ticks
+    ≡ at c.loop-lacking.offsets.items c.in-Some.lacking.arc.act + c.args.rate.reactions * at c.args.long.now c.in-Some.lacking.act =
     told ∙ ap (λ (n : ℕ). n + c.args.rate.reactions * at c.args.long.now c.in-Some.lacking.act) here in
-    goes_on c.args.arcs.now c.args.long.now c.args.rate c.requires.searchable c.loop-lacking.offsets.items c.loop-lacking.given.items c.loop-lacking.invariant c.in-Some.lacking lacks misses c.next_offset.result is
+    goes_on c.args.arcs.now c.args.long.now c.args.rate c.requires.searchable c.loop-lacking.offsets.items c.loop-lacking.given.items
+    c.loop-lacking.invariant c.in-Some.lacking lacks misses c.next_offset.result is
 
 pub loop-lacking-smaller : goal.loop-lacking-smaller
 loop-lacking-smaller c =
@@ -63,13 +69,18 @@ loop-lacking-smaller c =
     let misses : Misses c.loop-lacking.given.items c.in-Some.lacking =
     subst (λ (w : List (Option Arc)). Misses w c.in-Some.lacking) c.as_slice-in-Some.ensures.value
     (subst (λ (o : Option (List Arc)). IfNone o (Misses c.as_slice-in-Some.result.now c.in-Some.lacking)) c.in_default-2.is c.in_ok-cycle.ensures.none) in
-    let told : c.next_offset.result + c.in-Some.lacking.arc.lag * c.args.rate.ticks ≡ at c.as_slice-in-Some-2.result.now c.in-Some.lacking.arc.act + c.args.rate.reactions * at c.args.long.now c.in-Some.lacking.act = c.next_offset.ensures in
+    let told : c.next_offset.result + c.in-Some.lacking.arc.lag * c.args.rate.ticks
+    ≡ at c.as_slice-in-Some-2.result.now c.in-Some.lacking.arc.act + c.args.rate.reactions * at c.args.long.now c.in-Some.lacking.act =
+    c.next_offset.ensures in
     let here = ap (λ (w : List ℕ). at w c.in-Some.lacking.arc.act) c.as_slice-in-Some-2.ensures.value in
-    let is : c.next_offset.result + c.in-Some.lacking.arc.lag * c.args.rate.ticks ≡ at c.loop-lacking.offsets.items c.in-Some.lacking.arc.act + c.args.rate.reactions * at c.args.long.now c.in-Some.lacking.act =
+    let is : c.next_offset.result + c.in-Some.lacking.arc.lag * c.args.rate.ticks
+    ≡ at c.loop-lacking.offsets.items c.in-Some.lacking.arc.act + c.args.rate.reactions * at c.args.long.now c.in-Some.lacking.act =
     told ∙ ap (λ (n : ℕ). n + c.args.rate.reactions * at c.args.long.now c.in-Some.lacking.act) here in
-    less c.args.arcs.now c.args.long.now c.args.rate c.requires.searchable c.loop-lacking.offsets.items c.loop-lacking.given.items c.loop-lacking.invariant c.in-Some.lacking lacks c.next_offset.result is
+    less c.args.arcs.now c.args.long.now c.args.rate c.requires.searchable c.loop-lacking.offsets.items c.loop-lacking.given.items
+    c.loop-lacking.invariant c.in-Some.lacking lacks c.next_offset.result is
     (slice_set c.loop-lacking.given.items c.in-Some.lacking.act (Some c.in-Some.lacking.arc))
-    (goes_on c.args.arcs.now c.args.long.now c.args.rate c.requires.searchable c.loop-lacking.offsets.items c.loop-lacking.given.items c.loop-lacking.invariant c.in-Some.lacking lacks misses c.next_offset.result is)
+    (goes_on c.args.arcs.now c.args.long.now c.args.rate c.requires.searchable c.loop-lacking.offsets.items c.loop-lacking.given.items
+    c.loop-lacking.invariant c.in-Some.lacking lacks misses c.next_offset.result is)
 
 pub returns : goal.returns
 returns c =

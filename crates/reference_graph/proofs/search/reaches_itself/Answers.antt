@@ -11,4 +11,5 @@ returns c =
     let end : c.loop-next.next ≡ length links = omega arith in
     let reached : IsReached links c.args.a marks c.loop-next.queue.items (length links) =
     subst (λ (n : ℕ). IsReached links c.args.a marks c.loop-next.queue.items n) end c.loop-next.invariant.reached in
-    c.index.ensures ∙ get_or_default marks c.args.a c.index.result.now false (omega (arith, c.loop-next.invariant.same, c.requires.place)) ∙ reached_all links c.args.a marks c.loop-next.queue.items c.loop-next.invariant.same reached
+    c.index.ensures ∙ get_or_default marks c.args.a c.index.result.now false (omega (arith, c.loop-next.invariant.same, c.requires.place))
+    ∙ reached_all links c.args.a marks c.loop-next.queue.items c.loop-next.invariant.same reached

@@ -33,4 +33,5 @@ returns-clause-alone c =
     let test = c.loop-decision-test.false in
     let count = before.count in
     let none : count_left (task_of d) d.decisions ≤ 0 = omega arith in
-    alone_of (task_of d) (task_of c.args.draft) c.args.operator d.decisions before.same (λ all. done_of (task_of d) d.decisions none) before.so c.whole-2.result c.whole-2.ensures.done c.whole-2.ensures.same
+    alone_of (task_of d) (task_of c.args.draft) c.args.operator d.decisions before.same
+    (λ all. done_of (task_of d) d.decisions none) before.so c.whole-2.result c.whole-2.ensures.done c.whole-2.ensures.same

@@ -9,9 +9,13 @@ use Rattle.self_timed.proofs.latency.append_from.Goals as goal
 pub returns-then-not-senses : goal.returns-then-not-senses
 returns-then-not-senses c =
     sym (append-nil c.args.list.now.items)
-    ∙ ap (λ (l : List Latency). c.args.list.now.items ++ l) (sym (from_is c.args.vertices.now c.args.dates.now c.args.op c.index-vertices-op.result false c.requires.here c.index-vertices-op.is (c.if-not-senses.ensures ∙ ap (λ (x : Vertex). senses x.kind) (sym c.index-vertices-op.is))))
+    ∙ ap (λ (l : List Latency). c.args.list.now.items ++ l)
+    (sym (from_is c.args.vertices.now c.args.dates.now c.args.op c.index-vertices-op.result false c.requires.here
+    c.index-vertices-op.is (c.if-not-senses.ensures ∙ ap (λ (x : Vertex). senses x.kind) (sym c.index-vertices-op.is))))
 
 pub returns : goal.returns
 returns c =
     c.in_ok-append_reached.ensures
-    ∙ ap (λ (l : List Latency). c.args.list.now.items ++ l) (sym (from_is c.args.vertices.now c.args.dates.now c.args.op c.index-vertices-op.result true c.requires.here c.index-vertices-op.is (c.if-not-senses.ensures ∙ ap (λ (x : Vertex). senses x.kind) (sym c.index-vertices-op.is))))
+    ∙ ap (λ (l : List Latency). c.args.list.now.items ++ l)
+    (sym (from_is c.args.vertices.now c.args.dates.now c.args.op c.index-vertices-op.result true c.requires.here c.index-vertices-op.is
+    (c.if-not-senses.ensures ∙ ap (λ (x : Vertex). senses x.kind) (sym c.index-vertices-op.is))))

@@ -5,4 +5,5 @@ use Rattle.self_timed.proofs.reach.guards_read.Given as goal
 
 -- whether one of what is left does is whether one of all does
 abbrev pub invariant-loop-guard : goal.invariant-loop-guard
-invariant-loop-guard l = list_any (λ u. nat_eq u l.on || at l.table u) (map (λ x. x.source.vertex) (drop l.guard-index l.guards)) ≡ list_any (λ u. nat_eq u l.on || at l.table u) (map (λ x. x.source.vertex) l.guards)
+invariant-loop-guard l = list_any (λ u. nat_eq u l.on || at l.table u) (map (λ x. x.source.vertex) (drop l.guard-index l.guards))
+    ≡ list_any (λ u. nat_eq u l.on || at l.table u) (map (λ x. x.source.vertex) l.guards)

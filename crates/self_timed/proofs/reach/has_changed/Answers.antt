@@ -20,7 +20,9 @@ loop-op-preserved c =
       right = λ rounds h. turn_more vs v c.requires.acyclic rounds i table after c.loop-op-test.true here is (c.loop-op.invariant.right rounds h);
       settled = λ e. (elim c.if-changed.branch [
         | then-changed w ↦ absurd (true≢false (sym w.if-changed.true ∙ sym w.changed-is ∙ e))
-        | else-changed w ↦ settled_more vs v i table after here is (kept_is table after i (renewed vs v table i) here is (c.renew-renewed.ensures.same (sym w.changed-is ∙ e))) (c.loop-op.invariant.settled w.if-changed.false)
+        | else-changed w ↦ settled_more vs v i table after here is
+            (kept_is table after i (renewed vs v table i) here is (c.renew-renewed.ensures.same (sym w.changed-is ∙ e)))
+            (c.loop-op.invariant.settled w.if-changed.false)
       ]);
     }
 

@@ -27,5 +27,6 @@ returns c =
     let v = c.args.on in
     record {
       size = c.loop-turn.invariant.size;
-      each = λ w l. subst (λ (n : ℕ). AreRight vs v n c.loop-turn.table) (let f : c.loop-turn._turn ≡ length vs = omega arith in f) c.loop-turn.invariant.right w (all_done vs v c.requires.acyclic w l);
+      each = λ w l. subst (λ (n : ℕ). AreRight vs v n c.loop-turn.table)
+          (let f : c.loop-turn._turn ≡ length vs = omega arith in f) c.loop-turn.invariant.right w (all_done vs v c.requires.acyclic w l);
     }

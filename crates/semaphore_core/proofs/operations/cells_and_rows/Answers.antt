@@ -11,5 +11,6 @@ returns-clause-lens c = ap (λ (r : Reactions). r.lens) c.in_ok-rows.ensures ∙
 
 pub returns-clause-rows : goal.returns-clause-rows
 returns-clause-rows c =
-    let lens : c.as_slice.result.now ≡ actuator_lens c.args.job.now.graph c.args.job.now.graph.vertices = c.as_slice.ensures ∙ c.in_ok-lens.ensures ∙ ap (λ (g : Graph). actuator_lens g g.vertices) c.flat.ensures in
+    let lens : c.as_slice.result.now ≡ actuator_lens c.args.job.now.graph c.args.job.now.graph.vertices = c.as_slice.ensures
+    ∙ c.in_ok-lens.ensures ∙ ap (λ (g : Graph). actuator_lens g g.vertices) c.flat.ensures in
     ap (λ (r : Reactions). r.reactions) c.in_ok-rows.ensures ∙ (λ i. replicate (c.reactions.ensures i) (map zeros (lens i)))

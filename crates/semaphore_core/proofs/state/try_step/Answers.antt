@@ -13,7 +13,9 @@ pub make-requires-clause-words : goal.make-requires-clause-words
 make-requires-clause-words c = word c.args.job.now c.args.state.now c.requires.opened c.args.seq c.requires.there c.in-Some.step (sym c.next.ensures ∙ c.in-Some.is)
 
 pub make-requires-clause-reaction : goal.make-requires-clause-reaction
-make-requires-clause-reaction c = subst (λ (k : ℕ). NeedsReaction c.in-Some.step k (length c.args.job.now.sensors)) (sym c.reaction-reaction.ensures) (needs c.args.job.now c.args.state.now c.requires.opened c.args.seq c.requires.there c.in-Some.step (sym c.next.ensures ∙ c.in-Some.is))
+make-requires-clause-reaction c =
+    subst (λ (k : ℕ). NeedsReaction c.in-Some.step k (length c.args.job.now.sensors)) (sym c.reaction-reaction.ensures)
+    (needs c.args.job.now c.args.state.now c.requires.opened c.args.seq c.requires.there c.in-Some.step (sym c.next.ensures ∙ c.in-Some.is))
 
 pub returns-in-None-clause-answer : goal.returns-in-None-clause-answer
 returns-in-None-clause-answer c = sym (is_finished c.args.job.now c.args.state.now c.requires.opened c.args.seq c.requires.there (sym c.next.ensures ∙ c.in-None.is))

@@ -9,4 +9,6 @@ use Rattle.sequence_build.proofs.around.opening_of.Given as goal
 
 -- what is left makes the whole
 abbrev pub invariant-loop-pair_number : goal.invariant-loop-pair_number
-invariant-loop-pair_number l = l.out.items ++ flat_map (λ q. replicate l.depth (Pre0 q)) (numbers_where (λ (p : Pair). nat_eq p.reader l.sequence) l.pair_number (drop l.pair_number l.pairs)) ≡ opening_with l.depth l.sequence l.pairs
+invariant-loop-pair_number l = l.out.items
+    ++ flat_map (λ q. replicate l.depth (Pre0 q))
+    (numbers_where (λ (p : Pair). nat_eq p.reader l.sequence) l.pair_number (drop l.pair_number l.pairs)) ≡ opening_with l.depth l.sequence l.pairs

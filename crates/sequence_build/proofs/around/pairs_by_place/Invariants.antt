@@ -7,5 +7,6 @@ use Rattle.sequence_build.proofs.around.pairs_by_place.Given as goal
 abbrev pub invariant-loop-pair_number : goal.invariant-loop-pair_number
 invariant-loop-pair_number l = record {
   many : vec_len l.lists ≡ l.count;
-  left : (a : ℕ) → a < l.count → list_at l.lists.items a ++ numbers_where (is_then l.moment l.sequence a) l.pair_number (drop l.pair_number l.pairs) ≡ numbers_where (is_then l.moment l.sequence a) 0 l.pairs;
+  left : (a : ℕ) → a < l.count → list_at l.lists.items a
+      ++ numbers_where (is_then l.moment l.sequence a) l.pair_number (drop l.pair_number l.pairs) ≡ numbers_where (is_then l.moment l.sequence a) 0 l.pairs;
 }

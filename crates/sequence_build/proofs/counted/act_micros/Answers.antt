@@ -13,5 +13,6 @@ returns c =
     let ds = c.args.decisions.now in
     c.loop-decision.invariant
     ∙ ap (λ (n : ℕ). min n (2 ^ 128 - 1))
-    (ap (sum_by (λ (d : Decision). step_micros c.args.bare.now (flat_map (steps_at c.args.site.now) (acts_of (d ∷ []))))) (take_all c.loop-decision.decision-index ds (omega (arith, c.loop-decision-test.false)))
+    (ap (sum_by (λ (d : Decision). step_micros c.args.bare.now (flat_map (steps_at c.args.site.now) (acts_of (d ∷ [])))))
+    (take_all c.loop-decision.decision-index ds (omega (arith, c.loop-decision-test.false)))
     ∙ sym (acts_are c.args.bare.now (steps_at c.args.site.now) ds))

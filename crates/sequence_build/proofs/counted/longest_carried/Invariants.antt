@@ -5,4 +5,5 @@ use Rattle.sequence_build.specs.Counted.{longest}
 use Rattle.sequence_build.proofs.counted.longest_carried.Given as goal
 
 abbrev pub invariant-loop-transfer : goal.invariant-loop-transfer
-invariant-loop-transfer l = max l.longest (longest l.bare (numbering l.site) l.medium (map carry (drop l.transfer-index l.transfers))) ≡ longest l.bare (numbering l.site) l.medium (map carry l.transfers)
+invariant-loop-transfer l = max l.longest (longest l.bare (numbering l.site) l.medium (map carry (drop l.transfer-index l.transfers)))
+    ≡ longest l.bare (numbering l.site) l.medium (map carry l.transfers)

@@ -9,4 +9,7 @@ use Rattle.sequence_build.proofs.counted.wire_len.Goals as goal
 pub loop-decision-preserved : goal.loop-decision-preserved
 loop-decision-preserved c =
     wire_more c.args.bare.now (numbering c.args.site.now) c.args.medium c.args.decisions.now c.loop-decision.decision-index c.decision-item.result c.longest_carried.result c.loop-decision.longest _ _
-    c.loop-decision-test.true c.decision-item.is (c.longest_carried.ensures ∙ ap (λ l. longest c.args.bare.now (numbering c.args.site.now) c.args.medium (map carry l)) c.as_slice.ensures) c.max-longest.ensures c.loop-decision.invariant
+    c.loop-decision-test.true c.decision-item.is
+    (c.longest_carried.ensures ∙ ap
+    (λ l. longest c.args.bare.now (numbering c.args.site.now) c.args.medium
+    (map carry l)) c.as_slice.ensures) c.max-longest.ensures c.loop-decision.invariant

@@ -13,5 +13,6 @@ pub returns : goal.returns
 returns c =
     limit_counted c.args.ground.now.bare.now c.args.site.now (acts_of c.args.decisions.now) c.args.ground.now.depth c.args.ground.now.media c.deref.result.now
     (subst (λ (l : List ℕ). Counts (length c.args.site.now.sequences.now) c.args.site.now.copies (flat_map (steps_at c.args.site.now) (acts_of c.args.decisions.now)) l) (sym c.deref.ensures.value)
-    (subst (λ (n : ℕ). Counts n c.args.site.now.copies (flat_map (steps_at c.args.site.now) (acts_of c.args.decisions.now)) c.in_ok-counts.counts.items) c.in_ok-width.ensures.same c.in_ok-counts.ensures))
+    (subst (λ (n : ℕ). Counts n c.args.site.now.copies
+    (flat_map (steps_at c.args.site.now) (acts_of c.args.decisions.now)) c.in_ok-counts.counts.items) c.in_ok-width.ensures.same c.in_ok-counts.ensures))
     c.limit_by.result c.limit_by.ensures

@@ -11,6 +11,7 @@ loop-decision-preserved c =
     let vs = c.args.vertices.now in
     let ds = c.args.decisions.now in
     makes_next
-    (subst (λ (l : List Copy). MakesUp vs c.new-made.result c.loop-decision.made l (flat_map (made_by vs) (acts_of ds))) (acts_left (made_by vs) ds c.loop-decision.decision-index c.decision-item.result c.loop-decision-test.true c.decision-item.is)
+    (subst (λ (l : List Copy). MakesUp vs c.new-made.result c.loop-decision.made l (flat_map (made_by vs) (acts_of ds)))
+    (acts_left (made_by vs) ds c.loop-decision.decision-index c.decision-item.result c.loop-decision-test.true c.decision-item.is)
     c.loop-decision.invariant)
     c.in_ok-take.ensures

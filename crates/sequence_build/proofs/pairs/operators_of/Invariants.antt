@@ -6,4 +6,5 @@ use Rattle.sequence_build.proofs.pairs.operators_of.Given as goal
 
 -- what is left makes the whole
 abbrev pub invariant-loop-pair : goal.invariant-loop-pair
-invariant-loop-pair l = l.operators.items ++ map (λ (p : Pair). operator_in (slice_get l.buffers p.buffer)) (drop l.pair-index l.pairs) ≡ map (λ (p : Pair). operator_in (slice_get l.buffers p.buffer)) l.pairs
+invariant-loop-pair l = l.operators.items ++ map (λ (p : Pair). operator_in (slice_get l.buffers p.buffer)) (drop l.pair-index l.pairs)
+    ≡ map (λ (p : Pair). operator_in (slice_get l.buffers p.buffer)) l.pairs

@@ -23,7 +23,9 @@ returns c =
     let same = c.vertices.ensures.same in
     let decisions = c.as_slice-3.ensures in
     let seqs = c.as_slice.ensures.value ∙ c.in_ok-sequences.ensures in
-    let many : length c.in_ok-loops.loops.items ≡ length c.in_ok-sequences.sequences.items = (let e = c.in_ok-loops.ensures.many in let f = ap (λ l. length l) c.as_slice.ensures.value in omega arith) in
+    let many : length c.in_ok-loops.loops.items
+    ≡ length c.in_ok-sequences.sequences.items =
+    (let e = c.in_ok-loops.ensures.many in let f = ap (λ l. length l) c.as_slice.ensures.value in omega arith) in
     subst (λ (l : List SeqCode). IfOk c.codes_of.result (λ codes. codes ≡ l))
     (ap (codes_from c.in_ok-loops.loops.items) (c.deref.ensures.value ∙ c.in_ok-sequences.ensures)
     ∙ plain_loops g c.args.archi.now c.args.schedule.now (few_operations g c.vertices.ensures.valid) c.requires.covered

@@ -5,4 +5,6 @@ use Rattle.sequence_build.proofs.Touching.{PutsUp}
 
 -- what is left makes the whole
 abbrev pub invariant-loop-buffer : goal.invariant-loop-buffer
-invariant-loop-buffer l = PutsUp l.width l.initial.marks l.marks (λ b s. nat_eq l.sequence s && list_any (λ c. nat_eq c b) (drop l.buffer-index l.buffers)) (λ b s. nat_eq l.sequence s && list_any (λ c. nat_eq c b) l.buffers)
+invariant-loop-buffer l = PutsUp l.width l.initial.marks l.marks
+    (λ b s. nat_eq l.sequence s && list_any (λ c. nat_eq c b) (drop l.buffer-index l.buffers))
+    (λ b s. nat_eq l.sequence s && list_any (λ c. nat_eq c b) l.buffers)

@@ -10,6 +10,7 @@ loop-at-preserved c = record {
   many = c.note_reading.ensures.many ∙ c.loop-at.invariant.many;
   left = λ b h.
       let there = c.loop-at.invariant.many in
-      uses_next (reads b) c.args.sequence c.loop-at.at c.args.turn.now c.index-turn-at.result (uses_at c.loop-at.uses.items b) (uses_at c.note_reading.new.uses.items b) _ c.loop-at-test.true c.index-turn-at.is
+      uses_next (reads b) c.args.sequence c.loop-at.at c.args.turn.now c.index-turn-at.result (uses_at c.loop-at.uses.items b)
+      (uses_at c.note_reading.new.uses.items b) _ c.loop-at-test.true c.index-turn-at.is
       (c.in_ok-note_reading.ensures.noted b (omega arith)) (c.loop-at.invariant.left b h);
 }

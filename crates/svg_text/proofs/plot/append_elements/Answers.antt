@@ -10,5 +10,6 @@ loop-place-preserved c =
     let f = element_text panel.scale panel.range panel.name.now panel.number panel.rows.now.reactions in
     let n = c.args.count in
     let k = c.loop-place.place in
-    goes_on c.args.out.now.items c.loop-place.out.items c.append_element.new.out.items (f k) (flat_map f (range_with_len k (n - k))) (flat_map f (range_with_len (k + 1) (n - (k + 1)))) (flat_map f (range_with_len 0 n))
+    goes_on c.args.out.now.items c.loop-place.out.items c.append_element.new.out.items (f k) (flat_map f (range_with_len k (n - k)))
+    (flat_map f (range_with_len (k + 1) (n - (k + 1)))) (flat_map f (range_with_len 0 n))
     c.in_ok-append_element.ensures (number_more f k n c.loop-place-test.true) c.loop-place.invariant

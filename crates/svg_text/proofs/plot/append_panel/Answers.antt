@@ -13,5 +13,7 @@ returns c =
     (four c.args.out.now.items c.begin_group.new.out.items c.append_ground.new.out.items c.append_name.new.out.items
     (group_text (codes "actuator-") c.args.name.now (point 0 c.top_of.result)) (ground_text c.args.width) (name_text c.args.name.now) (limits_text c.args.range)
     c.in_ok-begin_group.ensures c.in_ok-append_ground.ensures c.in_ok-append_name.ensures
-    ∙ (λ i. c.args.out.now.items ++ (group_text (codes "actuator-") c.args.name.now (point 0 (c.top_of.ensures.top i)) ++ (ground_text c.args.width ++ (name_text c.args.name.now ++ limits_text c.args.range)))))
+    ∙ (λ i. c.args.out.now.items ++
+    (group_text (codes "actuator-") c.args.name.now (point 0 (c.top_of.ensures.top i))
+    ++ (ground_text c.args.width ++ (name_text c.args.name.now ++ limits_text c.args.range)))))
     c.append_limits.ensures

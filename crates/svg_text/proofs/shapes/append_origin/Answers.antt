@@ -9,5 +9,6 @@ pub returns : goal.returns
 unfolding origin_text
 returns c =
     subst (λ (l : Bytes). OnOk c.append-2.result (c.append-2.new.out.items ≡ l))
-    (three c.args.out.now.items c.append.new.out.items c.append_move.new.out.items (codes "\" transform=") (move_text c.args.origin) (codes ">\n") c.in_ok-append.ensures.text c.in_ok-append_move.ensures)
+    (three c.args.out.now.items c.append.new.out.items c.append_move.new.out.items (codes "\" transform=") (move_text c.args.origin)
+    (codes ">\n") c.in_ok-append.ensures.text c.in_ok-append_move.ensures)
     c.append-2.ensures.text

@@ -9,5 +9,6 @@ pub returns : goal.returns
 unfolding root_text
 returns c =
     subst (λ (l : Bytes). OnOk c.append_view.result (c.append_view.new.out.items ≡ l))
-    (three c.args.out.now.items c.append.new.out.items c.append_sides.new.out.items (codes "<svg xmlns=\"http://www.w3.org/2000/svg\"") (sides_text c.args.size) (view_text c.args.size) c.in_ok-append.ensures.text c.in_ok-append_sides.ensures)
+    (three c.args.out.now.items c.append.new.out.items c.append_sides.new.out.items (codes "<svg xmlns=\"http://www.w3.org/2000/svg\"")
+    (sides_text c.args.size) (view_text c.args.size) c.in_ok-append.ensures.text c.in_ok-append_sides.ensures)
     c.append_view.ensures

@@ -9,5 +9,6 @@ pub returns : goal.returns
 unfolding view_text
 returns c =
     subst (λ (l : Bytes). OnOk c.append-2.result (c.append-2.new.out.items ≡ l))
-    (three c.args.out.now.items c.append.new.out.items c.append_point.new.out.items (codes " viewBox=\"0 0 ") (point_text c.args.size) (codes "\">\n") c.in_ok-append.ensures.text c.in_ok-append_point.ensures)
+    (three c.args.out.now.items c.append.new.out.items c.append_point.new.out.items (codes " viewBox=\"0 0 ") (point_text c.args.size)
+    (codes "\">\n") c.in_ok-append.ensures.text c.in_ok-append_point.ensures)
     c.append-2.ensures.text

@@ -37,6 +37,7 @@ returns-clause-gives c =
     let lt : v < length old = omega (arith, count, c.requires.there) in
     let fit : lengths c.fire.new.outs ≡ lengths (given old v) =
     ap lengths (c.fire.ensures.outs ∙ fired_is g v x is (value_at old) c.args.cell.now c.args.seen.now c.read_values.new.read has)
-    ∙ fired_lens g v x is c.vertices.ensures.valid c.args.cell.now c.args.seen.now c.requires.cell c.requires.seen (conditions (value_at old) x) (inputs (value_at old) x) (input_lens g.vertices old c.requires.outs x.ins)
+    ∙ fired_lens g v x is c.vertices.ensures.valid c.args.cell.now c.args.seen.now c.requires.cell c.requires.seen
+    (conditions (value_at old) x) (inputs (value_at old) x) (input_lens g.vertices old c.requires.outs x.ins)
     ∙ sym (same_at lengths (λ (y : Vertex). y.outs) old g.vertices v x [] c.requires.outs is) in
     gives g v x c.args.cell.now c.args.seen.now c.read_values.new.read old _ c.fire.new.outs is lt has c.fire.ensures.outs fit refl

@@ -24,8 +24,10 @@ loop-v-preserved c =
     record {
       fits = ran.fits;
       cells = ran.cells ∙ l.invariant.cells;
-      right = right_more g row kept c.requires.valid order i v l.store.table.items c.run_operation.new.store.table.items c.loop-v-test.true refl (c.requires.order.each i c.loop-v-test.true) l.invariant.right
-          (λ x is. ran.here x is ∙ ap (λ (cs : Values). fired g.bodies x (vector_at cs v) (sensed x.kind row) (conditions (value_at l.store.table.items) x) (inputs (value_at l.store.table.items) x)) l.invariant.cells)
+      right = right_more g row kept c.requires.valid order i v l.store.table.items c.run_operation.new.store.table.items c.loop-v-test.true
+          refl (c.requires.order.each i c.loop-v-test.true) l.invariant.right
+          (λ x is. ran.here x is ∙ ap (λ (cs : Values). fired g.bodies x (vector_at cs v) (sensed x.kind row)
+          (conditions (value_at l.store.table.items) x) (inputs (value_at l.store.table.items) x)) l.invariant.cells)
           ran.others;
     }
 

@@ -75,7 +75,8 @@ returns-in_default c =
     record {
       kept = λ y at.
           let stays : next_kept g.vertices look y (vector_at flat_cells v) ≡ vector_at flat_cells v =
-          ap (λ (w : Vertex). next_kept g.vertices look w (vector_at flat_cells v)) (sym (same_vertex (slice_get g.vertices v) x y is at)) ∙ next_not g.vertices look x (vector_at flat_cells v) c.in_default.not-Get in
+          ap (λ (w : Vertex). next_kept g.vertices look w (vector_at flat_cells v)) (sym (same_vertex (slice_get g.vertices v) x y is at))
+          ∙ next_not g.vertices look x (vector_at flat_cells v) c.in_default.not-Get in
           sym (ap (λ (w : Vector). set flat_cells v w) stays ∙ set-get_or flat_cells v []);
       fits = c.requires.cells;
     }

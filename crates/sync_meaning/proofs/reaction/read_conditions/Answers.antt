@@ -13,7 +13,8 @@ put-requires-clause-port c =
     let old = c.args.read.now in
     let count = last_count look gs old c.args.first c.requires.count c.requires.lens in
     let lt : c.loop-port.port < length (over_last look gs old c.args.first c.requires.count c.requires.lens) = omega (arith, count) in
-    there (over_last look gs old c.args.first c.requires.count c.requires.lens) old c.loop-port.read c.loop-port.port (last_lens look gs old c.args.first c.requires.count c.requires.lens) lt c.loop-port.invariant
+    there (over_last look gs old c.args.first c.requires.count c.requires.lens) old c.loop-port.read c.loop-port.port
+    (last_lens look gs old c.args.first c.requires.count c.requires.lens) lt c.loop-port.invariant
 
 pub put-requires-clause-len : goal.put-requires-clause-len
 put-requires-clause-len c =
@@ -27,7 +28,9 @@ put-requires-clause-len c =
     let lt : port < length whole = omega (arith, count) in
     let back : first + (port - first) ≡ port = omega arith in
     let short : port - first < length gs = omega (arith, c.requires.count) in
-    let at : c.value_of.result.now ≡ vector_at whole port = last_at look gs old first c.requires.count c.requires.lens (port - first) _ c.value_of.result.now short c.value_of.ensures ∙ ap (λ (n : ℕ). vector_at whole n) back in
+    let at : c.value_of.result.now ≡ vector_at whole port =
+    last_at look gs old first c.requires.count c.requires.lens (port - first) _ c.value_of.result.now short c.value_of.ensures
+    ∙ ap (λ (n : ℕ). vector_at whole n) back in
     long whole old c.loop-port.read port (last_lens look gs old first c.requires.count c.requires.lens) lt c.loop-port.invariant c.value_of.result.now at
 
 pub loop-port-init : goal.loop-port-init
@@ -47,7 +50,9 @@ loop-port-preserved c =
     let lt : port < length whole = omega (arith, count) in
     let back : first + (port - first) ≡ port = omega arith in
     let short : port - first < length gs = omega (arith, c.requires.count) in
-    let at : c.value_of.result.now ≡ vector_at whole port = last_at look gs old first c.requires.count c.requires.lens (port - first) _ c.value_of.result.now short c.value_of.ensures ∙ ap (λ (n : ℕ). vector_at whole n) back in
+    let at : c.value_of.result.now ≡ vector_at whole port =
+    last_at look gs old first c.requires.count c.requires.lens (port - first) _ c.value_of.result.now short c.value_of.ensures
+    ∙ ap (λ (n : ℕ). vector_at whole n) back in
     c.put.ensures ∙ written whole old c.loop-port.read port (last_lens look gs old first c.requires.count c.requires.lens) lt c.loop-port.invariant c.value_of.result.now at
 
 pub returns : goal.returns

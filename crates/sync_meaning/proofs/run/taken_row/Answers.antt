@@ -11,4 +11,5 @@ loop-vertex-preserved c =
     let look = value_at c.args.table.now in
     let xs = c.args.vertices.now in
     appended (λ (x : Vertex). all_joined (taken_by look x x.kind)) (λ (ys : List Vertex). all_joined (taken look ys)) (λ x ys. all_joined-append (taken_by look x x.kind) (taken look ys))
-    xs c.loop-vertex.vertex-index c.vertex-item.result c.loop-vertex.row.items c.append_taken.new.row.items (all_joined (taken look xs)) c.loop-vertex-test.true c.vertex-item.is c.in_ok-append_taken.ensures c.loop-vertex.invariant
+    xs c.loop-vertex.vertex-index c.vertex-item.result c.loop-vertex.row.items c.append_taken.new.row.items
+    (all_joined (taken look xs)) c.loop-vertex-test.true c.vertex-item.is c.in_ok-append_taken.ensures c.loop-vertex.invariant

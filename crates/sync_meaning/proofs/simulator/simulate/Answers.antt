@@ -1,12 +1,14 @@
-use Rattle.std.proofs.Common.{◌≡◌, true, false, ap, ◌∙◌, sym}
-use Rattle.algo_tree.specs.Size.{is_large}
+use Rattle.std.proofs.Common.{◌≡◌, sym, ◌∙◌, subst}
+use Rattle.std.specs.Prelude.{IfOk}
+use Rattle.syn_base.specs.Rows.{Reactions}
+use Rattle.sync_meaning.proofs.Same.{same_run}
 use Rattle.sync_meaning.proofs.simulator.simulate.Goals as goal
 
-not_both : true ≡ false → ⊥
-not_both h = cc
+pub run_flat-requires : goal.run_flat-requires
+run_flat-requires c = c.requires ∙ sym c.in_ok-flat.ensures.lengths.sensors
 
-pub returns-clause-large : goal.returns-clause-large
-returns-clause-large c large = absurd (not_both (sym large ∙ ap is_large (sym c.main-main.ensures.same) ∙ sym c.is_large.ensures ∙ c.if-is_large.false))
-
-pub returns-in_err-run_tree-clause-large : goal.returns-in_err-run_tree-clause-large
-returns-in_err-run_tree-clause-large c large = absurd (not_both (sym large ∙ ap is_large (sym c.main-main.ensures.same) ∙ sym c.is_large.ensures ∙ c.if-is_large.false))
+pub returns : goal.returns
+returns c =
+    let told = c.in_ok-flat.ensures in
+    let same = same_run c.args.tree.now c.in_ok-flat.flat _ c.args.rows.now told.kept told.lengths in
+    record { taken = subst (λ (rows : Reactions). IfOk c.run_flat.result (λ taken. taken ≡ rows)) same c.run_flat.ensures }

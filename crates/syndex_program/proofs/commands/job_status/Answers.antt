@@ -1,8 +1,9 @@
 use Rattle.std.proofs.Common.{Result, subst}
+use Rattle.compiler.specs.Executions.{Execution}
 use Rattle.top_plans.specs.Ending.{Ending}
 use Rattle.top_plans.specs.Run.{Makes}
 use Rattle.top_plans.specs.Status.{Refusal, ending_of}
-use Rattle.top_plans.specs.Given.{Execution, Given, executed, printed, summed}
+use Rattle.top_plans.specs.Given.{Given, executed, printed, summed}
 use Rattle.top_plans.specs.Loads.{load_algorithm, load_architecture, load_table}
 use Rattle.top_plans.specs.Plans.{exec_plan, head, load_plan, run_plan, summary}
 use Rattle.syndex_program.specs.Executes.{executed_in, made_of}
@@ -23,7 +24,8 @@ returns-in-Run-clause-ran g c =
     let r = c.read_execution-made.result in
     rw x.is (
       made_of the_run r,
-      subst (λ (made : Result Given (Ending Refusal)). Makes (H c.args.shelf.now) (H c.read_execution-made.new.shelf) (run_plan x.algorithm.now x.architecture.now x.sensors.now) made) (made_so the_run r)
+      subst (λ (made : Result Given (Ending Refusal)). Makes (H c.args.shelf.now) (H c.read_execution-made.new.shelf)
+          (run_plan x.algorithm.now x.architecture.now x.sensors.now) made) (made_so the_run r)
           (files_follow the_run x.algorithm.now x.architecture.now x.sensors.now (H c.args.shelf.now) (H c.read_execution-made.new.shelf) (executed_in r) c.read_execution-made.ensures.makes),
       c.finish_run.ensures,
     )

@@ -1,5 +1,5 @@
 use Rattle.top_plans.specs.Status.{ending_of}
-use Rattle.compiler.specs.Reads.{text_in}
+use Rattle.top_plans.specs.Reads.{text_in}
 use Rattle.syndex_program.proofs.Coded.{written_ends}
 use Rattle.syndex_program.proofs.commands.plain_status.Goals as goal
 

@@ -19,7 +19,8 @@ returns-in-Ok-clause-executed c =
     rw c.into_tree.ensures (record {
       flat = c.requires.same;
       has = c.requires.has;
-      fits = fit c.args.algorithm.tree a c.args.rows p c.requires.has (subst (λ (f : Graph). IsWellFormed p f (sequences a) (length a.media)) c.requires.same c.requires.formed) c.requires.lens c.requires.few;
+      fits = fit c.args.algorithm.tree a c.args.rows p c.requires.has
+          (subst (λ (f : Graph). IsWellFormed p f (sequences a) (length a.media)) c.requires.same c.requires.formed) c.requires.lens c.requires.few;
       limit = subst (λ (f : Graph). limit_in p f (length c.args.rows.reactions) ≡ None) c.requires.same c.in-Ok.ensures.within;
       steps = c.in-Ok.ensures.total;
     })

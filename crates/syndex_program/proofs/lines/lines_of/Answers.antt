@@ -1,8 +1,8 @@
 use Rattle.std.proofs.Common.{◌≡◌, ◌∙◌, ap, subst, sym}
+use Rattle.compiler.specs.Executions.{acts_of}
 use Rattle.algo_tree.specs.Ends.{actuator_lengths}
 use Rattle.word_rule.specs.Ended.{all_acts}
 use Rattle.job_windows.specs.Windowed.{WindowsData}
-use Rattle.top_plans.specs.Given.{acts_of}
 use Rattle.syndex_program.specs.Executes.{executed}
 use Rattle.syndex_program.specs.Left.{stages_left}
 use Rattle.syndex_program.proofs.Leaving.{all_stages, same_acts}

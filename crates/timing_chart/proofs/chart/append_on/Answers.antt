@@ -16,10 +16,14 @@ loop-decision-preserved c =
       | then-decision-operator+in_ok-append_operation w ↦
           ap (λ v. v.items ++ rest) w.out-is ∙ ap (λ l. l ++ rest) w.in_ok-append_operation.ensures
           ∙ append_assoc c.loop-decision.out.items (line_text (act_line named.vertices.now named.operators.now (run d))) rest
-          ∙ ap (λ l. c.loop-decision.out.items ++ l) (sym (on_here named.vertices.now named.operators.now c.args.operator c.args.decisions.now i d c.loop-decision-test.true c.decision-item.is w.if-decision-operator.true))
+          ∙ ap (λ l. c.loop-decision.out.items ++ l)
+          (sym (on_here named.vertices.now named.operators.now c.args.operator c.args.decisions.now i d c.loop-decision-test.true
+          c.decision-item.is w.if-decision-operator.true))
           ∙ c.loop-decision.invariant
       | else-decision-operator w ↦
           ap (λ v. v.items ++ rest) w.out-is
-          ∙ ap (λ l. c.loop-decision.out.items ++ l) (sym (on_past named.vertices.now named.operators.now c.args.operator c.args.decisions.now i d c.loop-decision-test.true c.decision-item.is w.if-decision-operator.false))
+          ∙ ap (λ l. c.loop-decision.out.items ++ l)
+          (sym (on_past named.vertices.now named.operators.now c.args.operator c.args.decisions.now i d c.loop-decision-test.true
+          c.decision-item.is w.if-decision-operator.false))
           ∙ c.loop-decision.invariant
     ]

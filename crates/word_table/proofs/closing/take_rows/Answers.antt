@@ -49,7 +49,9 @@ loop-v-preserved c = let a = c.args in let v = c.loop-v.v in let j = a.job.now i
       | then-callers-v+in_default w ↦
           subst (AreTaken j a.rows.now a.others.now a.callers.now a.groups a.group (v + 1)) (sym w.rows-is)
           (none_taken j a.rows.now a.others.now a.callers.now a.groups a.group v c.loop-v.rows
-          (λ x b e k q. w.in_default.not-Actuator b (ap (λ (x : Vertex). x.kind) (get_or_from_slice_get xs v x w.index-vertices-v.result (ap (λ (l : List Vertex). slice_get l v) same ∙ e)) ∙ k)) c.loop-v.invariant)
+          (λ x b e k q. w.in_default.not-Actuator b
+          (ap (λ (x : Vertex). x.kind) (get_or_from_slice_get xs v x w.index-vertices-v.result
+          (ap (λ (l : List Vertex). slice_get l v) same ∙ e)) ∙ k)) c.loop-v.invariant)
       | else-callers-v w ↦
           subst (AreTaken j a.rows.now a.others.now a.callers.now a.groups a.group (v + 1)) (sym w.rows-is)
           (none_taken j a.rows.now a.others.now a.callers.now a.groups a.group v c.loop-v.rows (λ x b e k q. w.if-callers-v.false q) c.loop-v.invariant)
@@ -58,4 +60,5 @@ loop-v-preserved c = let a = c.args in let v = c.loop-v.v in let j = a.job.now i
 pub returns : goal.returns
 returns c = let a = c.args in
     all_taken a.job.now a.rows.now a.others.now a.callers.now a.groups a.group c.loop-v.v c.loop-v.rows
-    (let e = ap (λ (g : Graph). length g.vertices) c.flat.ensures in let s = ap (length {A = Vertex}) c.vertices-vertices.ensures.same in let t = c.loop-v-test.false in omega (arith, e, s, t)) c.loop-v.invariant
+    (let e = ap (λ (g : Graph). length g.vertices) c.flat.ensures in let s = ap (length {A = Vertex}) c.vertices-vertices.ensures.same in
+    let t = c.loop-v-test.false in omega (arith, e, s, t)) c.loop-v.invariant

@@ -21,5 +21,7 @@ loop-group-preserved c = let a = c.args in let n = c.loop-group.invariant in let
       g.seat ∙ n.0,
       g.left,
       ap (length {A = DriverData}) e ∙ omega (arith, l, w),
-      subst (AreFirst (fabric_view a.fabric.now) 0) (sym e) (first_more (fabric_view a.fabric.now) 0 c.loop-group.drivers.items d n.3 (subst (λ (i : ℕ). IsFirst (fabric_view a.fabric.now) i d) (omega (arith, w)) c.in_ok-group_of.ensures.driver)),
+      subst (AreFirst (fabric_view a.fabric.now) 0) (sym e)
+          (first_more (fabric_view a.fabric.now) 0 c.loop-group.drivers.items d n.3
+          (subst (λ (i : ℕ). IsFirst (fabric_view a.fabric.now) i d) (omega (arith, w)) c.in_ok-group_of.ensures.driver)),
     )

@@ -19,8 +19,10 @@ module _ (c : goal.After-drop-elements-2) where
   first : c.in-Some.first ≡ 1 + 2 * length c.as_slice.result.now + c.args.job.now.media
   first = let a : c.in-Some.first ≡ 1 + 2 * length c.as_slice.result.now + c.media.result = search rules in let m = c.media.ensures in omega (arith, a, m)
 
-  where_they_begin : (length c.in_ok-starts.starts.items ≡ length (element_lens c.args.job.now)) × ((h : ℕ) → h < length c.in_ok-starts.starts.items → get_or c.in_ok-starts.starts.items h 0 ≡ elements_start c.args.job.now h)
-  where_they_begin = starts_are c.args.job.now c.in-Some.first (1 + 2 * length c.as_slice.result.now) c.in_ok-starts.starts.items turns first (c.in_ok-starts.ensures.starts ∙ ap (starts_from c.in-Some.first) elements)
+  where_they_begin : (length c.in_ok-starts.starts.items ≡ length (element_lens c.args.job.now))
+      × ((h : ℕ) → h < length c.in_ok-starts.starts.items → get_or c.in_ok-starts.starts.items h 0 ≡ elements_start c.args.job.now h)
+  where_they_begin = starts_are c.args.job.now c.in-Some.first
+      (1 + 2 * length c.as_slice.result.now) c.in_ok-starts.starts.items turns first (c.in_ok-starts.ensures.starts ∙ ap (starts_from c.in-Some.first) elements)
 
 pub returns-clause-turns : goal.returns-clause-turns
 returns-clause-turns c = turns c ∙ (let z : 1 + 2 * length c.args.job.now.program.pairs ≡ suc (2 * length c.args.job.now.program.pairs + 0) = omega arith in z)

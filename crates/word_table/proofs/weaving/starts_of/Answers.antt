@@ -8,7 +8,8 @@ use Rattle.word_table.proofs.weaving.starts_of.Goals as goal
 pub loop-list-preserved : goal.loop-list-preserved
 loop-list-preserved c =
     let after : c.in-Some.after ≡ c.loop-list.next + length c.as_slice.result.now = search rules in
-    starts_more c.args.elements.now c.loop-list.list-index c.list-item.result c.loop-list.next c.in-Some.after c.args.first c.loop-list.starts.items c.push.new.self.items c.loop-list-test.true c.list-item.is
+    starts_more c.args.elements.now c.loop-list.list-index c.list-item.result c.loop-list.next c.in-Some.after c.args.first
+    c.loop-list.starts.items c.push.new.self.items c.loop-list-test.true c.list-item.is
     (after ∙ ap (λ (l : List ℤ). c.loop-list.next + length l) c.as_slice.ensures) c.in_ok-push.ensures.items c.loop-list.invariant
 
 pub returns-clause-starts : goal.returns-clause-starts

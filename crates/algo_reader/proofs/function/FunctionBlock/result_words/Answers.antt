@@ -23,7 +23,10 @@ returns-in_err-formula c =
     let p = err_from_is_err_and c.from_residual-in_err-formula.result c.from_residual-in_err-formula.ensures.1 in
     let three : length c.args.words.now ≡ 3 = omega arith in
     let at : admits (function_view c.args.self.now).part Outputs ≡ true = sym c.if-not-admits.ensures in
-    rw (p.1, p.2) (formula_fails c.args.number c.args.text.now (with_result (function_view c.args.self.now) c.args.number c.in_ok-port.port) _ _ _ _ (goes (result_follows (function_view c.args.self.now) c.args.number c.args.words.now c.args.text.now c.count.result three at c.count.ensures) c.in_ok-port.port c.in_ok-port.ensures.port)
+    rw (p.1, p.2) (formula_fails c.args.number c.args.text.now
+    (with_result (function_view c.args.self.now) c.args.number c.in_ok-port.port) _ _ _ _
+    (goes (result_follows (function_view c.args.self.now) c.args.number c.args.words.now c.args.text.now c.count.result three at
+    c.count.ensures) c.in_ok-port.port c.in_ok-port.ensures.port)
     (ap (λ (ps : List Port). map (λ i. i.name) ps) c.as_slice.ensures.same) c.in_err-formula.ensures)
 
 pub returns-then-is_taken : goal.returns-then-is_taken
@@ -32,7 +35,8 @@ returns-then-is_taken c =
     let at : admits (function_view c.args.self.now).part Outputs ≡ true = sym c.if-not-admits.ensures in
     taken_stops _ _ _ _ _ c.duplicate.ensures c.as_bytes.ensures.same
     (goes (result_follows (function_view c.args.self.now) c.args.number c.args.words.now c.args.text.now c.count.result three at c.count.ensures) c.in_ok-port.port c.in_ok-port.ensures.port
-    ∙ ap (λ r. and_then r (with_result (function_view c.args.self.now) c.args.number c.in_ok-port.port)) (formula_same c.args.number _ _ c.args.text.now _ (ap (λ (ps : List Port). map (λ i. i.name) ps) c.as_slice.ensures.same) c.in_ok-formula.ensures)
+    ∙ ap (λ r. and_then r (with_result (function_view c.args.self.now) c.args.number c.in_ok-port.port))
+    (formula_same c.args.number _ _ c.args.text.now _ (ap (λ (ps : List Port). map (λ i. i.name) ps) c.as_slice.ensures.same) c.in_ok-formula.ensures)
     ∙ result_taken (function_view c.args.self.now) c.args.number c.in_ok-port.port c.in_ok-formula.formula (sym c.if-is_taken.ensures))
 
 pub returns : goal.returns
@@ -40,6 +44,7 @@ returns c =
     let three : length c.args.words.now ≡ 3 = omega arith in
     let at : admits (function_view c.args.self.now).part Outputs ≡ true = sym c.if-not-admits.ensures in
     goes (result_follows (function_view c.args.self.now) c.args.number c.args.words.now c.args.text.now c.count.result three at c.count.ensures) c.in_ok-port.port c.in_ok-port.ensures.port
-    ∙ ap (λ r. and_then r (with_result (function_view c.args.self.now) c.args.number c.in_ok-port.port)) (formula_same c.args.number _ _ c.args.text.now _ (ap (λ (ps : List Port). map (λ i. i.name) ps) c.as_slice.ensures.same) c.in_ok-formula.ensures)
+    ∙ ap (λ r. and_then r (with_result (function_view c.args.self.now) c.args.number c.in_ok-port.port))
+    (formula_same c.args.number _ _ c.args.text.now _ (ap (λ (ps : List Port). map (λ i. i.name) ps) c.as_slice.ensures.same) c.in_ok-formula.ensures)
     ∙ result_free (function_view c.args.self.now) c.args.number c.in_ok-port.port c.in_ok-formula.formula (sym c.if-is_taken.ensures)
     ∙ ap (λ (os : List Output). Ok (record (function_view c.args.self.now) { part = Outputs; results = os })) (sym c.in_ok-push.ensures.items)

@@ -10,5 +10,7 @@ use Rattle.algo_tree.proofs.tree.Tree.actuator_lens.Goals as goal
 
 pub returns : goal.returns
 returns c =
-    let of_main = subst (λ (us : List Declared). IfOk c.actuator_lens_in.result (λ lens. lens.items ≡ actuator_lengths_in (source_length [] (outs_of (vertices_view us))) (vertices_view us))) c.deref.ensures.value c.actuator_lens_in.ensures in
+    let of_main = subst (λ (us : List Declared). IfOk c.actuator_lens_in.result
+    (λ lens. lens.items ≡ actuator_lengths_in (source_length [] (outs_of (vertices_view us)))
+    (vertices_view us))) c.deref.ensures.value c.actuator_lens_in.ensures in
     subst (λ (v : Vertex). IfOk c.actuator_lens_in.result (λ lens. lens.items ≡ actuator_lengths v)) (sym (view_out c.self.inside.main) ∙ c.self.view_is) of_main

@@ -35,11 +35,14 @@ returns-in-Some-apart-clause-told c =
     let r = reading c.args.self.now in
     let o = c.in-Some-apart.other in
     let some : (length r.operators == 0) ≡ false = ap (λ (l : List Bytes). length l == 0) (sym c.as_slice-operators.ensures.value) ∙ sym c.is_empty.ensures ∙ c.if-is_empty.false in
-    let right : position is_wrong r.media ≡ None = ap (λ (l : List Medium). position is_wrong l) (sym c.as_slice-media.ensures.value) ∙ sym c.wrong_medium.ensures.place ∙ c.in_default-wrong_medium.is in
+    let right : position is_wrong r.media ≡ None = ap (λ (l : List Medium). position is_wrong l) (sym c.as_slice-media.ensures.value)
+    ∙ sym c.wrong_medium.ensures.place ∙ c.in_default-wrong_medium.is in
     let at : apart r ≡ Some o =
-    ap₂ (λ (os : List Bytes) (ms : List Medium). position (λ p. not (reached_within ms (length os) p)) (range_with_len 0 (length os))) (sym c.as_slice-operators.ensures.value) (sym c.as_slice-media.ensures.value)
+    ap₂ (λ (os : List Bytes) (ms : List Medium). position (λ p. not (reached_within ms (length os) p)) (range_with_len 0 (length os)))
+    (sym c.as_slice-operators.ensures.value) (sym c.as_slice-media.ensures.value)
     ∙ sym c.apart.ensures.place ∙ c.in-Some-apart.is in
-    let first = read_at c.as_slice-operators.result.now 0 c.index-operators-0.result [] (omega (arith, eqb-false (length c.as_slice-operators.result.now) 0 (sym c.is_empty.ensures ∙ c.if-is_empty.false))) c.index-operators-0.is in
+    let first = read_at c.as_slice-operators.result.now 0 c.index-operators-0.result []
+    (omega (arith, eqb-false (length c.as_slice-operators.result.now) 0 (sym c.is_empty.ensures ∙ c.if-is_empty.false))) c.index-operators-0.is in
     let other = read_at c.as_slice-operators.result.now o c.index-operators-other.result [] c.in-Some-apart.ensures.within c.index-operators-other.is in
     stopped c.disconnected.result _ _ c.disconnected.ensures
     (whole_apart r c.args.number c.in-Some.version o c.in-Some.is some right at
@@ -50,9 +53,11 @@ pub returns-clause-told : goal.returns-clause-told
 returns-clause-told c =
     let r = reading c.args.self.now in
     let some : (length r.operators == 0) ≡ false = ap (λ (l : List Bytes). length l == 0) (sym c.as_slice-operators.ensures.value) ∙ sym c.is_empty.ensures ∙ c.if-is_empty.false in
-    let right : position is_wrong r.media ≡ None = ap (λ (l : List Medium). position is_wrong l) (sym c.as_slice-media.ensures.value) ∙ sym c.wrong_medium.ensures.place ∙ c.in_default-wrong_medium.is in
+    let right : position is_wrong r.media ≡ None = ap (λ (l : List Medium). position is_wrong l) (sym c.as_slice-media.ensures.value)
+    ∙ sym c.wrong_medium.ensures.place ∙ c.in_default-wrong_medium.is in
     let joined : apart r ≡ None =
-    ap₂ (λ (os : List Bytes) (ms : List Medium). position (λ p. not (reached_within ms (length os) p)) (range_with_len 0 (length os))) (sym c.as_slice-operators.ensures.value) (sym c.as_slice-media.ensures.value)
+    ap₂ (λ (os : List Bytes) (ms : List Medium). position (λ p. not (reached_within ms (length os) p)) (range_with_len 0 (length os)))
+    (sym c.as_slice-operators.ensures.value) (sym c.as_slice-media.ensures.value)
     ∙ sym c.apart.ensures.place ∙ c.in_default-apart.is in
     whole_fine r c.args.number c.in-Some.version c.in-Some.is some right joined
 
@@ -60,8 +65,10 @@ pub returns-clause-valid : goal.returns-clause-valid
 returns-clause-valid c =
     let r = reading c.args.self.now in
     let some : (length r.operators == 0) ≡ false = ap (λ (l : List Bytes). length l == 0) (sym c.as_slice-operators.ensures.value) ∙ sym c.is_empty.ensures ∙ c.if-is_empty.false in
-    let right : position is_wrong r.media ≡ None = ap (λ (l : List Medium). position is_wrong l) (sym c.as_slice-media.ensures.value) ∙ sym c.wrong_medium.ensures.place ∙ c.in_default-wrong_medium.is in
+    let right : position is_wrong r.media ≡ None = ap (λ (l : List Medium). position is_wrong l) (sym c.as_slice-media.ensures.value)
+    ∙ sym c.wrong_medium.ensures.place ∙ c.in_default-wrong_medium.is in
     let joined : apart r ≡ None =
-    ap₂ (λ (os : List Bytes) (ms : List Medium). position (λ p. not (reached_within ms (length os) p)) (range_with_len 0 (length os))) (sym c.as_slice-operators.ensures.value) (sym c.as_slice-media.ensures.value)
+    ap₂ (λ (os : List Bytes) (ms : List Medium). position (λ p. not (reached_within ms (length os) p)) (range_with_len 0 (length os)))
+    (sym c.as_slice-operators.ensures.value) (sym c.as_slice-media.ensures.value)
     ∙ sym c.apart.ensures.place ∙ c.in_default-apart.is in
     valid r c.requires some right joined

@@ -11,4 +11,5 @@ len_of-len-requires c = port_inside c.self.inside.shape c.self.inside.elements.i
 pub returns : goal.returns
 returns c =
     let len : c.start-start.result + c.len_of-len.result - c.start-start.result ≡ get_or c.self.inside.shape c.args.port 0 = omega (arith, c.len_of-len.ensures) in
-    ap₂ take len (ap₂ drop c.start-start.ensures.start c.deref.ensures.value) ∙ vector_seen c.self.inside.shape c.self.inside.elements.items c.args.self.now c.self.view_is c.self.invariant c.args.port c.requires
+    ap₂ take len (ap₂ drop c.start-start.ensures.start c.deref.ensures.value)
+    ∙ vector_seen c.self.inside.shape c.self.inside.elements.items c.args.self.now c.self.view_is c.self.invariant c.args.port c.requires

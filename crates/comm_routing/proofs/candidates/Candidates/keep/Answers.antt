@@ -13,5 +13,6 @@ pub returns-clause-kept : goal.returns-clause-kept
 returns-clause-kept c =
     let long = c.as_mut_slice.ensures.len in
     let size = c.put.ensures.size in
-    subst (λ (xs : List (List (Option ℕ))). HasOneMore c.args.self.now.arrivals.items xs c.args.op c.args.operator c.args.date) (sym (with_items_is c.args.self.now.arrivals c.put.new.rows (omega arith)))
+    subst (λ (xs : List (List (Option ℕ))). HasOneMore c.args.self.now.arrivals.items xs c.args.op c.args.operator c.args.date)
+    (sym (with_items_is c.args.self.now.arrivals c.put.new.rows (omega arith)))
     (subst (λ (xs : List (List (Option ℕ))). HasOneMore xs c.put.new.rows c.args.op c.args.operator c.args.date) c.as_mut_slice.ensures.value c.put.ensures.kept)

@@ -48,6 +48,8 @@ returns c =
       dependents = refl;
       flags = flags_right c.args.vertices.now c.args.board.now c.args.placed c.args.self.now c.as_slice-dependents.result.now c.mark_one.new.self.flags.items c.mark_each.new.self.flags.items marked;
       ready = c.mark_each.ensures.listed.ready;
-      arrivals = arrivals_right c.args.vertices.now c.args.board.now c.args.placed c.args.self.now c.as_slice-dependents.result.now c.mark_one.new.self.flags.items c.mark_each.new.self.flags.items marked
-          c.args.keeps c.mark_each.new.self c.args.self.now.arrivals.items c.forget.new.rows _ refl c.mark_each.ensures.listed.ready c.as_mut_slice.ensures.value rows c.forget.ensures.forgotten c.forget.ensures.kept;
+      arrivals = arrivals_right c.args.vertices.now c.args.board.now c.args.placed c.args.self.now c.as_slice-dependents.result.now
+          c.mark_one.new.self.flags.items c.mark_each.new.self.flags.items marked
+          c.args.keeps c.mark_each.new.self c.args.self.now.arrivals.items c.forget.new.rows _ refl c.mark_each.ensures.listed.ready
+          c.as_mut_slice.ensures.value rows c.forget.ensures.forgotten c.forget.ensures.kept;
     }

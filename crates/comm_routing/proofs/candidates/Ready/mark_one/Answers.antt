@@ -15,7 +15,8 @@ put_in-self-requires c =
     let n = c.requires.listed.count in
     let op = c.requires.operation in
     let long = ap length c.as_mut_slice.ensures.value in
-    let unset = at_flag s.flags.items c.args.op false c.index.result.now (omega arith) ∙ sym c.index.ensures ∙ unlike c.is_candidate-is_ready.result c.index.result.now c.if-is_ready-index.false c.if-is_ready.true in
+    let unset = at_flag s.flags.items c.args.op false c.index.result.now (omega arith) ∙ sym c.index.ensures
+    ∙ unlike c.is_candidate-is_ready.result c.index.result.now c.if-is_ready-index.false c.if-is_ready.true in
     let free = room s.flags.items s.list.items s.count c.args.op c.requires.listed.ready (omega arith) (omega arith) (omega arith) unset in
     omega arith
 
@@ -27,7 +28,8 @@ returns-clause-listed c =
     let op = c.requires.operation in
     elim c.if-is_ready.branch [
       | then-is_ready w ↦ (
-          let unset = at_flag s.flags.items c.args.op false c.index.result.now (omega arith) ∙ sym c.index.ensures ∙ unlike c.is_candidate-is_ready.result c.index.result.now c.if-is_ready-index.false w.if-is_ready.true in
+          let unset = at_flag s.flags.items c.args.op false c.index.result.now (omega arith) ∙ sym c.index.ensures
+          ∙ unlike c.is_candidate-is_ready.result c.index.result.now c.if-is_ready-index.false w.if-is_ready.true in
           let value = w.as_mut_slice.ensures.value in
           let size = w.put_in-self.ensures.size in
           let long = w.as_mut_slice.ensures.len in

@@ -11,7 +11,8 @@ all_reads-requires-clause-there c = all_there c.args.flat.now c.vertices.ensures
 
 pub begin-requires-clause-site : goal.begin-requires-clause-site
 begin-requires-clause-site c =
-    site_of c.args.flat.now c.args.archi.now c.args.routes.now c.args.durations.now c.vertices.ensures.valid c.operators-operators.ensures.valid c.requires.routes c.requires.fits c.operations-operations.ensures.valid c.operations-operations.ensures.beside
+    site_of c.args.flat.now c.args.archi.now c.args.routes.now c.args.durations.now c.vertices.ensures.valid
+    c.operators-operators.ensures.valid c.requires.routes c.requires.fits c.operations-operations.ensures.valid c.operations-operations.ensures.beside
 
 pub begin-requires-clause-reads : goal.begin-requires-clause-reads
 begin-requires-clause-reads c = c.as_slice.ensures.value ∙ c.in_ok-reads.ensures.reads ∙ ap (map reads_of) c.vertices.ensures.same

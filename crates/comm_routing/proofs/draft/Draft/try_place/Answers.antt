@@ -11,11 +11,15 @@ pub returns : goal.returns
 returns c =
     let s = c.self.inside in
     let d : Drafted = drafted s.site s.progress.decisions.items in
-    let may : may_place (task_of d) (acts_of d.decisions) c.args.op c.args.operator ≡ true = ap (λ (x : Drafted). may_place (task_of x) (acts_of x.decisions) c.args.op c.args.operator) c.self.view_is ∙ c.requires in
-    let found : c.arrival-arrival.result ≡ arrival (task_of d) (acts_of d.decisions) c.args.op c.args.operator = c.arrival-arrival.ensures ∙ sym (ap (λ (x : Drafted). arrival (task_of x) (acts_of x.decisions) c.args.op c.args.operator) c.self.view_is) in
+    let may : may_place (task_of d) (acts_of d.decisions) c.args.op c.args.operator
+    ≡ true = ap (λ (x : Drafted). may_place (task_of x) (acts_of x.decisions) c.args.op c.args.operator) c.self.view_is ∙ c.requires in
+    let found : c.arrival-arrival.result ≡ arrival (task_of d) (acts_of d.decisions) c.args.op c.args.operator = c.arrival-arrival.ensures
+    ∙ sym (ap (λ (x : Drafted). arrival (task_of x) (acts_of x.decisions) c.args.op c.args.operator) c.self.view_is) in
     let l = (chosen d s.progress.board s.reads.items s.progress.candidates c.self.invariant c.args.op c.args.operator may).there in
     let n = ap length c.vertices.ensures.same in
     let is = ap (λ xs. slice_get xs c.args.op) (sym c.vertices.ensures.same) ∙ vertex_at c.vertices.result.now c.args.op c.index-vertices-op.result (omega arith) c.index-vertices-op.is in
-    let begun = c.start.ensures ∙ sym (start_same d s.progress.board s.reads.items s.progress.candidates c.self.invariant c.args.op c.args.operator c.index-vertices-op.result c.arrival-arrival.result may is found) in
+    let begun = c.start.ensures ∙ sym
+    (start_same d s.progress.board s.reads.items s.progress.candidates c.self.invariant c.args.op c.args.operator
+    c.index-vertices-op.result c.arrival-arrival.result may is found) in
     let fits = start_fits d s.progress.board s.reads.items s.progress.candidates c.self.invariant c.args.op c.args.operator may in
     record { start = begun ∙ ap (λ (x : Drafted). start (task_of x) (acts_of x.decisions) c.args.op c.args.operator) c.self.view_is; low = omega arith }

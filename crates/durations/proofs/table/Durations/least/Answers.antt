@@ -7,7 +7,9 @@ pub returns-in-Some-clause-least : goal.returns-in-Some-clause-least
 returns-in-Some-clause-least c = is_least (row_in c.args.self.now c.args.op) c.in-Some.ticks (ap least_of (sym c.row.ensures.same) ∙ sym c.in-Some.ensures)
 
 pub returns-in-Some-clause-bounded : goal.returns-in-Some-clause-bounded
-returns-in-Some-clause-bounded c = least_bounded c.args.self.now.operators (row_in c.args.self.now c.args.op) c.in-Some.ticks (c.row.ensures.valid c.requires) (ap least_of (sym c.row.ensures.same) ∙ sym c.in-Some.ensures)
+returns-in-Some-clause-bounded c =
+    least_bounded c.args.self.now.operators (row_in c.args.self.now c.args.op) c.in-Some.ticks (c.row.ensures.valid c.requires)
+    (ap least_of (sym c.row.ensures.same) ∙ sym c.in-Some.ensures)
 
 pub returns-in-None-clause-entry : goal.returns-in-None-clause-entry
 returns-in-None-clause-entry c = absurd (never_none (row_in c.args.self.now c.args.op) (c.row.ensures.valid c.requires).some (ap least_of (sym c.row.ensures.same) ∙ sym c.in-None.ensures))

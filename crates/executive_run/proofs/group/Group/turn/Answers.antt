@@ -17,7 +17,9 @@ loop-seq-preserved g c =
       turned = turned_more c.args.fabric.now c.args.self.now.driver c.loop-seq.self.driver c.go_on.new.self.driver
           c.loop-seq.progress.steps c.go_on.result.steps c.and-progress.result.steps c.loop-seq.progress.waiting c.go_on.result.waiting c.and-progress.result.waiting
           c.loop-seq.seq (c.loop-seq.seq + c.groups-groups.result)
-          (q.goes.fabric ∙ (p.turned.goes.fabric ∙ c.requires.of)) p.turned q.goes q.others q.ends q.alone c.and-progress.ensures.steps c.and-progress.ensures.waiting (omega arith) p.own (omega arith);
+          (q.goes.fabric ∙ (p.turned.goes.fabric
+          ∙ c.requires.of)) p.turned q.goes q.others q.ends q.alone c.and-progress.ensures.steps c.and-progress.ensures.waiting
+          (omega arith) p.own (omega arith);
       own = let at = c.groups-groups.ensures in rw at (add-mod_right c.loop-seq.seq c.args.fabric.now.groups ∙ p.own ∙ sym q.goes.group);
     }
 

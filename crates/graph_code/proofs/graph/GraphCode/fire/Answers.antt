@@ -76,7 +76,8 @@ returns-then-are_holding c =
     let here : IsOperation g (length store) v x o = subst (λ n. IsOperation g n v x o) (sym c.requires.store) op in
     let ok = ready g c.vertices.ensures.valid v x is o c.args.cell.now c.args.seen.now store here c.requires.cell c.requires.seen wide in
     let same = ap₂ guards_hold c.as_slice.ensures (ap (rows_of store) c.deref.ensures.value ∙ condition_rows g c.args.self.now.room v x o op store) in
-    fired_active g c.args.self.now.room v x o c.args.cell.now c.args.seen.now store c.fire_active.new.store is op wide ok (sym same ∙ sym c.are_holding.ensures ∙ c.if-are_holding.true) c.fire_active.ensures
+    fired_active g c.args.self.now.room v x o c.args.cell.now c.args.seen.now store c.fire_active.new.store is op wide ok
+    (sym same ∙ sym c.are_holding.ensures ∙ c.if-are_holding.true) c.fire_active.ensures
 
 pub returns-else-are_holding : goal.returns-else-are_holding
 returns-else-are_holding c =

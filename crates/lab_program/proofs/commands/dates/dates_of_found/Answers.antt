@@ -2,7 +2,7 @@ use Rattle.std.proofs.Common.{inl, refl}
 use Rattle.std.proofs.lemmas.Result.{err_from_is_err_and}
 use Rattle.lab_words.specs.View.{effort_view, form_view}
 use Rattle.lab_plans.specs.Asked.{of_dates}
-use Rattle.lab_program.specs.Found.{problem_of}
+use Rattle.lab_program.specs.Found.{request_of}
 use Rattle.lab_program.proofs.Schedules.{of_found}
 use Rattle.lab_program.proofs.commands.dates.dates_of_found.Goals as goal
 
@@ -17,4 +17,6 @@ returns-in_err-schedule c =
 pub returns : goal.returns
 returns c =
     let effort = effort_view c.args.extent.effort in
-    of_found (of_dates (form_view c.args.extent.form) (problem_of c.args.compilation.now effort) c.args.text.now c.args.extent.reactions) c.in_ok-schedule.schedule _ c.in_ok-schedule.ensures (c.date_reactions.ensures effort)
+    of_found (of_dates (form_view c.args.extent.form)
+    (request_of c.args.problem.now effort) c.args.text.now c.args.extent.reactions) c.in_ok-schedule.schedule _
+    c.in_ok-schedule.ensures (c.date_reactions.ensures effort)

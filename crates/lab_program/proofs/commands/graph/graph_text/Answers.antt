@@ -10,7 +10,7 @@ use Rattle.top_plans.specs.Status.{ending_of}
 use Rattle.lab_plans.specs.Asked.{of_text}
 use Rattle.lab_plans.specs.Plans.{graph_plan}
 use Rattle.lab_program.proofs.Carried.{no_schedule, stopped, wanted, went_on}
-use Rattle.compiler.proofs.Steps.{algorithm_stops}
+use Rattle.top_plans.proofs.Steps.{algorithm_stops}
 use Rattle.lab_program.proofs.commands.graph.graph_text.Goals as goal
 
 pub returns-in_err-algorithm-clause-carries : goal.returns-in_err-algorithm-clause-carries

@@ -10,8 +10,8 @@ use Rattle.top_plans.specs.Run.{not_read}
 use Rattle.top_plans.proofs.Makes.{gave}
 use Rattle.top_plans.specs.Status.{ending_of, status_of_architecture}
 use Rattle.top_plans.specs.Plans.{architecture_in}
-use Rattle.compiler.specs.Compiles.{IsCompilation, MakesCompilation}
-use Rattle.compiler.proofs.Architectures.{refused_so}
+use Rattle.compiler.specs.Compiles.{IsProblem, MakesProblem}
+use Rattle.top_plans.proofs.Architectures.{refused_so}
 use Rattle.lab_plans.specs.Asked.{of_text}
 use Rattle.lab_plans.specs.Plans.{Asks, lint_of_both}
 use Rattle.lab_program.proofs.Carried.{compiled_in, no_schedule, read_on, stopped, wanted}
@@ -23,15 +23,15 @@ returns-in_err-text-clause-carries g c =
     let p = err_from_is_err_and c.from_residual.result c.from_residual.ensures.1 in
     rw (p.1, p.2) (stopped _ (H c.args.shelf.now) (H c.read_file.new.shelf) c.in_err-text.field-0.0 (not_read c.in_err-text.ensures.not_read))
 
-pub returns-in_err-compilation-clause-carries : goal.returns-in_err-compilation-clause-carries
-returns-in_err-compilation-clause-carries g c =
+pub returns-in_err-problem-clause-carries : goal.returns-in_err-problem-clause-carries
+returns-in_err-problem-clause-carries g c =
     let H = g.S.Shelf.held in
     let held = H c.read_file.new.shelf in
     let main = c.args.algorithm.now.tree in
     let text = c.in_ok-text.text.items in
-    let e = c.in_err-compilation.field-0.0 in
-    let p = err_from_is_err_and c.from_residual-in_err-compilation.result c.from_residual-in_err-compilation.ensures.1 in
-    let h = subst (λ (t : Bytes). MakesCompilation main t (Err e)) c.deref.ensures.value c.in_err-compilation.ensures in
+    let e = c.in_err-problem.field-0.0 in
+    let p = err_from_is_err_and c.from_residual-in_err-problem.result c.from_residual-in_err-problem.ensures.1 in
+    let h = subst (λ (t : Bytes). MakesProblem main t (Err e)) c.deref.ensures.value c.in_err-problem.ensures in
     rw (p.1, p.2) (
     read_on Architecture c.args.name.now (H c.args.shelf.now) held text
     (λ (text : Bytes). architecture_in text main (λ (d : Described) (t : Table). give (of_text (lint_of_both c.args.algorithm.now.defs text d)))) _ c.in_ok-text.ensures.read
@@ -56,8 +56,8 @@ returns-clause-carries g c =
     let main = c.args.algorithm.now.tree in
     let defs = c.args.algorithm.now.defs in
     let text = c.in_ok-text.text.items in
-    let given = c.in_ok-compilation.compilation in
-    let is = subst (λ (t : Bytes). IsCompilation main t given) c.deref.ensures.value c.in_ok-compilation.ensures in
+    let given = c.in_ok-problem.problem in
+    let is = subst (λ (t : Bytes). IsProblem main t given) c.deref.ensures.value c.in_ok-problem.ensures in
     let same = c.in_ok-print_both.ensures ∙ ap (λ (t : Bytes). lint_of_both defs t (described_by given.text)) c.deref-2.ensures.value in
     read_on Architecture c.args.name.now (H c.args.shelf.now) held text
     (λ (text : Bytes). architecture_in text main (λ (d : Described) (t : Table). give (of_text (lint_of_both defs text d)))) _ c.in_ok-text.ensures.read

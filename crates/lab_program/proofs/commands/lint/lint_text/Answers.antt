@@ -3,17 +3,11 @@ use Rattle.std.specs.Prelude.{option_map}
 use Rattle.top_plans.specs.Status.{ending_of}
 use Rattle.lab_plans.specs.Plans.{lint_behind}
 use Rattle.lab_program.proofs.Carried.{stopped, went_on}
-use Rattle.compiler.proofs.Steps.{algorithm_stops}
+use Rattle.top_plans.proofs.Steps.{algorithm_stops}
 use Rattle.lab_program.proofs.commands.lint.lint_text.Goals as goal
 
-pub lint_of_read-requires-clause-names : goal.lint_of_read-requires-clause-names
-lint_of_read-requires-clause-names g c = c.in_ok-algorithm.ensures.reads.2.named
-
-pub lint_of_read-requires-clause-bounds : goal.lint_of_read-requires-clause-bounds
-lint_of_read-requires-clause-bounds g c = c.in_ok-algorithm.ensures.reads.2.bounded
-
-pub lint_of_read-requires-clause-distinct : goal.lint_of_read-requires-clause-distinct
-lint_of_read-requires-clause-distinct g c =
+pub lint_of_read-requires : goal.lint_of_read-requires
+lint_of_read-requires g c =
     let reads = c.in_ok-algorithm.ensures.reads in
     (c.accepted_are_well_read.ensures reads.0 c.in_ok-algorithm.algorithm.defs reads.2.says).once
 

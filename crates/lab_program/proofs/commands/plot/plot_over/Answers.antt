@@ -1,4 +1,5 @@
 use Rattle.std.proofs.Common.{◌≡◌, ◌∙◌, ◌*◌, ℕ, length, sum, sym, ap, refl}
+use Rattle.compiler.specs.Outputs.{excess}
 use Rattle.std.specs.Prelude.{Ok, Some, None}
 use Rattle.std.proofs.lemmas.Result.{err_from_is_err_and}
 use Rattle.algo_laws.specs.Ends.{actuator_lengths}
@@ -8,10 +9,9 @@ use Rattle.top_plans.specs.ActNames.{actuator_names}
 use Rattle.top_plans.specs.Plan.{give}
 use Rattle.top_plans.proofs.Makes.{gave}
 use Rattle.top_plans.specs.declared.Status.TheVariants.{Limit}
-use Rattle.top_plans.specs.Plans.{excess}
 use Rattle.lab_plans.specs.Asked.{of_text}
 use Rattle.lab_plans.specs.Plans.{plotted}
-use Rattle.compiler.proofs.Steps.{is_above, is_within}
+use Rattle.top_plans.proofs.Steps.{is_above, is_within}
 use Rattle.lab_program.proofs.Carried.{no_schedule, stopped, wanted}
 use Rattle.lab_program.proofs.commands.plot.plot_over.Goals as goal
 

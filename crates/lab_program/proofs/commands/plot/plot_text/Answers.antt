@@ -5,11 +5,11 @@ use Rattle.top_plans.specs.Status.{ending_of}
 use Rattle.top_plans.specs.Plans.{table_plan}
 use Rattle.lab_plans.specs.Plans.{plot_plan, plotted}
 use Rattle.lab_program.proofs.Carried.{rows_on, stopped, went_on}
-use Rattle.compiler.proofs.Steps.{algorithm_stops, table_stops}
+use Rattle.top_plans.proofs.Steps.{algorithm_stops, table_stops}
 use Rattle.lab_program.proofs.commands.plot.plot_text.Goals as goal
 
-pub plot_over-requires-clause-lens : goal.plot_over-requires-clause-lens
-plot_over-requires-clause-lens g c = c.in_ok-rows.ensures.reads.2.1
+pub plot_over-requires : goal.plot_over-requires
+plot_over-requires g c = c.in_ok-rows.ensures.reads.2.1
 
 pub returns-in_err-algorithm-clause-carries : goal.returns-in_err-algorithm-clause-carries
 returns-in_err-algorithm-clause-carries g c =

@@ -3,7 +3,7 @@ use Rattle.std.proofs.lemmas.Result.{err_from_is_err_and}
 use Rattle.lab_words.specs.Command.{chart, code, flat, report, trace}
 use Rattle.lab_words.specs.View.{effort_view}
 use Rattle.lab_plans.specs.Asked.{of_schedule}
-use Rattle.lab_program.specs.Found.{problem_of}
+use Rattle.lab_program.specs.Found.{request_of}
 use Rattle.lab_program.proofs.Schedules.{of_found}
 use Rattle.lab_program.proofs.commands.scheduled.text_of_found.Goals as goal
 
@@ -27,7 +27,7 @@ returns-in_err-schedule c =
 pub returns-in-Code : goal.returns-in-Code
 returns-in-Code c =
     let effort = effort_view c.args.effort in
-    rw c.in-Code.is (of_found (of_schedule code (problem_of c.args.compilation.now effort)) c.in_ok-schedule.schedule _ c.in_ok-schedule.ensures (c.print_program.ensures effort))
+    rw c.in-Code.is (of_found (of_schedule code (request_of c.args.problem.now effort)) c.in_ok-schedule.schedule _ c.in_ok-schedule.ensures (c.print_program.ensures effort))
 
 pub returns-in_err-print_chart-in-Chart : goal.returns-in_err-print_chart-in-Chart
 returns-in_err-print_chart-in-Chart c =
@@ -37,7 +37,8 @@ returns-in_err-print_chart-in-Chart c =
 pub returns-in-Chart : goal.returns-in-Chart
 returns-in-Chart c =
     let effort = effort_view c.args.effort in
-    rw c.in-Chart.is (of_found {A = Global} (of_schedule chart (problem_of c.args.compilation.now effort)) c.in_ok-schedule.schedule (Ok c.in_ok-print_chart-in-Chart.field-0) c.in_ok-schedule.ensures (inr c.in_ok-print_chart-in-Chart.ensures))
+    rw c.in-Chart.is (of_found {A = Global} (of_schedule chart (request_of c.args.problem.now effort)) c.in_ok-schedule.schedule
+    (Ok c.in_ok-print_chart-in-Chart.field-0) c.in_ok-schedule.ensures (inr c.in_ok-print_chart-in-Chart.ensures))
 
 pub returns-in_err-print_trace-in-Trace : goal.returns-in_err-print_trace-in-Trace
 returns-in_err-print_trace-in-Trace c =
@@ -47,7 +48,8 @@ returns-in_err-print_trace-in-Trace c =
 pub returns-in-Trace : goal.returns-in-Trace
 returns-in-Trace c =
     let effort = effort_view c.args.effort in
-    rw c.in-Trace.is (of_found {A = Global} (of_schedule trace (problem_of c.args.compilation.now effort)) c.in_ok-schedule.schedule (Ok c.in_ok-print_trace-in-Trace.field-0) c.in_ok-schedule.ensures (inr c.in_ok-print_trace-in-Trace.ensures))
+    rw c.in-Trace.is (of_found {A = Global} (of_schedule trace (request_of c.args.problem.now effort)) c.in_ok-schedule.schedule
+    (Ok c.in_ok-print_trace-in-Trace.field-0) c.in_ok-schedule.ensures (inr c.in_ok-print_trace-in-Trace.ensures))
 
 pub returns-in_err-print_flat-in-Flat : goal.returns-in_err-print_flat-in-Flat
 returns-in_err-print_flat-in-Flat c =
@@ -57,7 +59,8 @@ returns-in_err-print_flat-in-Flat c =
 pub returns-in-Flat : goal.returns-in-Flat
 returns-in-Flat c =
     let effort = effort_view c.args.effort in
-    rw c.in-Flat.is (of_found {A = Global} (of_schedule flat (problem_of c.args.compilation.now effort)) c.in_ok-schedule.schedule (Ok c.in_ok-print_flat-in-Flat.field-0) c.in_ok-schedule.ensures (inr c.in_ok-print_flat-in-Flat.ensures))
+    rw c.in-Flat.is (of_found {A = Global} (of_schedule flat (request_of c.args.problem.now effort)) c.in_ok-schedule.schedule
+    (Ok c.in_ok-print_flat-in-Flat.field-0) c.in_ok-schedule.ensures (inr c.in_ok-print_flat-in-Flat.ensures))
 
 pub returns-in_err-print_numbers-in-Report : goal.returns-in_err-print_numbers-in-Report
 returns-in_err-print_numbers-in-Report c =
@@ -67,4 +70,6 @@ returns-in_err-print_numbers-in-Report c =
 pub returns : goal.returns
 returns c =
     let effort = effort_view c.args.effort in
-    rw c.in-Report.is (of_found {A = Global} (of_schedule (report c.in-Report.reactions) (problem_of c.args.compilation.now effort)) c.in_ok-schedule.schedule (Ok c.in_ok-print_numbers-in-Report.field-0) c.in_ok-schedule.ensures (inr c.in_ok-print_numbers-in-Report.ensures))
+    rw c.in-Report.is (of_found {A = Global}
+    (of_schedule (report c.in-Report.reactions) (request_of c.args.problem.now effort)) c.in_ok-schedule.schedule
+    (Ok c.in_ok-print_numbers-in-Report.field-0) c.in_ok-schedule.ensures (inr c.in_ok-print_numbers-in-Report.ensures))

@@ -11,15 +11,9 @@ use Rattle.compiler.proofs.Sizes.{few_lines}
 use Rattle.lab_plans.specs.Plans.{why_behind, why_behind_text, why_of_code}
 use Rattle.lab_program.specs.Texts.{Carries}
 use Rattle.lab_program.proofs.Carried.{described_on, read_on, stopped, wanted, went_on}
-use Rattle.compiler.proofs.Steps.{algorithm_stops}
-use Rattle.compiler.proofs.Architectures.{description_stops}
+use Rattle.top_plans.proofs.Steps.{algorithm_stops}
+use Rattle.top_plans.proofs.Architectures.{description_stops}
 use Rattle.lab_program.proofs.commands.why.why_text.Goals as goal
-
-pub flatten_tree-requires-clause-names : goal.flatten_tree-requires-clause-names
-flatten_tree-requires-clause-names g c = c.in_ok-algorithm.ensures.reads.2.named
-
-pub flatten_tree-requires-clause-bounds : goal.flatten_tree-requires-clause-bounds
-flatten_tree-requires-clause-bounds g c = c.in_ok-algorithm.ensures.reads.2.bounded
 
 pub answer_of-requires : goal.answer_of-requires
 answer_of-requires g c = few_lines c.deref.result.now (subst (λ (t : Bytes). length t ≤ file_bound) (sym c.deref.ensures.value) c.in_ok-text.ensures.read.0.0)

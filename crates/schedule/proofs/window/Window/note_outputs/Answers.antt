@@ -16,7 +16,8 @@ loop-port-preserved c = elim c.if-port.branch [
             ∙ c.loop-port.invariant.left;
       }
   | else-port w ↦
-      let past = none_past c.loop-port.self.first c.loop-port.self.held c.args.decision.now.end (copy c.args.decision.now.operator (record { vertex = c.args.decision.now.op; port = c.loop-port.port })) w.if-port.false in
+      let past = none_past c.loop-port.self.first c.loop-port.self.held c.args.decision.now.end
+      (copy c.args.decision.now.operator (record { vertex = c.args.decision.now.op; port = c.loop-port.port })) w.if-port.false in
       let is = w.self-is ∙ (λ i. record { first = c.loop-port.self.first; held = sym past i }) in
       record {
         size = ap (λ (x : Window). length x.held) w.self-is ∙ c.loop-port.invariant.size;

@@ -8,5 +8,7 @@ abbrev pub invariant-loop-port : goal.invariant-loop-port
 invariant-loop-port l = record {
   size : length l.self.held ≡ 16384;
   first : l.self.first ≡ l.fn.self.first;
-  left : noted_all l.self.first l.self.held l.decision.end (map (copy l.decision.operator) (outputs_from l.decision.op l.port (drop l.port l.outs))) ≡ noted_all l.fn.self.first l.fn.self.held l.decision.end (map (copy l.decision.operator) (outputs_from l.decision.op 0 l.outs));
+  left : noted_all l.self.first l.self.held l.decision.end
+      (map (copy l.decision.operator) (outputs_from l.decision.op l.port (drop l.port l.outs)))
+      ≡ noted_all l.fn.self.first l.fn.self.held l.decision.end (map (copy l.decision.operator) (outputs_from l.decision.op 0 l.outs));
 }

@@ -11,4 +11,5 @@ pub returns-clause-shape : goal.returns-clause-shape
 returns-clause-shape c =
     let inner = subst (λ (w : Laid). HasShape w.vertices w.makers) (sym c.self.view_is) c.requires.shape in
     let added = subst (λ (w : Laid). HasShape w.vertices w.makers) (sym c.in_ok-add.ensures.ok) inner in
-    subst (λ (w : Laid). HasShape w.vertices w.makers) (sym c.note.ensures) (shape_kept c.add.new.self.vertices c.add.new.self.makers (copy c.args.transfer.to c.args.transfer.source) c.self.inside.next added)
+    subst (λ (w : Laid). HasShape w.vertices w.makers) (sym c.note.ensures)
+    (shape_kept c.add.new.self.vertices c.add.new.self.makers (copy c.args.transfer.to c.args.transfer.source) c.self.inside.next added)

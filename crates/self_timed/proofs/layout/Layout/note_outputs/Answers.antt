@@ -12,7 +12,8 @@ loop-out-preserved c =
     let rest = map (copy c.args.operator) (outputs_from c.args.op (c.loop-out.port + 1) (drop (c.loop-out._out-index + 1) c.args.outs.now)) in
     record {
       port = (let p = c.loop-out.invariant.port in omega arith);
-      row = subst (λ (m : List (List ℕ)). HasRow m c.args.op (length c.args.outs.now)) (sym makers) (has_row_kept c.loop-out.self.makers at c.args.op c.args.op (length c.args.outs.now) c.loop-out.invariant.row);
+      row = subst (λ (m : List (List ℕ)). HasRow m c.args.op (length c.args.outs.now)) (sym makers)
+          (has_row_kept c.loop-out.self.makers at c.args.op c.args.op (length c.args.outs.now) c.loop-out.invariant.row);
       same = ap (λ (w : Laid). record w { makers = c.args.self.now.makers }) c.note.ensures ∙ c.loop-out.invariant.same;
       left = ap (λ (m : List (List ℕ)). with_makers m rest c.args.op) makers
           ∙ output_noted c.loop-out.self.makers c.args.operator c.args.op c.args.op c.loop-out.port c.loop-out._out-index c.args.outs.now c.loop-out-test.true

@@ -9,5 +9,6 @@ invariant-loop-out l = record {
   port : l.port ≡ l._out-index;
   row : HasRow l.self.makers l.op (length l.outs);
   same : record l.self { makers = l.fn.self.makers } ≡ l.fn.self;
-  left : with_makers l.self.makers (map (copy l.operator) (outputs_from l.op l.port (drop l._out-index l.outs))) l.op ≡ with_makers l.fn.self.makers (map (copy l.operator) (outputs_from l.op 0 l.outs)) l.op;
+  left : with_makers l.self.makers (map (copy l.operator) (outputs_from l.op l.port (drop l._out-index l.outs))) l.op
+      ≡ with_makers l.fn.self.makers (map (copy l.operator) (outputs_from l.op 0 l.outs)) l.op;
 }

@@ -39,4 +39,5 @@ pub returns-clause-after : goal.returns-clause-after
 returns-clause-after c =
     let is = c.index-vertices-op.is ∙ ap (λ (l : Laid). get_or l.vertices c.args.decision.now.op c.index-vertices-op.result) c.self.view_is in
     let there = there_placed c.args.self.now.vertices c.args.self.now.makers c.args.decision.now c.index-vertices-op.result c.requires.shape c.requires.placed is in
-    run_after c.args.self.now c.add.new.self c.note_outputs.new.self c.args.decision.now c.index-vertices-op.result c.in_ok-sources.sources.items c.as_slice.result.now there c.in_ok-sources.ensures c.as_slice.ensures c.in_ok-add.ensures.ok c.note_outputs.ensures
+    run_after c.args.self.now c.add.new.self c.note_outputs.new.self c.args.decision.now c.index-vertices-op.result
+    c.in_ok-sources.sources.items c.as_slice.result.now there c.in_ok-sources.ensures c.as_slice.ensures c.in_ok-add.ensures.ok c.note_outputs.ensures

@@ -18,7 +18,13 @@ desks_are c = subst (λ (g : Graph). AreDesks g (λ v. true) (length g.vertices)
 pub returns-clause-ready : goal.returns-clause-ready
 returns-clause-ready c = let j = c.args.job.now in let p = c.in_ok-cells.ensures in
     opening_ready j p.job
-    (record { cells = map (λ v. v.items) c.in_ok-cells.cells.items; rows = c.in_ok-cells.rows.reactions; lens = c.in_ok-cells.rows.lens; desks = map (option_map lens_of_desk) c.in_ok-desks.desks.items })
+    (record {
+      cells = map (λ v. v.items) c.in_ok-cells.cells.items;
+      rows = c.in_ok-cells.rows.reactions;
+      lens =
+          c.in_ok-cells.rows.lens;
+      desks = map (option_map lens_of_desk) c.in_ok-desks.desks.items;
+    })
     (subst (λ (g : Graph). IsTrue (is_flat g)) c.flat.ensures c.in_ok-desks.ensures.valid)
     p.cells
     (ap (λ (l : List Values). length l) p.rows ∙ length-replicate (reactions j) (map zeros (actuator_lens j.graph j.graph.vertices)))

@@ -12,7 +12,8 @@ use Rattle.semaphore_core.proofs.own_parts.OwnParts.absorb.Goals as goal
 pub returns : goal.returns
 returns c = rw (← c.self.view_is) (
     let a = c.args in let s = c.self.inside in let r = c.index_mut-registers.result.now in
-    let there : a.seq < length s.registers.items = let l = c.requires.there in let m = ap (λ (p : Parts). length p.rooms) c.self.view_is in let e = length-map s.registers.items (λ (f : RegisterFile). f.room) in omega arith in
+    let there : a.seq < length s.registers.items = let l = c.requires.there in let m = ap (λ (p : Parts). length p.rooms) c.self.view_is in
+    let e = length-map s.registers.items (λ (f : RegisterFile). f.room) in omega arith in
     let value = to_z-of_z w64 a.value c.ranges.value in
     changed s.registers.items s.operations a.seq r c.absorb.new.registers there c.index_mut-registers.ensures.value c.absorb.new.self (λ (o : Own). absorbed a.job.now a.then a.reaction o a.value)
     (c.absorb.ensures.registers ∙ ap (λ (v : ℤ). with_values r (absorbed a.job.now a.then a.reaction (own_of r s.operations) v)) value)

@@ -16,7 +16,8 @@ returns c = rw (← c.self.view_is) (
     loaded c.args.job.now s.counts.items s.semaphores.items s.turns.items s.elements.items s.own s.steps.items
     c.args.seq c.args.reaction c.index_mut.result.now few c.index_mut.ensures.value
     c.args.place c.args.then (to_z w64 (of_z w64 c.element_in-value.result)) c.absorb.new.self
-    (found c.args.job.now (core_of s.counts.items s.semaphores.items s.turns.items s.elements.items s.own) c.program-program.result.now c.args.place c.args.reaction c.home.result c.slot-at.result c.deref.result.now c.element_in-value.result _
+    (found c.args.job.now (core_of s.counts.items s.semaphores.items s.turns.items s.elements.items s.own) c.program-program.result.now
+    c.args.place c.args.reaction c.home.result c.slot-at.result c.deref.result.now c.element_in-value.result _
     c.program-program.ensures.same c.deref.ensures.value c.home.ensures c.slot-at.ensures c.element_in-value.ensures (to_z-of_z w64 c.element_in-value.result f))
     c.absorb.ensures)
 
@@ -24,4 +25,6 @@ pub absorb-requires-clause-ready : goal.absorb-requires-clause-ready
 absorb-requires-clause-ready c = subst (λ (h : Held). AreReady c.args.job.now (kept_of h)) (sym c.self.view_is) c.requires.ready
 
 pub absorb-requires-clause-laid : goal.absorb-requires-clause-laid
-absorb-requires-clause-laid c = subst (λ (h : Held). LoadIsLaid c.args.job.now h.lens h.desks c.args.then) (sym c.self.view_is) (load_is_laid c.args.job.now c.args.self.now.lens c.args.self.now.desks c.requires.laid c.args.then)
+absorb-requires-clause-laid c =
+    subst (λ (h : Held). LoadIsLaid c.args.job.now h.lens h.desks c.args.then) (sym c.self.view_is)
+    (load_is_laid c.args.job.now c.args.self.now.lens c.args.self.now.desks c.requires.laid c.args.then)

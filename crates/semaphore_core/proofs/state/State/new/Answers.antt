@@ -12,8 +12,18 @@ use Rattle.semaphore_core.proofs.state.State.new.Goals as goal
 is_opening : (c : goal.In_ok-own) → AreAtOpening c.args.job.now c.in_ok-steps.steps.items c.in_ok-own.own
 is_opening c = subst (λ (l : List SeqSteps). AreAtOpening c.args.job.now l c.in_ok-own.own) c.as_slice-2.ensures.value c.in_ok-own.ensures.opening
 
-core_is : (c : goal.In_ok-own) → core_of c.in_ok-counts.counts.items c.in_ok-semaphores.semaphores.items c.in_ok-turns.turns.items c.in_ok-elements.elements.items c.in_ok-own.own ≡ opening c.args.job.now
-core_is c = λ i. record { counts = counts i; semaphores = semaphores i; turns = turns i; elements = elements i; registers = registers i; cells = c.in_ok-own.ensures.opening.cells i; rows = c.in_ok-own.ensures.rows i }
+core_is : (c : goal.In_ok-own) → core_of c.in_ok-counts.counts.items c.in_ok-semaphores.semaphores.items c.in_ok-turns.turns.items
+    c.in_ok-elements.elements.items c.in_ok-own.own ≡ opening c.args.job.now
+core_is c = λ i. record {
+  counts = counts i;
+  semaphores = semaphores i;
+  turns = turns i;
+  elements = elements i;
+  registers =
+      registers i;
+  cells = c.in_ok-own.ensures.opening.cells i;
+  rows = c.in_ok-own.ensures.rows i;
+}
   where
     same : c.program-program.result.now ≡ c.args.job.now.program
     same = c.program-program.ensures.same
@@ -37,6 +47,7 @@ pub returns-clause-core : goal.returns-clause-core
 returns-clause-core c = core_is c
 
 pub returns-clause-opened : goal.returns-clause-opened
-returns-clause-opened c = state_open c.args.job.now c.program-program.result.now c.program-program.ensures.same c.in_ok-steps.steps.items c.in_ok-steps.ensures c.in_ok-own.own (is_opening c) c.program-program.ensures.job
+returns-clause-opened c = state_open c.args.job.now c.program-program.result.now c.program-program.ensures.same c.in_ok-steps.steps.items
+    c.in_ok-steps.ensures c.in_ok-own.own (is_opening c) c.program-program.ensures.job
     (core_of c.in_ok-counts.counts.items c.in_ok-semaphores.semaphores.items c.in_ok-turns.turns.items c.in_ok-elements.elements.items c.in_ok-own.own)
     c.in_ok-own.ensures.laid_out (core_is c) c.in_ok-own.ensures.opening.ready

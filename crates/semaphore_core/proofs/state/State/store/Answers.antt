@@ -22,7 +22,9 @@ returns c = rw (← c.self.view_is) (
     stored c.args.job.now s.counts.items s.semaphores.items s.turns.items s.elements.items s.own s.steps.items
     c.args.seq c.args.reaction c.index_mut.result.now few c.index_mut.ensures.value
     c.args.place c.args.what (to_z w64 (of_z w64 c.emit-value.result)) c.home.result c.slot.result (with_items s.elements c.put_element.new.lists).items c.emit-value.new.self
-    (to_z-of_z w64 c.emit-value.result f ∙ c.emit-value.ensures.value) (c.home.ensures ∙ ap (λ (r : Program). home_of r c.args.place) c.program-program.ensures.same) (c.slot.ensures ∙ ap (λ (r : Program). slot_of r c.args.place c.args.reaction) c.program-program.ensures.same)
+    (to_z-of_z w64 c.emit-value.result f ∙ c.emit-value.ensures.value)
+    (c.home.ensures ∙ ap (λ (r : Program). home_of r c.args.place) c.program-program.ensures.same)
+    (c.slot.ensures ∙ ap (λ (r : Program). slot_of r c.args.place c.args.reaction) c.program-program.ensures.same)
     (same ∙ c.put_element.ensures ∙ ap (λ (l : List (List ℤ)). with_value l c.home.result c.slot.result (to_z w64 (of_z w64 c.emit-value.result))) c.deref_mut.ensures.value)
     c.emit-value.ensures.own)
 
@@ -30,4 +32,6 @@ pub emit-value-requires-clause-ready : goal.emit-value-requires-clause-ready
 emit-value-requires-clause-ready c = subst (λ (h : Held). AreReady c.args.job.now (kept_of h)) (sym c.self.view_is) c.requires.ready
 
 pub emit-value-requires-clause-laid : goal.emit-value-requires-clause-laid
-emit-value-requires-clause-laid c = subst (λ (h : Held). StoreIsLaid c.args.job.now h.lens h.desks c.args.what) (sym c.self.view_is) (store_is_laid c.args.job.now c.args.self.now.lens c.args.self.now.desks c.requires.laid c.args.what)
+emit-value-requires-clause-laid c =
+    subst (λ (h : Held). StoreIsLaid c.args.job.now h.lens h.desks c.args.what) (sym c.self.view_is)
+    (store_is_laid c.args.job.now c.args.self.now.lens c.args.self.now.desks c.requires.laid c.args.what)

@@ -14,5 +14,6 @@ loop-port-preserved c =
     one_more c.loop-port.outs.items c.push.new.self.items (map (numbering c.args.self.now) (map (copy d.operator) (outputs_from d.op (i + 1) (drop (i + 1) lens)))) _
     (numbering c.args.self.now (copy d.operator (record { vertex = d.op; port = i })))
     (c.in_ok-push.ensures.items ∙ ap (λ (n : ℕ). c.loop-port.outs.items ++ n ∷ []) (c.buffer.ensures ∙ here))
-    (subst (λ (l : List Source). c.loop-port.outs.items ++ map (numbering c.args.self.now) (map (copy d.operator) l) ≡ c.args.outs.now.items ++ map (numbering c.args.self.now) (map (copy d.operator) (outputs_from d.op 0 lens)))
+    (subst (λ (l : List Source). c.loop-port.outs.items ++ map (numbering c.args.self.now) (map (copy d.operator) l)
+    ≡ c.args.outs.now.items ++ map (numbering c.args.self.now) (map (copy d.operator) (outputs_from d.op 0 lens)))
     (outputs_next d.op i lens c.loop-port-test.true) c.loop-port.invariant)

@@ -19,7 +19,8 @@ loop-decision-preserved c =
       many = c.take.ensures.many ∙ c.loop-decision.invariant.many;
       left = λ s h.
           let there = c.take.ensures.many in
-          appended (projection one s) (projection rest s) (projection (flat_map (steps_at c.args.self.now) (acts_of (drop k ds))) s) (loop_at c.loop-decision.loops.items s) (loop_at c.take.new.loops.items s) _
+          appended (projection one s) (projection rest s) (projection (flat_map (steps_at c.args.self.now) (acts_of (drop k ds))) s)
+          (loop_at c.loop-decision.loops.items s) (loop_at c.take.new.loops.items s) _
           (ap (λ (l : List Step). projection l s) (acts_left (steps_at c.args.self.now) ds k d c.loop-decision-test.true c.decision-item.is) ∙ projection-append one rest s)
           (c.in_ok-take.ensures.adds s (omega arith)) (c.loop-decision.invariant.left s (omega arith));
     }

@@ -9,5 +9,7 @@ use Rattle.sequence_build.proofs.site.Site.loops.Given as goal
 abbrev pub invariant-loop-decision : goal.invariant-loop-decision
 invariant-loop-decision l = record {
   many : vec_len l.loops ≡ length l.self.sequences.now;
-  left : (s : ℕ) → s < vec_len l.loops → loop_at l.loops.items s ++ projection (flat_map (steps_at l.self) (acts_of (drop l.decision-index l.decisions))) s ≡ projection (flat_map (steps_at l.self) (acts_of l.decisions)) s;
+  left : (s : ℕ) → s < vec_len l.loops → loop_at l.loops.items s
+      ++ projection (flat_map (steps_at l.self) (acts_of (drop l.decision-index l.decisions))) s
+      ≡ projection (flat_map (steps_at l.self) (acts_of l.decisions)) s;
 }

@@ -6,4 +6,5 @@ use Rattle.sequence_build.proofs.site.Site.read_guards.Given as goal
 
 -- what is left makes the whole
 abbrev pub invariant-loop-guard : goal.invariant-loop-guard
-invariant-loop-guard l = l.ins.items ++ map (λ (d : Guard). numbering l.self (copy l.operator d.source)) (drop l.guard-index l.guards) ≡ l.fn.ins.items ++ map (λ (d : Guard). numbering l.self (copy l.operator d.source)) l.guards
+invariant-loop-guard l = l.ins.items ++ map (λ (d : Guard). numbering l.self (copy l.operator d.source)) (drop l.guard-index l.guards)
+    ≡ l.fn.ins.items ++ map (λ (d : Guard). numbering l.self (copy l.operator d.source)) l.guards

@@ -14,6 +14,8 @@ returns c =
     c.args.site.now c.args.decision.now c.in_ok-sequence.sequence c.as_slice.result.now c.as_slice-2.result.now
     c.in_ok-sequence.ensures (c.as_slice.ensures ∙ c.in_ok-ins.ensures) (c.as_slice-2.ensures ∙ c.in_ok-outs.ensures) refl
     (subst (λ (l : List Bool). Puts c.args.self.now.width c.args.self.now.reads.items l (λ b s. nat_eq c.in_ok-sequence.sequence s && list_any (λ n. nat_eq n b) c.as_slice.result.now)) (sym reads)
-    (subst (λ (l : List Bool). Puts c.args.self.now.width l c.put_all.new.marks (λ b s. nat_eq c.in_ok-sequence.sequence s && list_any (λ n. nat_eq n b) c.as_slice.result.now)) c.deref_mut.ensures.value c.put_all.ensures))
+    (subst (λ (l : List Bool). Puts c.args.self.now.width l c.put_all.new.marks
+    (λ b s. nat_eq c.in_ok-sequence.sequence s && list_any (λ n. nat_eq n b) c.as_slice.result.now)) c.deref_mut.ensures.value c.put_all.ensures))
     (subst (λ (l : List Bool). Puts c.args.self.now.width c.args.self.now.writes.items l (λ b s. nat_eq c.in_ok-sequence.sequence s && list_any (λ n. nat_eq n b) c.as_slice-2.result.now)) (sym writes)
-    (subst (λ (l : List Bool). Puts c.args.self.now.width l c.put_all-2.new.marks (λ b s. nat_eq c.in_ok-sequence.sequence s && list_any (λ n. nat_eq n b) c.as_slice-2.result.now)) c.deref_mut-2.ensures.value c.put_all-2.ensures))
+    (subst (λ (l : List Bool). Puts c.args.self.now.width l c.put_all-2.new.marks
+    (λ b s. nat_eq c.in_ok-sequence.sequence s && list_any (λ n. nat_eq n b) c.as_slice-2.result.now)) c.deref_mut-2.ensures.value c.put_all-2.ensures))

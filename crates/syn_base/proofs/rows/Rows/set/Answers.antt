@@ -34,6 +34,9 @@ returns c =
     let fits : FitsSigned w64 c.args.v = search rules in
     let value = to_z-of_z w64 c.args.v fits in
     let written : c.set.new.self ≡ set (get_or c.self.inside.rows.items c.args.k []) (sum (take c.args.vector c.self.inside.shape) + c.args.j) c.args.v =
-    c.set.ensures ∙ ap (set c.index_mut.result.now (c.start.result + c.args.j)) value ∙ ap (λ n. set c.index_mut.result.now (n + c.args.j) c.args.v) c.start.ensures.start ∙ ap (λ r. set r (sum (take c.args.vector c.self.inside.shape) + c.args.j) c.args.v) row_is in
+    c.set.ensures ∙ ap (set c.index_mut.result.now (c.start.result + c.args.j)) value
+    ∙ ap (λ n. set c.index_mut.result.now (n + c.args.j) c.args.v) c.start.ensures.start
+    ∙ ap (λ r. set r (sum (take c.args.vector c.self.inside.shape) + c.args.j) c.args.v) row_is in
     let done = reactions-set c.self.inside.shape c.self.inside.rows.items c.args.k c.args.vector c.args.j c.args.v c.set.new.self k_lt v_in j_in written in
-    ap (λ (r : List (List (List ℤ))). record { lens = c.self.inside.shape; reactions = r }) done ∙ ap (λ (r : Reactions). record { lens = r.lens; reactions = with_element r.reactions c.args.k c.args.vector c.args.j c.args.v }) c.self.view_is
+    ap (λ (r : List (List (List ℤ))). record { lens = c.self.inside.shape; reactions = r }) done
+    ∙ ap (λ (r : Reactions). record { lens = r.lens; reactions = with_element r.reactions c.args.k c.args.vector c.args.j c.args.v }) c.self.view_is

@@ -6,7 +6,7 @@ use Rattle.syndex_program.proofs.commands.chart.print_schedule.Goals as goal
 
 pub returns : goal.returns
 returns c =
-    let given = c.args.compilation.now in
+    let given = c.args.problem.now in
     let a = given.text.archi in
     c.in_ok-print_chart.ensures.text ∙ ap (λ (t : Bytes). t ++ timing.chart given.flat a c.in_ok-schedule.schedule) c.new-text.ensures.items
     ∙ ap (λ (s : Schedule). timing.chart given.flat a s) c.in_ok-schedule.ensures.run

@@ -11,8 +11,8 @@ use Rattle.top_plans.proofs.Makes.{gave, memory}
 use Rattle.top_plans.specs.Status.{ending_of}
 use Rattle.top_plans.specs.Given.{written}
 use Rattle.top_plans.specs.Plans.{architecture_plan, both_texts}
-use Rattle.compiler.proofs.Architectures as architecture
-use Rattle.compiler.proofs.Steps.{algorithm_stops, went_on}
+use Rattle.top_plans.proofs.Architectures as architecture
+use Rattle.top_plans.proofs.Steps.{algorithm_stops, went_on}
 use Rattle.syndex_program.proofs.commands.check.check_both.Goals as goal
 
 pub returns-in_err-algorithm-clause-makes : goal.returns-in_err-algorithm-clause-makes
@@ -21,15 +21,17 @@ returns-in_err-algorithm-clause-makes g c =
     let p = err_from_is_err_and c.from_residual.result c.from_residual.ensures.1 in
     rw (p.1, p.2) (algorithm_stops c.args.algorithm.now (H c.args.shelf.now) (H c.read_algorithm.new.shelf) c.in_err-algorithm.field-0.0 _ c.in_err-algorithm.ensures.reads)
 
-pub returns-in_err-compilation-clause-makes : goal.returns-in_err-compilation-clause-makes
-returns-in_err-compilation-clause-makes g c =
+pub returns-in_err-problem-clause-makes : goal.returns-in_err-problem-clause-makes
+returns-in_err-problem-clause-makes g c =
     let H = g.S.Shelf.held in
-    let p = err_from_is_err_and c.from_residual-in_err-compilation.result c.from_residual-in_err-compilation.ensures.1 in
+    let p = err_from_is_err_and c.from_residual-in_err-problem.result c.from_residual-in_err-problem.ensures.1 in
     rw (p.1, p.2) (
     went_on c.args.algorithm.now (H c.args.shelf.now) (H c.read_algorithm.new.shelf) (H c.read_architecture.new.shelf) c.in_ok-algorithm.algorithm
-    (λ (defs : Defs) (main : Vertex). architecture_plan c.args.architecture.now main (λ (d : Described) (t : Table). give (written (both_texts defs d)))) (Err (ending_of c.in_err-compilation.field-0.0))
+    (λ (defs : Defs) (main : Vertex). architecture_plan c.args.architecture.now main
+    (λ (d : Described) (t : Table). give (written (both_texts defs d)))) (Err (ending_of c.in_err-problem.field-0.0))
     c.in_ok-algorithm.ensures.reads
-    (architecture.architecture_stops c.in_ok-algorithm.algorithm.tree c.args.architecture.now (H c.read_algorithm.new.shelf) (H c.read_architecture.new.shelf) c.in_err-compilation.field-0.0 _ c.in_err-compilation.ensures.reads)
+    (architecture.architecture_stops c.in_ok-algorithm.algorithm.tree c.args.architecture.now (H c.read_algorithm.new.shelf)
+    (H c.read_architecture.new.shelf) c.in_err-problem.field-0.0 _ c.in_err-problem.ensures.reads)
     )
 
 pub returns-in_err-print_both-clause-makes : goal.returns-in_err-print_both-clause-makes
@@ -39,8 +41,9 @@ returns-in_err-print_both-clause-makes g c =
     rw (p.1, p.2) (
     went_on c.args.algorithm.now (H c.args.shelf.now) (H c.read_algorithm.new.shelf) (H c.read_architecture.new.shelf) c.in_ok-algorithm.algorithm
     (λ (defs : Defs) (main : Vertex). architecture_plan c.args.architecture.now main (λ (d : Described) (t : Table). give (written (both_texts defs d)))) _ c.in_ok-algorithm.ensures.reads
-    (architecture.went_on c.in_ok-algorithm.algorithm.tree c.args.architecture.now (H c.read_algorithm.new.shelf) (H c.read_architecture.new.shelf) (H c.read_architecture.new.shelf) c.in_ok-compilation.compilation
-    (λ (d : Described) (t : Table). give (written (both_texts c.in_ok-algorithm.algorithm.defs d))) _ c.in_ok-compilation.ensures.reads
+    (architecture.went_on c.in_ok-algorithm.algorithm.tree c.args.architecture.now (H c.read_algorithm.new.shelf)
+    (H c.read_architecture.new.shelf) (H c.read_architecture.new.shelf) c.in_ok-problem.problem
+    (λ (d : Described) (t : Table). give (written (both_texts c.in_ok-algorithm.algorithm.defs d))) _ c.in_ok-problem.ensures.reads
     (memory (H c.read_architecture.new.shelf) _))
     )
 
@@ -50,6 +53,6 @@ returns-clause-makes g c =
     let algorithm = c.in_ok-algorithm.algorithm in
     went_on c.args.algorithm.now (H c.args.shelf.now) (H c.read_algorithm.new.shelf) (H c.read_architecture.new.shelf) algorithm
     (λ (defs : Defs) (main : Vertex). architecture_plan c.args.architecture.now main (λ (d : Described) (t : Table). give (written (both_texts defs d)))) _ c.in_ok-algorithm.ensures.reads
-    (architecture.went_on algorithm.tree c.args.architecture.now (H c.read_algorithm.new.shelf) (H c.read_architecture.new.shelf) (H c.read_architecture.new.shelf) c.in_ok-compilation.compilation
-    (λ (d : Described) (t : Table). give (written (both_texts algorithm.defs d))) _ c.in_ok-compilation.ensures.reads
+    (architecture.went_on algorithm.tree c.args.architecture.now (H c.read_algorithm.new.shelf) (H c.read_architecture.new.shelf) (H c.read_architecture.new.shelf) c.in_ok-problem.problem
+    (λ (d : Described) (t : Table). give (written (both_texts algorithm.defs d))) _ c.in_ok-problem.ensures.reads
     (gave (H c.read_architecture.new.shelf) _ _ (ap (λ (x : Bytes). Ok (written x)) c.in_ok-print_both.ensures)))

@@ -8,7 +8,7 @@ use Rattle.algo_tree.specs.Tree.{Vertex}
 use Rattle.top_plans.specs.Plan.{give}
 use Rattle.top_plans.proofs.Makes.{gave, memory}
 use Rattle.top_plans.specs.Given.{written}
-use Rattle.compiler.proofs.Steps.{algorithm_stops, went_on}
+use Rattle.top_plans.proofs.Steps.{algorithm_stops, went_on}
 use Rattle.syndex_program.proofs.commands.check.check_text.Goals as goal
 
 pub returns-in_err-algorithm-clause-makes : goal.returns-in_err-algorithm-clause-makes

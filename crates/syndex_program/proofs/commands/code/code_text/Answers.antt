@@ -10,15 +10,15 @@ use Rattle.top_plans.specs.FlatOf.{flat_of}
 use Rattle.top_plans.specs.Run.{Makes}
 use Rattle.top_plans.specs.Status.{ending_of}
 use Rattle.top_plans.specs.Plans.{architecture_plan, macro_plan}
-use Rattle.compiler.specs.Reads.{text_in}
-use Rattle.compiler.proofs.Architectures as architecture
-use Rattle.compiler.proofs.Steps.{algorithm_stops, went_on}
+use Rattle.top_plans.specs.Reads.{text_in}
+use Rattle.top_plans.proofs.Architectures as architecture
+use Rattle.top_plans.proofs.Steps.{algorithm_stops, went_on}
 use Rattle.syndex_program.proofs.commands.code.code_text.Goals as goal
 
 pub compile_code-requires : goal.compile_code-requires
 compile_code-requires g c =
-    let given = c.in_ok-compilation.compilation in
-    let is = c.in_ok-compilation.ensures.reads.2 in
+    let given = c.in_ok-problem.problem in
+    let is = c.in_ok-problem.ensures.reads.2 in
     subst (λ (f : Graph). durations_of f (described_by given.text) ≡ Ok given.durations) (sym is.flattens) is.lasts
 
 pub returns-in_err-algorithm-clause-makes : goal.returns-in_err-algorithm-clause-makes
@@ -27,15 +27,17 @@ returns-in_err-algorithm-clause-makes g c =
     let p = err_from_is_err_and c.from_residual.result c.from_residual.ensures.1 in
     rw (p.1, p.2) (algorithm_stops c.args.algorithm.now (H c.args.shelf.now) (H c.read_algorithm.new.shelf) c.in_err-algorithm.field-0.0 _ c.in_err-algorithm.ensures.reads)
 
-pub returns-in_err-compilation-clause-makes : goal.returns-in_err-compilation-clause-makes
-returns-in_err-compilation-clause-makes g c =
+pub returns-in_err-problem-clause-makes : goal.returns-in_err-problem-clause-makes
+returns-in_err-problem-clause-makes g c =
     let H = g.S.Shelf.held in
-    let p = err_from_is_err_and c.from_residual-in_err-compilation.result c.from_residual-in_err-compilation.ensures.1 in
+    let p = err_from_is_err_and c.from_residual-in_err-problem.result c.from_residual-in_err-problem.ensures.1 in
     rw (p.1, p.2) (
     went_on c.args.algorithm.now (H c.args.shelf.now) (H c.read_algorithm.new.shelf) (H c.read_architecture.new.shelf) c.in_ok-algorithm.algorithm
-    (λ (defs : Defs) (main : Vertex). architecture_plan c.args.architecture.now main (λ (d : Described) (t : Table). macro_plan (flat_of main) d.archi t)) (Err (ending_of c.in_err-compilation.field-0.0))
+    (λ (defs : Defs) (main : Vertex). architecture_plan c.args.architecture.now main
+    (λ (d : Described) (t : Table). macro_plan (flat_of main) d.archi t)) (Err (ending_of c.in_err-problem.field-0.0))
     c.in_ok-algorithm.ensures.reads
-    (architecture.architecture_stops c.in_ok-algorithm.algorithm.tree c.args.architecture.now (H c.read_algorithm.new.shelf) (H c.read_architecture.new.shelf) c.in_err-compilation.field-0.0 _ c.in_err-compilation.ensures.reads)
+    (architecture.architecture_stops c.in_ok-algorithm.algorithm.tree c.args.architecture.now (H c.read_algorithm.new.shelf)
+    (H c.read_architecture.new.shelf) c.in_err-problem.field-0.0 _ c.in_err-problem.ensures.reads)
     )
 
 pub returns-clause-makes : goal.returns-clause-makes
@@ -43,10 +45,10 @@ returns-clause-makes g c =
     let H = g.S.Shelf.held in
     let held = H c.read_architecture.new.shelf in
     let algorithm = c.in_ok-algorithm.algorithm in
-    let given = c.in_ok-compilation.compilation in
+    let given = c.in_ok-problem.problem in
     let made = text_in c.compile_code.result in
     went_on c.args.algorithm.now (H c.args.shelf.now) (H c.read_algorithm.new.shelf) held algorithm
     (λ (defs : Defs) (main : Vertex). architecture_plan c.args.architecture.now main (λ (d : Described) (t : Table). macro_plan (flat_of main) d.archi t)) made c.in_ok-algorithm.ensures.reads
     (architecture.went_on algorithm.tree c.args.architecture.now (H c.read_algorithm.new.shelf) held held given
-    (λ (d : Described) (t : Table). macro_plan (flat_of algorithm.tree) d.archi t) made c.in_ok-compilation.ensures.reads
-    (subst (λ (f : Graph). Makes held held (macro_plan f given.text.archi given.durations) made) c.in_ok-compilation.ensures.reads.2.flattens (c.compile_code.ensures held)))
+    (λ (d : Described) (t : Table). macro_plan (flat_of algorithm.tree) d.archi t) made c.in_ok-problem.ensures.reads
+    (subst (λ (f : Graph). Makes held held (macro_plan f given.text.archi given.durations) made) c.in_ok-problem.ensures.reads.2.flattens (c.compile_code.ensures held)))

@@ -1,4 +1,5 @@
 use Rattle.std.proofs.Common.{subst}
+use Rattle.compiler.specs.Executions.{Execution}
 use Rattle.std.specs.Prelude.{Ok, Err}
 use Rattle.std.proofs.lemmas.Result.{err_from_is_err_and}
 use Rattle.syn_base.specs.Bytes.{Bytes}
@@ -12,15 +13,14 @@ use Rattle.self_timed.specs.Graph.{Graph}
 use Rattle.top_plans.specs.declared.File.TheVariants.{Architecture, Code}
 use Rattle.top_plans.specs.FlatOf.{flat_of}
 use Rattle.top_plans.proofs.Makes.{memory}
-use Rattle.top_plans.specs.Given.{Execution}
 use Rattle.top_plans.specs.Plan.{Plan}
 use Rattle.top_plans.specs.Status.{Refusal}
 use Rattle.top_plans.specs.Plans.{code_in, described_in, execution, execution_plan, read_file, table_plan}
 use Rattle.syndex_program.specs.Executes.{executed_in}
 use Rattle.syndex_program.specs.Foreign.{ReadsProgram}
-use Rattle.compiler.proofs.Architectures.{description_stops, text_went_on}
+use Rattle.top_plans.proofs.Architectures.{description_stops, text_went_on}
 use Rattle.syndex_program.proofs.Coded.{program_stops, program_went_on}
-use Rattle.compiler.proofs.Steps.{algorithm_stops, table_stops, went_on, rows_went_on}
+use Rattle.top_plans.proofs.Steps.{algorithm_stops, table_stops, went_on, rows_went_on}
 use Rattle.compiler.proofs.Tables.{few_rows}
 use Rattle.syndex_program.proofs.commands.exec.read_foreign.Goals as goal
 
@@ -34,12 +34,6 @@ module _ (h c s : Bytes) where
 
   abbrev behind_algorithm : Defs → Vertex → Plan Refusal Execution
   behind_algorithm defs main = read_file Architecture h (λ (lines : Bytes). described_in lines (behind_text main))
-
-pub flatten_tree-requires-clause-names : goal.flatten_tree-requires-clause-names
-flatten_tree-requires-clause-names g c = c.in_ok-algorithm.ensures.reads.2.named
-
-pub flatten_tree-requires-clause-bounds : goal.flatten_tree-requires-clause-bounds
-flatten_tree-requires-clause-bounds g c = c.in_ok-algorithm.ensures.reads.2.bounded
 
 pub execution_of-requires-clause-has : goal.execution_of-requires-clause-has
 execution_of-requires-clause-has g c =
@@ -90,7 +84,8 @@ returns-in_err-program-clause-makes g c =
     let algorithm = c.in_ok-algorithm.algorithm in
     let text = c.in_ok-text.text in
     let p = err_from_is_err_and c.from_residual-in_err-program.result c.from_residual-in_err-program.ensures.1 in
-    let reads = subst (λ (f : Graph). ReadsProgram f text.archi c.args.code.now (H c.read_description.new.shelf) (H c.read_program.new.shelf) (Err c.in_err-program.field-0.0)) c.in_ok-flat.ensures c.in_err-program.ensures.reads in
+    let reads = subst (λ (f : Graph). ReadsProgram f text.archi c.args.code.now (H c.read_description.new.shelf)
+    (H c.read_program.new.shelf) (Err c.in_err-program.field-0.0)) c.in_ok-flat.ensures c.in_err-program.ensures.reads in
     rw (p.1, p.2) (
     went_on c.args.algorithm.now (H c.args.shelf.now) (H c.read_algorithm.new.shelf) (H c.read_program.new.shelf) algorithm
     (behind_algorithm c.args.architecture.now c.args.code.now c.args.sensors.now) _ c.in_ok-algorithm.ensures.reads
@@ -106,7 +101,8 @@ returns-in_err-rows-clause-makes g c =
     let text = c.in_ok-text.text in
     let program = c.in_ok-program.program in
     let p = err_from_is_err_and c.from_residual-in_err-rows.result c.from_residual-in_err-rows.ensures.1 in
-    let reads = subst (λ (f : Graph). ReadsProgram f text.archi c.args.code.now (H c.read_description.new.shelf) (H c.read_program.new.shelf) (Ok program)) c.in_ok-flat.ensures c.in_ok-program.ensures.reads in
+    let reads = subst (λ (f : Graph). ReadsProgram f text.archi c.args.code.now (H c.read_description.new.shelf)
+    (H c.read_program.new.shelf) (Ok program)) c.in_ok-flat.ensures c.in_ok-program.ensures.reads in
     rw (p.1, p.2) (
     went_on c.args.algorithm.now (H c.args.shelf.now) (H c.read_algorithm.new.shelf) (H c.read_table.new.shelf) algorithm
     (behind_algorithm c.args.architecture.now c.args.code.now c.args.sensors.now) _ c.in_ok-algorithm.ensures.reads
@@ -126,7 +122,8 @@ returns-clause-makes g c =
     let program = c.in_ok-program.program in
     let made = executed_in c.execution_of.result in
     let held = H c.read_table.new.shelf in
-    let reads = subst (λ (f : Graph). ReadsProgram f text.archi c.args.code.now (H c.read_description.new.shelf) (H c.read_program.new.shelf) (Ok program)) c.in_ok-flat.ensures c.in_ok-program.ensures.reads in
+    let reads = subst (λ (f : Graph). ReadsProgram f text.archi c.args.code.now (H c.read_description.new.shelf)
+    (H c.read_program.new.shelf) (Ok program)) c.in_ok-flat.ensures c.in_ok-program.ensures.reads in
     went_on c.args.algorithm.now (H c.args.shelf.now) (H c.read_algorithm.new.shelf) held algorithm
     (behind_algorithm c.args.architecture.now c.args.code.now c.args.sensors.now) made c.in_ok-algorithm.ensures.reads
     (text_went_on c.args.architecture.now (H c.read_algorithm.new.shelf) (H c.read_description.new.shelf) held text

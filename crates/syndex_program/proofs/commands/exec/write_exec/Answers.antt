@@ -16,7 +16,8 @@ returns-in-Ok g c =
     let d = c.args.driven.now in
     let d' = c.write_lines.new.driven in
     inl (subst (λ (ending : Ending Refusal). Performs driven_by (window_stages (executed c.args.execution.now)) (K c.args.out.now) (K c.write_lines.new.out) d d' ending) (sym c.status_of.ensures)
-    (subst (λ (xs : List (Stage JobData)). Performs {R = Refusal} driven_by xs (K c.args.out.now) (K c.write_lines.new.out) d d' (windows.ending_of c.write_lines.result)) c.in-Ok.ensures c.write_lines.ensures))
+    (subst (λ (xs : List (Stage JobData)). Performs {R = Refusal} driven_by xs (K c.args.out.now) (K c.write_lines.new.out) d d'
+    (windows.ending_of c.write_lines.result)) c.in-Ok.ensures c.write_lines.ensures))
 
 pub returns-in-Err : goal.returns-in-Err
 returns-in-Err g c = inr (refl, refl, refl)

@@ -5,7 +5,7 @@ use Rattle.syn_base.specs.Bytes.{Bytes}
 use Rattle.algo_text.specs.declared.definition.Defs.{Defs}
 use Rattle.algo_tree.specs.Tree.{Vertex}
 use Rattle.flat_text.specs.Listing.{listing}
-use Rattle.compiler.proofs.Steps.{algorithm_stops, went_on}
+use Rattle.top_plans.proofs.Steps.{algorithm_stops, went_on}
 use Rattle.top_plans.specs.Plan.{give}
 use Rattle.top_plans.proofs.Makes.{gave, memory}
 use Rattle.top_plans.specs.FlatOf.{flat_of}

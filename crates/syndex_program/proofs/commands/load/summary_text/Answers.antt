@@ -1,4 +1,5 @@
 use Rattle.std.proofs.Common.{◌≡◌, ◌∙◌, ℕ, ℤ, List, length, refl, sym, ap, subst, arith, rules, to_z, of_z, w64, FitsSigned}
+use Rattle.compiler.specs.Executions.{Execution, acts_of, one_job}
 use Rattle.std.specs.Prelude.{Result, Ok, Err, Vec, IfOk, OnErr}
 use Rattle.std.specs.Int.{int_wrap}
 use Rattle.std.proofs.Math.Facts.{to_z-of_z}
@@ -15,7 +16,6 @@ use Rattle.word_rule.specs.Driven.{Driven, driven_by}
 use Rattle.job_windows.specs.Windowed.{WindowsData}
 use Rattle.top_plans.specs.Flat.{HasFlat}
 use Rattle.top_plans.specs.Stage.{after_jobs, RunsSome}
-use Rattle.top_plans.specs.Given.{Execution, acts_of, one_job}
 use Rattle.top_plans.specs.Plans.{sum_of, summary, summary_with}
 use Rattle.syndex_program.specs.Executes.{executed}
 use Rattle.syndex_program.specs.Left.{jobs_left}

@@ -6,4 +6,5 @@ use Rattle.algo_text.specs.Expr.{total}
 use Rattle.syndex_program.proofs.commands.load.with_row.Given as goal
 
 abbrev pub invariant-loop-actuator : goal.invariant-loop-actuator
-invariant-loop-actuator l = wrapped (l.sum +ℤ total (all_joined (drop l.actuator (slice_index_or l.rows.reactions l.k [])))) ≡ wrapped (l.start +ℤ total (all_joined (slice_index_or l.rows.reactions l.k [])))
+invariant-loop-actuator l = wrapped (l.sum +ℤ total (all_joined (drop l.actuator (slice_index_or l.rows.reactions l.k []))))
+    ≡ wrapped (l.start +ℤ total (all_joined (slice_index_or l.rows.reactions l.k [])))

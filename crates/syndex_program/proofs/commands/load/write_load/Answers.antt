@@ -1,4 +1,5 @@
 use Rattle.std.proofs.Common.{◌≡◌, ◌∙◌, List, [], ◌∷◌, refl, subst, inl, inr}
+use Rattle.compiler.specs.Executions.{one_job}
 use Rattle.std.specs.Prelude.{false}
 use Rattle.syn_base.specs.Bytes.{Bytes}
 use Rattle.run_laws.specs.Windows.{window_jobs}
@@ -9,7 +10,6 @@ use Rattle.top_plans.specs.Ending.{Ending, done, refused, unread, unwritten, no_
 use Rattle.top_plans.specs.Run.{Performs, Writes}
 use Rattle.top_plans.specs.Stage.{after_jobs}
 use Rattle.top_plans.specs.Status.{Refusal, ending_of}
-use Rattle.top_plans.specs.Given.{one_job}
 use Rattle.top_plans.specs.Plans.{summary}
 use Rattle.syndex_program.specs.Executes.{executed}
 use Rattle.syndex_program.proofs.commands.load.write_load.Goals as goal

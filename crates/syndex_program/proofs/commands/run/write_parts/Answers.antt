@@ -17,7 +17,9 @@ returns g c =
     let e = executed c.args.execution.now in
     inr (
       K c.write_whole.new.sink,
-      wrote_as (K c.args.out.now) (K c.write_whole.new.sink) c.deref.result.now (head e) _ true (c.deref.ensures.value ∙ c.in-Ok.ensures) (c.is_err.ensures.negation ∙ ap not c.if-is_err.false) c.write_whole.ensures,
-      subst (λ (xs : List (Stage JobData)). Performs {R = Refusal} driven_by xs (K c.write_whole.new.sink) (K c.write_lines.new.out) c.args.driven.now c.write_lines.new.driven (windows.ending_of c.write_lines.result))
+      wrote_as (K c.args.out.now) (K c.write_whole.new.sink) c.deref.result.now (head e) _ true (c.deref.ensures.value ∙ c.in-Ok.ensures)
+          (c.is_err.ensures.negation ∙ ap not c.if-is_err.false) c.write_whole.ensures,
+      subst (λ (xs : List (Stage JobData)). Performs {R = Refusal} driven_by xs (K c.write_whole.new.sink)
+          (K c.write_lines.new.out) c.args.driven.now c.write_lines.new.driven (windows.ending_of c.write_lines.result))
           c.in-Ok-lines_of.ensures c.write_lines.ensures,
     )

@@ -1,13 +1,15 @@
 use Rattle.std.proofs.Common.{◌≡◌, ◌∙◌, ◌*◌, ℕ, length, sum, sym, ap}
+use Rattle.compiler.specs.Executions.{output_of}
+use Rattle.compiler.specs.Outputs.{excess}
 use Rattle.std.specs.Prelude.{Ok, Some, None}
 use Rattle.std.proofs.lemmas.Result.{err_from_is_err_and}
 use Rattle.syn_base.specs.Bytes.{Bytes}
 use Rattle.algo_tree.specs.Ends.{actuator_lengths}
 use Rattle.top_plans.specs.Plan.{give}
 use Rattle.top_plans.proofs.Makes.{gave, memory}
-use Rattle.top_plans.specs.Given.{output_of, written}
-use Rattle.top_plans.specs.Plans.{excess, rows_plan}
-use Rattle.compiler.proofs.Steps.{is_above, is_within}
+use Rattle.top_plans.specs.Given.{written}
+use Rattle.top_plans.specs.Plans.{rows_plan}
+use Rattle.top_plans.proofs.Steps.{is_above, is_within}
 use Rattle.syndex_program.proofs.commands.sim.text_over.Goals as goal
 
 pub returns-in_err-width : goal.returns-in_err-width

@@ -30,7 +30,8 @@ returns-in_ok-text-in-Ok-Some g c =
     let made = rw c.in-Ok-Some.field-0-is at c.in-Ok-Some.ensures in
     let rows = ap (λ (r : Reactions). r.reactions) c.rows.ensures ∙ made.2.rows ∙ made.3 in
     goes main w c.args.driven.now c.run_next.new.driven made.0 c.go_on.new.self c.in_ok-text-in-Ok-Some.text.items c.go_on.ensures
-    (c.in_ok-text-in-Ok-Some.ensures ∙ ap (λ s. text_from s (actuator_names main) c.rows.result.now.reactions) c.first-first.ensures.value ∙ lines_of main w.job (first_of w.next) c.rows.result.now.reactions c.args.self.now.acts rows)
+    (c.in_ok-text-in-Ok-Some.ensures ∙ ap (λ s. text_from s (actuator_names main) c.rows.result.now.reactions) c.first-first.ensures.value
+    ∙ lines_of main w.job (first_of w.next) c.rows.result.now.reactions c.args.self.now.acts rows)
     made.1
 
 pub returns-in_err-text-in-Ok-Some : goal.returns-in_err-text-in-Ok-Some

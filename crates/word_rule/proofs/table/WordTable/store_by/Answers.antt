@@ -14,5 +14,7 @@ store-requires g c = let q = c.requires in let a = c.args in let t = c.self.insi
     let word : c.cast_unsigned.result ≡ word_of a.value = c.cast_unsigned.ensures ∙ ap word_of exact in (
       can.seated,
       word_there t.key w.me.0 a.next.seq a.next.reaction a.next.step a.next.word t.table_id.words c.self.invariant.0 can.stands can.word_is c.self.invariant.1,
-      rw (q.named, c.seat.invariant, word) (store_allowed t.key w.me.0 a.next.seq a.next.reaction a.next.step a.value t.table_id.slots w.id a.next.word c.self.invariant.0 can.stands (stores_at _ _ a.next a.value c.seat.view_is q.value) exact can.word_is),
+      rw (q.named, c.seat.invariant, word)
+          (store_allowed t.key w.me.0 a.next.seq a.next.reaction a.next.step a.value t.table_id.slots w.id a.next.word c.self.invariant.0
+          can.stands (stores_at _ _ a.next a.value c.seat.view_is q.value) exact can.word_is),
     )

@@ -32,7 +32,10 @@ pub returns-clause-told : goal.returns-clause-told
 returns-clause-told c = told_of c.self.inside.parts c.try_micro-answer.new.driver c.self.invariant c.try_micro-answer.ensures.of
 
 pub returns-clause-alone : goal.returns-clause-alone
-returns-clause-alone c every = let q = c.requires in let w = c.self.inside.parts in let d = c.driver.inside.parts in let e = c.try_micro-answer.new.driver in let s = c.try_micro-answer.ensures.same in let seq = c.args.seq in
+returns-clause-alone c every = let q = c.requires in let w = c.self.inside.parts in let d = c.driver.inside.parts in
+    let e = c.try_micro-answer.new.driver in let s = c.try_micro-answer.ensures.same in let seq = c.args.seq in
     let of : (driver_view d).fabric ≡ fabric_view w = ap (λ (d : DriverData). d.fabric) c.driver.view_is ∙ q.of ∙ sym c.self.view_is in
     subst (λ (x : DriverData). AnswersAlone x (driver_view e) seq c.try_micro-answer.result) c.driver.view_is
-    (alone_answers w d e seq c.try_micro-answer.result c.self.invariant (of_views w d of c.driver.invariant) c.try_micro-answer.ensures.of (subst DrivesEvery (sym c.driver.view_is) every) s.groups s.group (subst (λ (f : FabricData). c.args.seq < length f.job.program.seqs) (sym c.self.view_is) q.there) c.try_micro-answer.ensures.answer)
+    (alone_answers w d e seq c.try_micro-answer.result c.self.invariant (of_views w d of c.driver.invariant) c.try_micro-answer.ensures.of
+    (subst DrivesEvery (sym c.driver.view_is) every) s.groups s.group
+    (subst (λ (f : FabricData). c.args.seq < length f.job.program.seqs) (sym c.self.view_is) q.there) c.try_micro-answer.ensures.answer)

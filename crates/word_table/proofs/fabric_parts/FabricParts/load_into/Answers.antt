@@ -36,10 +36,15 @@ absorb-requires-clause-room c = let q = c.requires in let a = c.args in let r = 
 pub returns-clause-of : goal.returns-clause-of
 returns-clause-of c = let q = c.requires in let a = c.args in let l = c.load-found.ensures in
     let f : SFits w64 c.cast_signed.result = search rules in
-    loaded_driver a.self.now a.driver.now a.next q.fabric q.can _ (record { table = ap (λ s. s.table) l.seat; job = refl; groups = refl; group = refl }) (ap (λ s. s.view) l.seat) c.count_up.ensures a.place a.then q.kind c.load-found.result l.found
+    loaded_driver a.self.now a.driver.now a.next q.fabric q.can _
+    (record { table = ap (λ s. s.table) l.seat; job = refl; groups = refl; group = refl })
+    (ap (λ s. s.view) l.seat) c.count_up.ensures a.place a.then q.kind c.load-found.result l.found
     (to_z w64 (of_z w64 c.cast_signed.result)) (to_z-of_z w64 c.cast_signed.result f ∙ c.cast_signed.ensures) c.absorb.ensures
 
 pub returns-clause-made : goal.returns-clause-made
 returns-clause-made c = let q = c.requires in let a = c.args in let l = c.load-found.ensures in
-    free_steps a.self.now a.driver.now a.next q.fabric q.can (record a.driver.now { seat = c.load-found.new.seat; counts = c.count_up.new.counts; own = c.absorb.new.self }) (record { table = ap (λ s. s.table) l.seat; job = refl; groups = refl; group = refl }) (ap (λ s. s.view) l.seat) c.count_up.ensures (loads_freely a.place a.then a.next.step q.kind)
+    free_steps a.self.now a.driver.now a.next q.fabric q.can
+    (record a.driver.now { seat = c.load-found.new.seat; counts = c.count_up.new.counts; own = c.absorb.new.self })
+    (record { table = ap (λ s. s.table) l.seat; job = refl; groups = refl; group = refl }) (ap (λ s. s.view) l.seat) c.count_up.ensures
+    (loads_freely a.place a.then a.next.step q.kind)
     (finds_told a.self.now a.driver.now a.next q.fabric q.can c.load-found.result l.found)

@@ -36,8 +36,13 @@ count_up-requires c = let q = c.requires in let a = c.args in can_count a.self.n
 
 pub returns-clause-of : goal.returns-clause-of
 returns-clause-of c = let q = c.requires in let a = c.args in
-    stored_driver a.self.now a.driver.now a.next q.fabric q.can _ (record { table = ap (λ s. s.table) c.store.ensures.seat; job = refl; groups = refl; group = refl }) (ap (λ s. s.view) c.store.ensures.seat) c.count_up.ensures a.place a.what q.kind c.store.ensures.agree c.emit-value.ensures.own
+    stored_driver a.self.now a.driver.now a.next q.fabric q.can _
+    (record { table = ap (λ s. s.table) c.store.ensures.seat; job = refl; groups = refl; group = refl })
+    (ap (λ s. s.view) c.store.ensures.seat) c.count_up.ensures a.place a.what q.kind c.store.ensures.agree c.emit-value.ensures.own
 
 pub returns-clause-made : goal.returns-clause-made
 returns-clause-made c = let q = c.requires in let a = c.args in
-    free_steps a.self.now a.driver.now a.next q.fabric q.can (record a.driver.now { seat = c.store.new.seat; counts = c.count_up.new.counts; own = c.emit-value.new.self }) (record { table = ap (λ s. s.table) c.store.ensures.seat; job = refl; groups = refl; group = refl }) (ap (λ s. s.view) c.store.ensures.seat) c.count_up.ensures (stores_freely a.place a.what a.next.step q.kind) c.store.ensures.agree
+    free_steps a.self.now a.driver.now a.next q.fabric q.can
+    (record a.driver.now { seat = c.store.new.seat; counts = c.count_up.new.counts; own = c.emit-value.new.self })
+    (record { table = ap (λ s. s.table) c.store.ensures.seat; job = refl; groups = refl; group = refl })
+    (ap (λ s. s.view) c.store.ensures.seat) c.count_up.ensures (stores_freely a.place a.what a.next.step q.kind) c.store.ensures.agree

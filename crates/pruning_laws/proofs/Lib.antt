@@ -1,0 +1,5 @@
+pub mod Inlined
+pub mod Guarded
+pub mod Unrolled
+pub mod Flattened
+pub mod Marked
